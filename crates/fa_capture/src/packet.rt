@@ -1,0 +1,17 @@
+//! One recorded message.
+
+/// Which way a message went over /dev/fuse.
+#[derive(Clone, Copy, Debug, PartialEq, Eq, Hash)]
+pub enum Direction {
+    /// From the kernel to the server: a request.
+    ToServer,
+    /// From the server to the kernel: a reply or a notification.
+    FromServer,
+}
+
+/// A message as it was recorded. Its bytes are a slice of the capture.
+#[derive(Clone, Copy, Debug)]
+pub struct Packet<'a> {
+    pub direction: Direction,
+    pub bytes: &'a [u8],
+}
