@@ -1,2 +1,6 @@
 pub mod Checks
 pub mod Message
+pub mod Framing
+pub mod Reading
+pub mod Streams
+pub mod Device

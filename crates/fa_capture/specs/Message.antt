@@ -12,5 +12,6 @@ pub record Message : Type 0 where
 abbrev pub message : Packet → Message
 message p = record { direction = p.direction; bytes = p.bytes.now }
 
+-- what packets show, in their order
 abbrev pub messages : List Packet → List Message
 messages ps = map message ps

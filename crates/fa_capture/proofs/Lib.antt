@@ -1,0 +1,4 @@
+pub mod ChecksLemmas
+pub mod FramingLemmas
+pub mod ReadingLemmas
+pub mod PullLemmas
