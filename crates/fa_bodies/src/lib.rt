@@ -24,3 +24,6 @@ pub use names::MAX_NAME;
 pub use reading::{reply_body, reply_head, request};
 pub use replies::{Reply, ReplyHead};
 pub use requests::{Request, RequestBody};
+
+#[cfg(test)]
+mod tests;
