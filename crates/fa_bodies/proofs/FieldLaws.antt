@@ -1,0 +1,127 @@
+-- Fields are read as they are spelled, and bytes have one reading.
+use Rattle.std.proofs.Common.{◌≡◌, ℕ, ◌+◌, ◌^◌, ◌<◌, ◌≤◌, List, [], ◌∷◌, ◌++◌, length, get_or, take, drop, refl, sym, ap, ◌∙◌, arith, inl, inr}
+use Rattle.std.specs.Prelude.{ℤ}
+use Rattle.std.specs.Int.{w32, w64, cast_unsigned, cast_signed, from_le_bytes}
+use Rattle.std.specs.Int.RustNames.{FitsSigned}
+use Rattle.std.proofs.lemmas.Bool.{cases_lt}
+use Rattle.std.proofs.lemmas.List.{take_at, drop_at, take-append-drop, length-append, length-take, get_or-take, get_or_past}
+use Rattle.std.proofs.lemmas.Nat.{le_bytes_4, le_bytes_8, from_le_bytes-to_le_bytes_4, from_le_bytes-to_le_bytes_8}
+use Rattle.std.proofs.lemmas.Int.{to_z-of_z}
+use Rattle.std.proofs.Math.Facts.{Fits-of_z}
+use Rattle.byteorder.specs.Endian.{little_number}
+use Rattle.fa_bodies.specs.Fields.{Field, BeginsWith, le32, le64}
+use Rattle.fa_bodies.specs.Fields.Field.{U32, U64, I32, Unread}
+
+-- ---- single fields
+
+abbrev pub IsBytes : List ℕ → Type 0
+IsBytes bytes = (i : ℕ) → get_or bytes i 0 < 256
+
+IsBytes-take : (n : ℕ) (bytes : List ℕ) → IsBytes bytes → IsBytes (take n bytes)
+IsBytes-take n bytes h i =
+    elim (cases_lt i n) [
+      | inl lt ↦ rw (get_or-take n bytes i 0 lt) (h i)
+      | inr le ↦ rw (get_or_past (take n bytes) i 0 (omega (arith, length-take n bytes))) (omega arith)
+    ]
+
+pub length-le32 : (n : ℕ) → length (le32 n) ≡ 4
+unfolding le32
+length-le32 n = refl
+
+pub length-le64 : (n : ℕ) → length (le64 n) ≡ 8
+unfolding le64
+length-le64 n = refl
+
+-- the number in the first bytes is spelled by them
+pub u32_parts : (bytes : List ℕ) (n : ℕ) → IsBytes bytes → 4 ≤ length bytes → n ≡ little_number 4 (take 4 bytes) → bytes ≡ le32 n ++ drop 4 bytes
+unfolding le32
+u32_parts bytes n fits len e =
+    let size : length (take 4 bytes) ≡ 4 = omega (arith, length-take 4 bytes) in
+    let value : n ≡ from_le_bytes w32 (take 4 bytes) = omega (arith, e) in
+    let front = le_bytes_4 (take 4 bytes) n size (IsBytes-take 4 bytes fits) value in
+    sym (take-append-drop 4 bytes) ∙ ap (λ (x : List ℕ). x ++ drop 4 bytes) (sym front)
+
+pub u64_parts : (bytes : List ℕ) (n : ℕ) → IsBytes bytes → 8 ≤ length bytes → n ≡ little_number 8 (take 8 bytes) → bytes ≡ le64 n ++ drop 8 bytes
+unfolding le64
+u64_parts bytes n fits len e =
+    let size : length (take 8 bytes) ≡ 8 = omega (arith, length-take 8 bytes) in
+    let value : n ≡ from_le_bytes w64 (take 8 bytes) = omega (arith, e) in
+    let front = le_bytes_8 (take 8 bytes) n size (IsBytes-take 8 bytes fits) value in
+    sym (take-append-drop 8 bytes) ∙ ap (λ (x : List ℕ). x ++ drop 8 bytes) (sym front)
+
+-- two numbers with one spelling are one
+pub le32-one : (m n : ℕ) → m < 2 ^ 32 → n < 2 ^ 32 → le32 m ≡ le32 n → m ≡ n
+unfolding le32
+le32-one m n p q e = sym (from_le_bytes-to_le_bytes_4 m p) ∙ ap (from_le_bytes w32) e ∙ from_le_bytes-to_le_bytes_4 n q
+
+pub le64-one : (m n : ℕ) → m < 2 ^ 64 → n < 2 ^ 64 → le64 m ≡ le64 n → m ≡ n
+unfolding le64
+le64-one m n p q e = sym (from_le_bytes-to_le_bytes_8 m p) ∙ ap (from_le_bytes w64) e ∙ from_le_bytes-to_le_bytes_8 n q
+
+pub signed-one : (x y : ℤ) → FitsSigned w32 x → FitsSigned w32 y → le32 (cast_unsigned w32 x) ≡ le32 (cast_unsigned w32 y) → x ≡ y
+signed-one x y p q e =
+    let below_x = Fits-of_z {w = w32} {z = x} p in
+    let below_y = Fits-of_z {w = w32} {z = y} q in
+    let bits = le32-one (cast_unsigned w32 x) (cast_unsigned w32 y) (omega arith) (omega arith) e in
+    sym (to_z-of_z w32 x p) ∙ ap (cast_signed w32) bits ∙ to_z-of_z w32 y q
+
+-- ---- several fields
+
+-- two fronts that are as long as one another, of one list
+pub fronts-one : (x y a b : List ℕ) → length x ≡ length y → x ++ a ≡ y ++ b → (x ≡ y) × (a ≡ b)
+fronts-one x y a b len e = (
+  sym (take_at x a (length x) refl) ∙ ap (take (length x)) e ∙ take_at y b (length x) (sym len),
+  sym (drop_at x a (length x) refl) ∙ ap (drop (length x)) e ∙ drop_at y b (length x) (sym len),
+)
+
+-- the same fields, with values of their own
+abbrev pub Alike : List Field → List Field → Type 0
+Alike [] [] = Unit {0}
+Alike (U32 m ∷ fs) (U32 n ∷ gs) = Alike fs gs
+Alike (U64 m ∷ fs) (U64 n ∷ gs) = Alike fs gs
+Alike (I32 x ∷ fs) (I32 y ∷ gs) = Alike fs gs
+Alike (Unread j ∷ fs) (Unread k ∷ gs) = (j ≡ k) × Alike fs gs
+Alike _ _ = ⊥
+
+-- bytes have one reading by the same fields
+pub fields-one : (fs gs : List Field) (bytes r s : List ℕ) → Alike fs gs → BeginsWith bytes fs r → BeginsWith bytes gs s → (fs ≡ gs) × (r ≡ s)
+fields-one [] [] bytes r s alike p q = (refl, sym p ∙ q)
+fields-one (U32 m ∷ fs) (U32 n ∷ gs) bytes r s alike p q =
+    let parts = fronts-one (le32 m) (le32 n) p.1 q.1 (length-le32 m ∙ sym (length-le32 n)) (sym p.2 ∙ q.2) in
+    let value : m ≡ n = le32-one m n p.0 q.0 parts.0 in
+    let moved : BeginsWith p.1 gs s = rw parts.1 q.3 in
+    let others = fields-one fs gs p.1 r s alike p.3 moved in
+    (rw (value, others.0) refl, others.1)
+fields-one (U64 m ∷ fs) (U64 n ∷ gs) bytes r s alike p q =
+    let parts = fronts-one (le64 m) (le64 n) p.1 q.1 (length-le64 m ∙ sym (length-le64 n)) (sym p.2 ∙ q.2) in
+    let value : m ≡ n = le64-one m n p.0 q.0 parts.0 in
+    let moved : BeginsWith p.1 gs s = rw parts.1 q.3 in
+    let others = fields-one fs gs p.1 r s alike p.3 moved in
+    (rw (value, others.0) refl, others.1)
+fields-one (I32 x ∷ fs) (I32 y ∷ gs) bytes r s alike p q =
+    let parts = fronts-one (le32 (cast_unsigned w32 x)) (le32 (cast_unsigned w32 y)) p.1 q.1 (length-le32 (cast_unsigned w32 x) ∙ sym (length-le32 (cast_unsigned w32 y))) (sym p.2 ∙ q.2) in
+    let value : x ≡ y = signed-one x y p.0 q.0 parts.0 in
+    let moved : BeginsWith p.1 gs s = rw parts.1 q.3 in
+    let others = fields-one fs gs p.1 r s alike p.3 moved in
+    (rw (value, others.0) refl, others.1)
+fields-one (Unread j ∷ fs) (Unread k ∷ gs) bytes r s alike p q =
+    let parts = fronts-one p.0 q.0 p.1 q.1 (p.2 ∙ alike.0 ∙ sym q.2) (sym p.3 ∙ q.3) in
+    let moved : BeginsWith p.1 gs s = rw parts.1 q.4 in
+    let others = fields-one fs gs p.1 r s alike.1 p.4 moved in
+    (rw (alike.0, others.0) refl, others.1)
+fields-one fs gs bytes r s alike p q = absurd alike
+
+-- how many bytes fields have
+abbrev pub size : List Field → ℕ
+size [] = 0
+size (U32 n ∷ fs) = 4 + size fs
+size (U64 n ∷ fs) = 8 + size fs
+size (I32 z ∷ fs) = 4 + size fs
+size (Unread k ∷ fs) = k + size fs
+
+pub length-fields : (fs : List Field) (bytes rest : List ℕ) → BeginsWith bytes fs rest → length bytes ≡ size fs + length rest
+length-fields [] bytes rest p = rw p (omega arith)
+length-fields (U32 n ∷ fs) bytes rest p = omega (arith, ap length p.2, length-append (le32 n) p.1, length-le32 n, length-fields fs p.1 rest p.3)
+length-fields (U64 n ∷ fs) bytes rest p = omega (arith, ap length p.2, length-append (le64 n) p.1, length-le64 n, length-fields fs p.1 rest p.3)
+length-fields (I32 z ∷ fs) bytes rest p = omega (arith, ap length p.2, length-append (le32 (cast_unsigned w32 z)) p.1, length-le32 (cast_unsigned w32 z), length-fields fs p.1 rest p.3)
+length-fields (Unread k ∷ fs) bytes rest p = omega (arith, ap length p.3, length-append p.0 p.1, p.2, length-fields fs p.1 rest p.4)

@@ -1,0 +1,4 @@
+pub mod FieldLaws
+pub mod OptionLaws
+pub mod RequestLaws
+pub mod ReplyLaws

@@ -1,0 +1,82 @@
+-- What bytes are a reply, and which one.
+use Rattle.std.specs.Prelude.{◌≡◌, ◌≢◌, ℕ, ◌≤◌, ℤ, pos, negsuc, ◌≤ℤ◌, ◌⊎◌, List, [], ◌∷◌, length}
+use Rattle.fa_capture.specs.declared.codes.TheConstants.{HEADER_TOO_SHORT, LENGTH_FIELD, ERROR_VALUE, NOTIFICATION, REPLY_BODY}
+use Rattle.fa_bodies.specs.declared.entry.EntryOut.{EntryOut}
+use Rattle.fa_bodies.specs.declared.init.Negotiated.{Negotiated}
+use Rattle.fa_bodies.specs.declared.replies.ReplyHead.{ReplyHead}
+use Rattle.fa_bodies.specs.declared.replies.Reply.{Reply}
+use Rattle.fa_bodies.specs.declared.replies.Reply.TheVariants as declared
+use Rattle.fa_bodies.specs.Fields.{BeginsWith}
+use Rattle.fa_bodies.specs.Structs.{out_header, entry_out, init_out}
+use Rattle.fa_bodies.specs.Requests.{PlainBody, PlainRequest, IsLengthRight}
+use Rattle.fa_bodies.specs.Requests.PlainBody.{Lookup, Init}
+
+-- a reply, without where its bytes lie in memory
+pub data PlainReply : Type 0 where
+  Refused : (error : ℤ) → PlainReply
+  Entry : EntryOut → PlainReply
+  Agreed : Negotiated → PlainReply
+
+-- what a reply that was read shows
+abbrev pub reply_shown : Reply → PlainReply
+reply_shown (declared.Refused error) = Refused error
+reply_shown (declared.Entry e) = Entry e
+reply_shown (declared.Negotiated n) = Agreed n
+
+-- an error that a reply may have here: -999 to 0
+abbrev pub IsErrorValue : ℤ → Type 0
+IsErrorValue error = (negsuc 998 ≤ℤ error) × (error ≤ℤ pos 0)
+
+-- The bytes begin with the header of a reply: its len is the length of the whole, its error is in range, and its
+-- unique is that of a request.
+pub record IsReplyHead (bytes : List ℕ) (head : ReplyHead) : Type 0 where
+  pub body_bytes : List ℕ
+  pub header : BeginsWith bytes (out_header (length bytes) head.error head.unique) body_bytes
+  pub in_range : IsErrorValue head.error
+  pub no_notification : head.unique ≢ 0
+
+-- The bytes begin with a reply header, and its error and unique are such.
+pub record HasReplyHeader (bytes : List ℕ) (Such : ℤ → ℕ → Type 0) : Type 0 where
+  pub len : ℕ
+  pub error : ℤ
+  pub unique : ℕ
+  pub body_bytes : List ℕ
+  pub header : BeginsWith bytes (out_header len error unique) body_bytes
+  pub such : Such error unique
+
+-- The checks of a reply's header in their order, each with its code. A message from the server with unique 0 is a
+-- notification: its error field is judged as none. No notification is in the set.
+abbrev pub reply_head_checks : List ℕ → List (ℕ × Type 0)
+reply_head_checks bytes =
+    (HEADER_TOO_SHORT, 16 ≤ length bytes)
+    ∷ (LENGTH_FIELD, IsLengthRight bytes)
+    ∷ (ERROR_VALUE, HasReplyHeader bytes (λ error unique. unique ≢ 0 → IsErrorValue error))
+    ∷ (NOTIFICATION, HasReplyHeader bytes (λ error unique. unique ≢ 0))
+    ∷ []
+
+-- the answer of INIT: 24 to 64 bytes of a struct fuse_init_out
+abbrev pub IsInitOut : List ℕ → Negotiated → Type 0
+IsInitOut body n = (24 ≤ length body) × (length body ≤ 64) × (unread : List ℕ) × BeginsWith body (init_out n) unread
+
+-- The body of a success, by the request that it answers: one case an operation.
+abbrev pub IsSuccess : PlainBody → List ℕ → PlainReply → Type 0
+-- struct fuse_entry_out
+IsSuccess (Lookup name) body reply = (e : EntryOut) × (reply ≡ Entry e) × BeginsWith body (entry_out e) []
+-- struct fuse_init_out
+IsSuccess (Init i) body reply = (n : Negotiated) × (reply ≡ Agreed n) × IsInitOut body n
+
+-- What a reply with this error and body says to a request with this body: an error other than 0 stands alone.
+abbrev pub Says : PlainBody → ℤ → List ℕ → PlainReply → Type 0
+Says asked error body reply =
+    ((error ≡ pos 0) × IsSuccess asked body reply)
+    ⊎ ((error ≢ pos 0) × (reply ≡ Refused error) × (body ≡ []))
+
+-- The bytes are this reply to the request: a header with the unique of the request, and what it says.
+pub record IsReply (asked : PlainRequest) (bytes : List ℕ) (reply : PlainReply) : Type 0 where
+  pub error : ℤ
+  pub head : IsReplyHead bytes (record { unique = asked.unique; error = error })
+  pub body : Says asked.body error head.body_bytes reply
+
+-- The check of a reply whose header was read, with its code.
+abbrev pub reply_checks : PlainRequest → List ℕ → List (ℕ × Type 0)
+reply_checks asked bytes = (REPLY_BODY, (reply : PlainReply) × IsReply asked bytes reply) ∷ []
