@@ -7,7 +7,8 @@ use Rattle.fa_bodies.specs.Replies.{PlainReply, IsReplyHead, IsReply, reply_head
 
 -- Bytes are at most one request.
 abbrev pub RequestIsOne : Type 0
-RequestIsOne = (bytes : List ℕ) (a b : PlainRequest) → IsRequest bytes a → IsRequest bytes b → a ≡ b
+RequestIsOne =
+    (bytes : List ℕ) (a b : PlainRequest) → IsRequest bytes a → IsRequest bytes b → a ≡ b
 
 -- Bytes are a request exactly where all checks hold.
 abbrev pub RequestPassesChecks : Type 0
@@ -22,9 +23,11 @@ ReplyHeadIsOne =
 -- Bytes begin with the head of a reply exactly where all checks hold.
 abbrev pub ReplyHeadPassesChecks : Type 0
 ReplyHeadPassesChecks =
-    (bytes : List ℕ) → AllHold (reply_head_checks bytes) ↔ ((head : ReplyHead) × IsReplyHead bytes head)
+    (bytes : List ℕ)
+    → AllHold (reply_head_checks bytes) ↔ ((head : ReplyHead) × IsReplyHead bytes head)
 
 -- Bytes are at most one reply to a request.
 abbrev pub ReplyIsOne : Type 0
 ReplyIsOne =
-    (asked : PlainRequest) (bytes : List ℕ) (a b : PlainReply) → IsReply asked bytes a → IsReply asked bytes b → a ≡ b
+    (asked : PlainRequest) (bytes : List ℕ) (a b : PlainReply)
+    → IsReply asked bytes a → IsReply asked bytes b → a ≡ b

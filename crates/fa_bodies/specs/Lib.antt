@@ -1,5 +1,6 @@
 pub use Rattle.fa_capture.specs.Checks
 pub use Rattle.fa_capture.specs.Message
+pub mod Flags
 pub mod Fields
 pub mod Structs
 pub mod Names

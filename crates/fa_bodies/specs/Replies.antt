@@ -27,8 +27,8 @@ reply_shown (declared.Negotiated n) = Agreed n
 abbrev pub IsErrorValue : ℤ → Type 0
 IsErrorValue error = (negsuc 998 ≤ℤ error) × (error ≤ℤ pos 0)
 
--- The bytes begin with the header of a reply: its len is the length of the whole, its error is in range, and its
--- unique is that of a request.
+-- The bytes begin with this head of a reply: the header's len is the length of the whole, its error
+-- is in range, and its unique is that of a request.
 pub record IsReplyHead (bytes : List ℕ) (head : ReplyHead) : Type 0 where
   pub body_bytes : List ℕ
   pub header : BeginsWith bytes (out_header (length bytes) head.error head.unique) body_bytes
@@ -44,8 +44,9 @@ pub record HasReplyHeader (bytes : List ℕ) (Such : ℤ → ℕ → Type 0) : T
   pub header : BeginsWith bytes (out_header len error unique) body_bytes
   pub such : Such error unique
 
--- The checks of a reply's header in their order, each with its code. A message from the server with unique 0 is a
--- notification: its error field is judged as none. No notification is in the set.
+-- The checks of a reply's head in their order, each with its code. A message from the server with
+-- unique 0 is a notification, whose error field is no error. No notification is in the set. All of
+-- the checks hold exactly where the bytes begin with the head of a reply.
 abbrev pub reply_head_checks : List ℕ → List (ℕ × Type 0)
 reply_head_checks bytes =
     (HEADER_TOO_SHORT, 16 ≤ length bytes)
@@ -56,22 +57,26 @@ reply_head_checks bytes =
 
 -- the answer of INIT: 24 to 64 bytes of a struct fuse_init_out
 abbrev pub IsInitOut : List ℕ → Negotiated → Type 0
-IsInitOut body n = (24 ≤ length body) × (length body ≤ 64) × (unread : List ℕ) × BeginsWith body (init_out n) unread
+IsInitOut body n =
+    (24 ≤ length body) × (length body ≤ 64)
+    × (unread : List ℕ) × BeginsWith body (init_out n) unread
 
 -- The body of a success, by the request that it answers: one case an operation.
 abbrev pub IsSuccess : PlainBody → List ℕ → PlainReply → Type 0
 -- struct fuse_entry_out
-IsSuccess (Lookup name) body reply = (e : EntryOut) × (reply ≡ Entry e) × BeginsWith body (entry_out e) []
+IsSuccess (Lookup name) body reply =
+    (e : EntryOut) × (reply ≡ Entry e) × BeginsWith body (entry_out e) []
 -- struct fuse_init_out
 IsSuccess (Init i) body reply = (n : Negotiated) × (reply ≡ Agreed n) × IsInitOut body n
 
--- What a reply with this error and body says to a request with this body: an error other than 0 stands alone.
+-- What a reply with this error and body says to a request with this body: an error other than 0
+-- has no body.
 abbrev pub Says : PlainBody → ℤ → List ℕ → PlainReply → Type 0
 Says asked error body reply =
     ((error ≡ pos 0) × IsSuccess asked body reply)
     ⊎ ((error ≢ pos 0) × (reply ≡ Refused error) × (body ≡ []))
 
--- The bytes are this reply to the request: a header with the unique of the request, and what it says.
+-- The bytes are this reply to the request: a head with the unique of the request, and what it says.
 pub record IsReply (asked : PlainRequest) (bytes : List ℕ) (reply : PlainReply) : Type 0 where
   pub error : ℤ
   pub head : IsReplyHead bytes (record { unique = asked.unique; error = error })

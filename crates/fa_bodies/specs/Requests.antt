@@ -30,7 +30,8 @@ body_shown (declared.Init i) = Init i
 
 -- what a request that was read shows
 abbrev pub request_shown : Request → PlainRequest
-request_shown r = record { unique = r.unique; node = r.node; opcode = r.opcode; body = body_shown r.body }
+request_shown r =
+    record { unique = r.unique; node = r.node; opcode = r.opcode; body = body_shown r.body }
 
 -- an operation of the set
 abbrev pub IsOperation : ℕ → Type 0
@@ -41,9 +42,11 @@ abbrev pub IsRequestBody : ℕ → List ℕ → PlainBody → Type 0
 -- a name
 IsRequestBody opcode body (Lookup name) = (opcode ≡ LOOKUP) × IsNameBody body name
 -- struct fuse_init_in, and behind it whatever newer minors append
-IsRequestBody opcode body (Init i) = (opcode ≡ INIT) × (rest : List ℕ) × BeginsWith body (init_in i) rest
+IsRequestBody opcode body (Init i) =
+    (opcode ≡ INIT) × (newer : List ℕ) × BeginsWith body (init_in i) newer
 
--- The bytes are this request: a header whose len is the length of the whole, and the body of its opcode.
+-- The bytes are this request: a header whose len is the length of the whole, and a body of its
+-- operation.
 pub record IsRequest (bytes : List ℕ) (r : PlainRequest) : Type 0 where
   pub body_bytes : List ℕ
   pub header : BeginsWith bytes (in_header (length bytes) r.opcode r.unique r.node) body_bytes
@@ -67,7 +70,8 @@ pub record HasRequestHeader (bytes : List ℕ) (Such : ℕ → List ℕ → Type
 abbrev pub HasBody : ℕ → List ℕ → Type 0
 HasBody opcode body = (b : PlainBody) × IsRequestBody opcode body b
 
--- The checks of every message in their order, each with its code: its header fits, and its length is right.
+-- The checks of every message in their order, each with its code: it has room for its header, and
+-- its length is right.
 abbrev pub length_checks : (header : ℕ) → List ℕ → List (ℕ × Type 0)
 length_checks header bytes =
     (HEADER_TOO_SHORT, header ≤ length bytes)
@@ -81,7 +85,8 @@ body_checks opcode body =
     ∷ (REQUEST_BODY, HasBody opcode body)
     ∷ []
 
--- The checks of a request in their order, each with its code. All of them hold exactly where the bytes are a request.
+-- The checks of a request in their order, each with its code. All of them hold exactly where the
+-- bytes are a request.
 abbrev pub request_checks : List ℕ → List (ℕ × Type 0)
 request_checks bytes =
     (HEADER_TOO_SHORT, 40 ≤ length bytes)

@@ -4,6 +4,7 @@ use Rattle.fa_bodies.specs.declared.entry.Attributes.{Attributes}
 use Rattle.fa_bodies.specs.declared.entry.EntryOut.{EntryOut}
 use Rattle.fa_bodies.specs.declared.init.InitIn.{InitIn}
 use Rattle.fa_bodies.specs.declared.init.Negotiated.{Negotiated}
+use Rattle.fa_bodies.specs.Flags.{init_bits}
 use Rattle.fa_bodies.specs.Fields.{Field}
 use Rattle.fa_bodies.specs.Fields.Field.{U32, U64, I32, Unread}
 
@@ -17,11 +18,11 @@ out_header len error unique = U32 len ∷ I32 error ∷ U64 unique ∷ []
 
 -- struct fuse_init_in, 16 bytes
 abbrev pub init_in : InitIn → List Field
-init_in i = U32 i.major ∷ U32 i.minor ∷ U32 i.max_readahead ∷ U32 i.flags.0 ∷ []
+init_in i = U32 i.major ∷ U32 i.minor ∷ U32 i.max_readahead ∷ U32 (init_bits i.flags) ∷ []
 
 -- struct fuse_init_out, the first 16 of its 64 bytes
 abbrev pub init_out : Negotiated → List Field
-init_out n = U32 n.major ∷ U32 n.minor ∷ U32 n.max_readahead ∷ U32 n.flags.0 ∷ []
+init_out n = U32 n.major ∷ U32 n.minor ∷ U32 n.max_readahead ∷ U32 (init_bits n.flags) ∷ []
 
 -- struct fuse_attr, 88 bytes: the padding is not read
 abbrev pub attr : Attributes → List Field

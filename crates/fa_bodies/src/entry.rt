@@ -9,7 +9,8 @@ use crate::fields::{u32_at, u64_at};
 /// The bytes of a `struct fuse_entry_out`.
 const ENTRY_OUT: usize = 128;
 
-/// Attributes of a file (`struct fuse_attr`). Times are seconds and nanoseconds, `blocks` counts 512 bytes.
+/// Attributes of a file (`struct fuse_attr`). Times are seconds and nanoseconds, `size` counts
+/// bytes, and `blocks` counts 512 of them.
 #[derive(Clone, Copy, Debug, Default)]
 pub struct Attributes {
     pub ino: u64,
@@ -29,8 +30,9 @@ pub struct Attributes {
     pub blksize: u32,
 }
 
-/// A file as a reply gives it (`struct fuse_entry_out`): its node id, how long the entry and the attributes
-/// stay valid, in seconds and nanoseconds, and the attributes.
+/// A file as a reply gives it for a name (`struct fuse_entry_out`): its node id, which is 0 where
+/// the name is not there, how long the name and the attributes stay valid, in seconds and
+/// nanoseconds, and the attributes.
 #[derive(Clone, Copy, Debug, Default)]
 pub struct EntryOut {
     pub nodeid: u64,

@@ -1,10 +1,11 @@
 //! The flag words of messages.
 
-ghost use Rattle.std.specs.Prelude.{⊤, [], ◌∷◌, codes};
+ghost use Rattle.std.specs.Prelude.{⊤, ◌^◌, [], ◌∷◌, codes};
 
 use bitflags::{Flag, Flags, bitflag_items};
 
-/// The flags of INIT (`flags` of `struct fuse_init_in` and `struct fuse_init_out`). Bits without a name are kept.
+/// The flags of INIT (`flags` of `struct fuse_init_in` and `struct fuse_init_out`). Bits without a
+/// name are kept.
 #[derive(Clone, Copy, Debug, PartialEq, Eq)]
 pub struct InitFlags(u32);
 
@@ -24,7 +25,7 @@ impl Flags for InitFlags {
 
     ghost exact = { ⊤ };
 
-    ghost table = { (codes "ATOMIC_O_TRUNC", 8) ∷ (codes "WRITEBACK_CACHE", 65536) ∷ (codes "POSIX_ACL", 1048576) ∷ [] };
+    ghost table = { (codes "ATOMIC_O_TRUNC", 2 ^ 3) ∷ (codes "WRITEBACK_CACHE", 2 ^ 16) ∷ (codes "POSIX_ACL", 2 ^ 20) ∷ [] };
 
     ghost set_of = { λ f. f.0 };
 

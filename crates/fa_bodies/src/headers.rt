@@ -31,7 +31,8 @@ pub(crate) struct OutHeader {
     pub unique: u64,
 }
 
-/// Looks whether a message has room for a header of this size, and is as long as its first field says.
+/// Looks whether a message has room for a header of this size, and is as long as its first field
+/// says.
 pub(crate) fn check_length(bytes: &[u8], header: usize) -> Result<(), u16>
     requires { 4 ≤ header }
     ensures ok { OnOk result (AllHold (length_checks header bytes.now)) }
@@ -50,7 +51,8 @@ pub(crate) fn check_length(bytes: &[u8], header: usize) -> Result<(), u16>
 /// The header of a request at the front of bytes, and the body behind it.
 pub(crate) fn in_header_at(bytes: &[u8]) -> (InHeader, &[u8])
     requires { 40 ≤ length bytes.now }
-    ensures { let h = result.0 in BeginsWith bytes.now (in_header h.len h.opcode h.unique h.nodeid) result.1.now }
+    ensures { let h = result.0 in
+        BeginsWith bytes.now (in_header h.len h.opcode h.unique h.nodeid) result.1.now }
 {
     let (len, rest) = u32_at(bytes);
     let (opcode, rest) = u32_at(rest);
@@ -69,7 +71,8 @@ pub(crate) fn in_header_at(bytes: &[u8]) -> (InHeader, &[u8])
 /// The header of a reply at the front of bytes, and the body behind it.
 pub(crate) fn out_header_at(bytes: &[u8]) -> (OutHeader, &[u8])
     requires { 16 ≤ length bytes.now }
-    ensures { let h = result.0 in BeginsWith bytes.now (out_header h.len h.error h.unique) result.1.now }
+    ensures { let h = result.0 in
+        BeginsWith bytes.now (out_header h.len h.error h.unique) result.1.now }
 {
     let (len, rest) = u32_at(bytes);
     let (error, rest) = i32_at(rest);

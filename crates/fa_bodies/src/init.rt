@@ -16,8 +16,8 @@ const LEAST_INIT_OUT: usize = 24;
 /// The bytes of a `struct fuse_init_out` of minor 31.
 const MOST_INIT_OUT: usize = 64;
 
-/// What the kernel asks for (`struct fuse_init_in`): its version, the bytes that it reads ahead at most, and
-/// the flags that it knows.
+/// What the kernel asks for (`struct fuse_init_in`): its version, the bytes that it reads ahead at
+/// most, and the flags that it knows.
 #[derive(Clone, Copy, Debug)]
 pub struct InitIn {
     pub major: u32,
@@ -26,7 +26,8 @@ pub struct InitIn {
     pub flags: InitFlags,
 }
 
-/// What the server agrees to (the first fields of `struct fuse_init_out`).
+/// What the server agrees to (the first fields of `struct fuse_init_out`): its version, the bytes
+/// to read ahead at most, and the flags.
 #[derive(Clone, Copy, Debug)]
 pub struct Negotiated {
     pub major: u32,
@@ -74,7 +75,8 @@ pub(crate) fn negotiated_at(bytes: &[u8]) -> (Negotiated, &[u8])
 /// What INIT asks for, by its whole body. Bytes of newer minors may follow.
 pub(crate) fn init_body(body: &[u8]) -> Option<InitIn>
     ensures found { IfSome result (λ i. (newer : List ℕ) × BeginsWith body.now (init_in i) newer) }
-    ensures none { IfNone result ((i : InitIn) (newer : List ℕ) → BeginsWith body.now (init_in i) newer → ⊥) }
+    ensures none { IfNone result
+        ((i : InitIn) (newer : List ℕ) → BeginsWith body.now (init_in i) newer → ⊥) }
 {
     if body.len() < INIT_IN {
         return None;

@@ -1,7 +1,8 @@
 //! Messages of /dev/fuse: from the bytes of a packet to requests and replies.
 //!
-//! The structs and numbers are those of `fuse.h` at protocol 7.31, little-endian. No call takes memory: each
-//! name is a slice of the message that it was read from. The readers do not look at a packet's direction.
+//! The structs and numbers are those of `fuse.h` at protocol 7.31, little-endian. No reader takes
+//! memory: each name is a slice of the message that it was read from. The readers do not look at a
+//! packet's direction.
 #![tactic(auto)]
 
 mod entry;

@@ -6,7 +6,8 @@ ghost use Rattle.fa_bodies.specs.Names.{IsName, IsNameBody};
 /// The most bytes that a name may have.
 pub const MAX_NAME: usize = 1024;
 
-/// Whether bytes are a name of this profile: 1 to 1,024 bytes without zero byte and slash, neither `.` nor `..`.
+/// Whether bytes are a name of this profile: 1 to 1,024 bytes without zero byte and slash, neither
+/// `.` nor `..`.
 fn is_name(bytes: &[u8]) -> bool
     ensures { IsTrue result ↔ IsName bytes.now }
 {

@@ -19,12 +19,15 @@ const LEAST_ERROR: i32 = -999;
 
 /// The request that a message is.
 ///
-/// The message has the header `struct fuse_in_header` of `fuse.h` (40 bytes) and the body of its operation. INIT has
-/// `struct fuse_init_in` (16 bytes) and any bytes behind it, LOOKUP a name and one zero byte.
+/// The message has the header `struct fuse_in_header` of `fuse.h` (40 bytes) and the body of its
+/// operation. INIT has `struct fuse_init_in` (16 bytes) and any bytes behind it, LOOKUP a name and
+/// one zero byte. A name has 1 to 1,024 bytes without zero byte and slash, and is neither `.` nor
+/// `..`.
 ///
-/// Errors are codes of [`fa_capture::codes`], the first that applies: `HEADER_TOO_SHORT` for fewer than 40 bytes,
-/// `LENGTH_FIELD` where the header's length is not that of the message, `OPERATION` for an opcode other than LOOKUP
-/// and INIT, `REQUEST_BODY` for a body that its operation does not have.
+/// Errors are codes of [`fa_capture::codes`], the first that applies: `HEADER_TOO_SHORT` for fewer
+/// than 40 bytes, `LENGTH_FIELD` where the header's length is not that of the message, `OPERATION`
+/// for an opcode other than LOOKUP and INIT, `REQUEST_BODY` for a body that its operation does not
+/// have.
 ///
 /// Takes no memory. The time is constant but for the bytes of a name.
 pub fn request<'a>(p: &Packet<'a>) -> Result<Request<'a>, u16>
@@ -73,12 +76,13 @@ fn init(body: &[u8]) -> Option<RequestBody<'_>>
 
 /// The head of a reply.
 ///
-/// The message has the header `struct fuse_out_header` of `fuse.h` (16 bytes): its length, an error from -999 to 0,
-/// and the unique of a request.
+/// The message has the header `struct fuse_out_header` of `fuse.h` (16 bytes): its length, an error
+/// from -999 to 0, and the unique of a request.
 ///
-/// Errors are codes of [`fa_capture::codes`], the first that applies: `HEADER_TOO_SHORT` for fewer than 16 bytes,
-/// `LENGTH_FIELD` where the header's length is not that of the message, `ERROR_VALUE` for an error that is above 0 or
-/// below -999 in a message with a unique other than 0, `NOTIFICATION` for unique 0.
+/// Errors are codes of [`fa_capture::codes`], the first that applies: `HEADER_TOO_SHORT` for fewer
+/// than 16 bytes, `LENGTH_FIELD` where the header's length is not that of the message,
+/// `ERROR_VALUE` for an error that is above 0 or below -999 in a message with a unique other than
+/// 0, `NOTIFICATION` for unique 0.
 ///
 /// Takes no memory, in constant time. The body is not looked at.
 pub fn reply_head(p: &Packet<'_>) -> Result<ReplyHead, u16>
@@ -108,26 +112,32 @@ fn is_error_value(error: i32) -> bool
 
 /// What a reply says to the request that it answers.
 ///
-/// A reply with an error other than 0 is the header alone. A success has the body of the request's operation: LOOKUP
-/// `struct fuse_entry_out` of `fuse.h` (128 bytes), INIT the first 24 to 64 bytes of `struct fuse_init_out`.
+/// A reply with an error other than 0 is the header alone. A success has the body of the request's
+/// operation: LOOKUP `struct fuse_entry_out` of `fuse.h` (128 bytes), INIT the first 24 to 64 bytes
+/// of `struct fuse_init_out`.
 ///
-/// The one error is the code `REPLY_BODY` of [`fa_capture::codes`], for any other body. The caller has read the head,
-/// and its unique is that of the request.
+/// The one error is the code `REPLY_BODY` of [`fa_capture::codes`], for any other body. The caller
+/// has read the head by [`reply_head`], and its unique is that of the request.
 ///
 /// Takes no memory, in constant time.
 pub fn reply_body(asked: &Request<'_>, p: &Packet<'_>) -> Result<Reply, u16>
-    requires { (error : ℤ) × IsReplyHead p.now.bytes.now (record { unique = asked.now.unique; error = error }) }
-    ensures found { IfOk result (λ reply. IsReply (request_shown asked.now) p.now.bytes.now (reply_shown reply)) }
-    ensures fault { IfErr result (λ code. FirstFailure (reply_checks (request_shown asked.now) p.now.bytes.now) code) }
+    requires { (error : ℤ)
+        × IsReplyHead p.now.bytes.now (record { unique = asked.now.unique; error = error }) }
+    ensures found { IfOk result
+        (λ reply. IsReply (request_shown asked.now) p.now.bytes.now (reply_shown reply)) }
+    ensures fault { IfErr result
+        (λ code. FirstFailure (reply_checks (request_shown asked.now) p.now.bytes.now) code) }
 {
     let (header, body) = out_header_at(p.bytes);
     said(&asked.body, header.error, body).ok_or(codes::REPLY_BODY)
 }
 
-/// What a reply with this error and body says to a request. An error other than 0 has no body.
+/// What a reply with this error and body says to a request.
 fn said(asked: &RequestBody<'_>, error: i32, body: &[u8]) -> Option<Reply>
-    ensures found { IfSome result (λ reply. Says (body_shown asked.now) error body.now (reply_shown reply)) }
-    ensures none { IfNone result ((reply : PlainReply) → Says (body_shown asked.now) error body.now reply → ⊥) }
+    ensures found { IfSome result
+        (λ reply. Says (body_shown asked.now) error body.now (reply_shown reply)) }
+    ensures none { IfNone result
+        ((reply : PlainReply) → Says (body_shown asked.now) error body.now reply → ⊥) }
 {
     if error == 0 {
         success(asked, body)
@@ -140,8 +150,10 @@ fn said(asked: &RequestBody<'_>, error: i32, body: &[u8]) -> Option<Reply>
 
 /// What the body of a success says to a request.
 fn success(asked: &RequestBody<'_>, body: &[u8]) -> Option<Reply>
-    ensures found { IfSome result (λ reply. IsSuccess (body_shown asked.now) body.now (reply_shown reply)) }
-    ensures none { IfNone result ((reply : PlainReply) → IsSuccess (body_shown asked.now) body.now reply → ⊥) }
+    ensures found { IfSome result
+        (λ reply. IsSuccess (body_shown asked.now) body.now (reply_shown reply)) }
+    ensures none { IfNone result
+        ((reply : PlainReply) → IsSuccess (body_shown asked.now) body.now reply → ⊥) }
 {
     match asked {
         RequestBody::Lookup { .. } => Some(Reply::Entry(entry_body(body)?)),

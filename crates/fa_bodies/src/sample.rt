@@ -1,8 +1,9 @@
 //! Captures for tests, from short calls. No part of the product rests on this module.
 //!
-//! Each call of a [`Sample`] adds one message. Whatever a call does not name is 0, but for these: the lengths of
-//! records and headers are those of what is written, INIT has version 7.31 in both messages, and its answer has 64
-//! bytes of body. The capture of one LOOKUP that is refused with ENOENT, 222 bytes:
+//! Each call of a [`Sample`] adds one message. Whatever a call does not name is 0, but for these:
+//! the lengths of records and headers are those of what is written, INIT has version 7.31 in both
+//! messages, and its answer has 64 bytes of body. The capture of one LOOKUP that is refused with
+//! ENOENT, 222 bytes:
 //!
 //! ```
 //! let bytes = Sample::new(alloc)?

@@ -116,18 +116,23 @@ fn sample_spells_the_first_capture(rt: HostRuntime) -> Result<(), Fail> {
 fn first_capture(rt: HostRuntime) -> Result<(), Fail> {
     let init = request(&to_server(&FIRST_CAPTURE[13..69]))?;
     assert_eq!(rt; (init.unique, init.node, init.opcode), (2, 0, 26));
-    assert!(rt;
-        matches!(
-            init.body,
-            RequestBody::Init(InitIn { major: 7, minor: 31, max_readahead: 0, flags }) if flags.bits() == 0
-        )
-    );
-    assert!(rt;
-        matches!(
-            reply(&rt, &init, &FIRST_CAPTURE[74..154])?,
-            Reply::Negotiated(Negotiated { major: 7, minor: 31, max_readahead: 0, flags }) if flags.bits() == 0
-        )
-    );
+    match init.body {
+        RequestBody::Init(asked) => {
+            assert_eq!(rt; (asked.major, asked.minor, asked.max_readahead), (7, 31, 0));
+            assert!(rt; asked.flags.is_empty());
+        }
+        RequestBody::Lookup { .. } => assert!(rt; false, "an INIT"),
+    }
+    match reply(&rt, &init, &FIRST_CAPTURE[74..154])? {
+        Reply::Negotiated(agreed) => {
+            assert_eq!(rt;
+                (agreed.major, agreed.minor, agreed.max_readahead),
+                (7, 31, 0)
+            );
+            assert!(rt; agreed.flags.is_empty());
+        }
+        _ => assert!(rt; false, "an answer of INIT"),
+    }
     let lookup = request(&to_server(&FIRST_CAPTURE[159..201]))?;
     assert_eq!(rt; (lookup.unique, lookup.node, lookup.opcode), (4, 1, 1));
     assert!(rt; matches!(lookup.body, RequestBody::Lookup { name: b"a" }));
@@ -323,5 +328,25 @@ fn flags(rt: HostRuntime) -> Result<(), Fail> {
         }
         RequestBody::Lookup { .. } => assert!(rt; false, "an INIT"),
     }
+    Ok(())
+}
+
+#[test]
+fn sample_entry(rt: HostRuntime) -> Result<(), Fail> {
+    let capture = Sample::new(rt.alloc())?
+        .entry(4, 2, sample::DIR | 0o755, 5, 1)?
+        .ok(6)?
+        .raw(Direction::FromServer, b"x")?
+        .capture();
+    assert_eq!(rt; capture.len(), 8 + (5 + 144) + (5 + 16) + (5 + 1));
+    match reply(&rt, &asked_lookup(), &capture[13..157])? {
+        Reply::Entry(e) => {
+            assert_eq!(rt; e.nodeid, 2);
+            assert_eq!(rt; (e.attr.mode, e.attr.size, e.attr.nlink), (0o040755, 5, 1));
+        }
+        _ => assert!(rt; false, "an entry"),
+    }
+    assert_eq!(rt; reply_head(&from_server(&capture[162..178]))?.unique, 6);
+    assert_eq!(rt; &capture[178..], [1, 1, 0, 0, 0, b'x'].as_slice());
     Ok(())
 }
