@@ -1,18 +1,19 @@
 -- The checks of a reply, and that bytes are at most one.
-use Rattle.std.proofs.Common.{◌≡◌, ◌≢◌, ℕ, ◌≤◌, List, [], ◌∷◌, length, refl, sym, ap, subst, ◌∙◌, arith, inl, inr}
-use Rattle.std.specs.Prelude.{ℤ, pos, ◌↔◌}
+use Rattle.std.proofs.Common.{◌≡◌, ◌≢◌, ℕ, ◌≤◌, List, [], ◌∷◌, length, refl, sym, ap, subst, Result, Ok, Err, ◌∙◌, arith, inl, inr}
+use Rattle.std.specs.Prelude.{ℤ, pos, ◌↔◌, IfOk}
 use Rattle.fa_capture.specs.Checks.{FirstFailure, AllHold}
 use Rattle.fa_capture.specs.declared.codes.TheConstants.{ERROR_VALUE, NOTIFICATION}
 use Rattle.fa_bodies.specs.declared.entry.Attributes.{Attributes}
 use Rattle.fa_bodies.specs.declared.entry.EntryOut.{EntryOut}
 use Rattle.fa_bodies.specs.declared.init.Negotiated.{Negotiated}
 use Rattle.fa_bodies.specs.declared.replies.ReplyHead.{ReplyHead}
+use Rattle.fa_bodies.specs.declared.replies.Reply.{Reply}
 use Rattle.fa_bodies.specs.Fields.{Field, BeginsWith}
 use Rattle.fa_bodies.specs.Fields.Field.{U64, I32}
 use Rattle.fa_bodies.specs.Structs.{out_header, attr, entry_out, init_out}
 use Rattle.fa_bodies.specs.Requests.{PlainBody, PlainRequest, IsLengthRight, length_checks}
 use Rattle.fa_bodies.specs.Requests.PlainBody.{Lookup, Init}
-use Rattle.fa_bodies.specs.Replies.{PlainReply, IsErrorValue, IsReplyHead, HasReplyHeader, reply_head_checks, IsInitOut, IsSuccess, Says, IsReply}
+use Rattle.fa_bodies.specs.Replies.{PlainReply, IsErrorValue, IsReplyHead, HasReplyHeader, reply_head_checks, IsInitOut, IsSuccess, Says, IsReply, reply_shown}
 use Rattle.fa_bodies.specs.Replies.PlainReply.{Entry, Agreed}
 use Rattle.fa_bodies.proofs.FieldLaws.{fields-one, length-fields}
 use Rattle.fa_bodies.proofs.RequestLaws.{len_right, right_by_len}
@@ -204,3 +205,8 @@ says-one asked error body a b p q =
 pub reply-one : (asked : PlainRequest) (bytes : List ℕ) (a b : PlainReply) → IsReply asked bytes a → IsReply asked bytes b → a ≡ b
 reply-one asked bytes a b p q =
     says-one asked.body p.error p.head.body_bytes a b p.body (reply_says asked bytes (length bytes) p.error asked.unique p.head.body_bytes b p.head.header q)
+
+-- what was found is all that there is
+pub only_reply : (asked : PlainRequest) (bytes : List ℕ) (read : Result Reply ℕ) → IfOk read (λ reply. IsReply asked bytes (reply_shown reply)) → IfOk read (λ reply. (other : PlainReply) → IsReply asked bytes other → other ≡ reply_shown reply)
+only_reply asked bytes (Ok reply) found = λ other is. reply-one asked bytes other (reply_shown reply) is found
+only_reply asked bytes (Err code) found = tt

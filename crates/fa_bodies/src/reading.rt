@@ -1,8 +1,8 @@
 //! The readers of whole messages.
 
-ghost use Rattle.std.specs.Prelude.{◌↔◌, ℤ, IsTrue, IfOk, IfErr, IfSome, IfNone};
-ghost use Rattle.fa_capture.specs.Checks.{FirstFailure};
-ghost use Rattle.fa_bodies.specs.Requests.{PlainBody, IsRequest, IsRequestBody, body_shown, request_shown, body_checks, request_checks};
+ghost use Rattle.std.specs.Prelude.{◌≡◌, ◌↔◌, ℤ, IsTrue, IfOk, IfErr, OnOk, IfSome, IfNone};
+ghost use Rattle.fa_capture.specs.Checks.{AllHold, FirstFailure};
+ghost use Rattle.fa_bodies.specs.Requests.{PlainBody, PlainRequest, IsRequest, IsRequestBody, body_shown, request_shown, body_checks, request_checks};
 ghost use Rattle.fa_bodies.specs.Replies.{PlainReply, IsErrorValue, IsReplyHead, IsReply, IsSuccess, Says, reply_shown, reply_head_checks, reply_checks};
 
 use crate::entry::entry_body;
@@ -32,7 +32,10 @@ const LEAST_ERROR: i32 = -999;
 /// Takes no memory. The time is constant but for the bytes of a name.
 pub fn request<'a>(p: &Packet<'a>) -> Result<Request<'a>, u16>
     ensures found { IfOk result (λ r. IsRequest p.now.bytes.now (request_shown r)) }
-    ensures fault { IfErr result (λ code. FirstFailure (request_checks p.now.bytes.now) code) }
+    ensures only { IfOk result
+        (λ r. (other : PlainRequest) → IsRequest p.now.bytes.now other → other ≡ request_shown r) }
+    ensures passes { OnOk result (AllHold (request_checks p.now.bytes.now)) }
+    ensures fault { IfErr result (FirstFailure (request_checks p.now.bytes.now)) }
 {
     check_length(p.bytes, IN_HEADER)?;
     let (header, body) = in_header_at(p.bytes);
@@ -86,8 +89,11 @@ fn init(body: &[u8]) -> Option<RequestBody<'_>>
 ///
 /// Takes no memory, in constant time. The body is not looked at.
 pub fn reply_head(p: &Packet<'_>) -> Result<ReplyHead, u16>
-    ensures found { IfOk result (λ head. IsReplyHead p.now.bytes.now head) }
-    ensures fault { IfErr result (λ code. FirstFailure (reply_head_checks p.now.bytes.now) code) }
+    ensures found { IfOk result (IsReplyHead p.now.bytes.now) }
+    ensures only { IfOk result
+        (λ head. (other : ReplyHead) → IsReplyHead p.now.bytes.now other → other ≡ head) }
+    ensures passes { OnOk result (AllHold (reply_head_checks p.now.bytes.now)) }
+    ensures fault { IfErr result (FirstFailure (reply_head_checks p.now.bytes.now)) }
 {
     check_length(p.bytes, OUT_HEADER)?;
     let (header, _body) = out_header_at(p.bytes);
@@ -125,8 +131,9 @@ pub fn reply_body(asked: &Request<'_>, p: &Packet<'_>) -> Result<Reply, u16>
         × IsReplyHead p.now.bytes.now (record { unique = asked.now.unique; error = error }) }
     ensures found { IfOk result
         (λ reply. IsReply (request_shown asked.now) p.now.bytes.now (reply_shown reply)) }
-    ensures fault { IfErr result
-        (λ code. FirstFailure (reply_checks (request_shown asked.now) p.now.bytes.now) code) }
+    ensures only { IfOk result
+        (λ reply. (other : PlainReply) → IsReply (request_shown asked.now) p.now.bytes.now other → other ≡ reply_shown reply) }
+    ensures fault { IfErr result (FirstFailure (reply_checks (request_shown asked.now) p.now.bytes.now)) }
 {
     let (header, body) = out_header_at(p.bytes);
     said(&asked.body, header.error, body).ok_or(codes::REPLY_BODY)

@@ -9,7 +9,7 @@ use Rattle.fa_bodies.specs.Requests.{request_shown}
 use Rattle.fa_bodies.specs.Replies.{PlainReply, Says, IsReply, reply_shown, reply_checks}
 use Rattle.fa_bodies.proofs.FieldLaws.{length-fields}
 use Rattle.fa_bodies.proofs.OptionLaws.{ok_or_value, ok_or_error}
-use Rattle.fa_bodies.proofs.ReplyLaws.{reply_found, reply_says}
+use Rattle.fa_bodies.proofs.ReplyLaws.{reply_found, reply_says, only_reply}
 use Rattle.fa_bodies.proofs.reading.reply_body.Goals as goal
 
 pub out_header_at-requires : goal.out_header_at-requires
@@ -40,3 +40,9 @@ returns-clause-fault c =
     ((reply : PlainReply) → Says asked.body h.error body reply → ⊥) (λ (code : ℕ). FirstFailure (reply_checks asked bytes) code)
     (λ none. inl ((λ found. none found.0 (reply_says asked bytes h.len h.error h.unique body found.0 c.out_header_at.ensures found.1)), refl))
     (rw exact at c.said.ensures.none))
+
+pub returns-clause-only : goal.returns-clause-only
+returns-clause-only c =
+    let bytes = c.args.p.now.bytes.now in
+    let asked = request_shown c.args.asked.now in
+    only_reply asked bytes c.ok_or.result (returns-clause-found c)
