@@ -1,0 +1,4 @@
+pub mod ChecksLemmas
+pub mod SessionLemmas
+pub mod GrowthLemmas
+pub mod MessageLemmas

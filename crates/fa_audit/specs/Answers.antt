@@ -1,0 +1,50 @@
+-- Which request a reply answers, and which requests still wait for one. What is said of a message depends on it and
+-- on the messages before it alone.
+use Rattle.std.specs.Prelude.{◌≡◌, ℕ, ◌<◌, ◌⊎◌, List, slice_get, take, Some}
+use Rattle.fa_capture.specs.declared.packet.Direction.TheVariants.{ToServer, FromServer}
+use Rattle.fa_capture.specs.Message.{Message}
+use Rattle.fa_bodies.specs.declared.replies.ReplyHead.{ReplyHead}
+use Rattle.fa_bodies.specs.Requests.{PlainRequest, PlainBody, IsRequest}
+use Rattle.fa_bodies.specs.Requests.PlainBody.{Lookup, Init}
+use Rattle.fa_bodies.specs.Replies.{IsReplyHead}
+
+-- the message is this request
+abbrev pub IsRequestMessage : Message → PlainRequest → Type 0
+IsRequestMessage m r = (m.direction ≡ ToServer) × IsRequest m.bytes r
+
+-- the message is a reply with this head
+abbrev pub IsReplyMessage : Message → ReplyHead → Type 0
+IsReplyMessage m head = (m.direction ≡ FromServer) × IsReplyHead m.bytes head
+
+-- message p of the list is this request
+abbrev pub IsRequestAt : List Message → ℕ → PlainRequest → Type 0
+IsRequestAt c p r = (m : Message) × (slice_get c p ≡ Some m) × IsRequestMessage m r
+
+-- the message is a request or a reply with this unique
+abbrev pub HasUnique : Message → ℕ → Type 0
+HasUnique m unique =
+    ((r : PlainRequest) × IsRequestMessage m r × (r.unique ≡ unique))
+    ⊎ ((head : ReplyHead) × IsReplyMessage m head × (head.unique ≡ unique))
+
+-- a request that may be answered: all but those that only forget
+abbrev pub MayBeAnswered : PlainBody → Type 0
+MayBeAnswered (Lookup name) = Unit {0}
+MayBeAnswered (Init i) = Unit {0}
+
+-- After these messages the request at p waits for its answer: it may be answered, and no message after it has its
+-- unique.
+pub record IsOutstanding (before : List Message) (p : ℕ) (r : PlainRequest) : Type 0 where
+  pub asked : IsRequestAt before p r
+  pub answerable : MayBeAnswered r.body
+  pub silent : (q : ℕ) (m : Message) → p < q → slice_get before q ≡ Some m → HasUnique m r.unique → ⊥
+
+-- the message that follows these messages is a reply that answers the request at p
+pub record Answers (before : List Message) (m : Message) (p : ℕ) (r : PlainRequest) : Type 0 where
+  pub head : ReplyHead
+  pub reply : IsReplyMessage m head
+  pub unique : head.unique ≡ r.unique
+  pub outstanding : IsOutstanding before p r
+
+-- message q of the list is a reply that answers the request at p
+abbrev pub AnswersAt : List Message → ℕ → ℕ → PlainRequest → Type 0
+AnswersAt c q p r = (m : Message) × (slice_get c q ≡ Some m) × Answers (take q c) m p r

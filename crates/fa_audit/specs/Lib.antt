@@ -1,0 +1,9 @@
+pub mod Answers
+pub mod Session
+pub mod Nodes
+pub mod Faults
+pub mod Order
+pub mod Tree
+pub mod Replay
+pub mod Verdict
+pub mod Progress

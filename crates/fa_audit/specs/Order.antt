@@ -1,0 +1,101 @@
+-- Order texts: a first line, a line for each entry, and a last line. The format is this profile's.
+use Rattle.std.specs.Prelude.{◌≡◌, ◌≢◌, ℕ, ◌+◌, ◌^◌, ◌<◌, ◌≤◌, ◌⊎◌, List, [], ◌∷◌, ◌++◌, length, All, codes, Option, None, Some, IfSome}
+use Rattle.std.specs.Fmt.{decimal}
+use Rattle.std.specs.List.{flat_map}
+use Rattle.fa_audit.specs.declared.order.Entry.{Entry}
+use Rattle.fa_audit.specs.declared.order.TextError.{TextError}
+use Rattle.fa_audit.specs.declared.order.TextError.TheVariants.{Line, Memory}
+
+-- its numbers are at most 4294967295
+pub record IsInRange (e : Entry) : Type 0 where
+  pub at : e.at < 2 ^ 32
+  pub wrote : IfSome e.wrote (λ count. count < 2 ^ 32)
+
+-- what a line says of the bytes written: nothing, or ` w ` and how many they are
+abbrev pub wrote_text : Option ℕ → List ℕ
+wrote_text None = []
+wrote_text (Some count) = codes " w " ++ decimal count
+
+-- an entry's line: the number of its message as `{}` prints it, what it wrote, and a line feed
+abbrev pub entry_line : Entry → List ℕ
+entry_line e = decimal e.at ++ wrote_text e.wrote ++ 10 ∷ []
+
+-- the first line
+abbrev pub first_line : List ℕ
+first_line = codes "fuse-order 1" ++ 10 ∷ []
+
+-- the last line
+abbrev pub end_line : List ℕ
+end_line = codes "end" ++ 10 ∷ []
+
+-- the first line, and the lines of the entries
+abbrev pub opening : List Entry → List ℕ
+opening es = first_line ++ flat_map entry_line es
+
+-- a whole text
+abbrev pub order_text : List Entry → List ℕ
+order_text es = opening es ++ end_line
+
+-- the bytes are the text of these entries
+pub record IsOrderText (bytes : List ℕ) (es : List Entry) : Type 0 where
+  pub in_range : All IsInRange es
+  pub spelled : bytes ≡ order_text es
+
+-- the bytes do not begin with this line
+abbrev pub LacksLine : List ℕ → List ℕ → Type 0
+LacksLine bytes line = (rest : List ℕ) → bytes ≡ line ++ rest → ⊥
+
+-- the bytes begin with no entry's line
+abbrev pub LacksEntry : List ℕ → Type 0
+LacksEntry bytes = (e : Entry) → IsInRange e → LacksLine bytes (entry_line e)
+
+-- the first line is not there
+pub record LacksFirstLine (bytes : List ℕ) (line : ℕ) : Type 0 where
+  pub place : line ≡ 1
+  pub lacks : LacksLine bytes first_line
+
+-- Behind the first line and the lines of these entries comes the rest, which begins neither with an entry's
+-- line nor with the last line. The rest may be empty.
+pub record LacksNextLine (bytes : List ℕ) (line : ℕ) : Type 0 where
+  pub entries : List Entry
+  pub rest : List ℕ
+  pub in_range : All IsInRange entries
+  pub spelled : bytes ≡ opening entries ++ rest
+  pub no_entry : LacksEntry rest
+  pub no_end : LacksLine rest end_line
+  pub place : line ≡ length entries + 2
+
+-- Behind the text of these entries comes a rest.
+pub record GoesOn (bytes : List ℕ) (line : ℕ) : Type 0 where
+  pub entries : List Entry
+  pub rest : List ℕ
+  pub in_range : All IsInRange entries
+  pub spelled : bytes ≡ order_text entries ++ rest
+  pub some : rest ≢ []
+  pub place : line ≡ length entries + 3
+
+-- The bytes are no order text, and this is the line of their fault, counted from 1.
+abbrev pub IsOrderFault : List ℕ → ℕ → Type 0
+IsOrderFault bytes line = LacksFirstLine bytes line ⊎ (LacksNextLine bytes line ⊎ GoesOn bytes line)
+
+-- what an error of the reader says of the bytes; of memory it says nothing
+abbrev pub IsFaultTold : List ℕ → TextError → Type 0
+IsFaultTold bytes (Line n) = IsOrderFault bytes n
+IsFaultTold bytes Memory = Unit {0}
+
+-- bytes are the text of one list of entries at most
+abbrev pub OneOrderText : Type 0
+OneOrderText = (bytes : List ℕ) (es fs : List Entry) → IsOrderText bytes es → IsOrderText bytes fs → es ≡ fs
+
+-- bytes have their fault at one line at most
+abbrev pub OneOrderFault : Type 0
+OneOrderFault = (bytes : List ℕ) (m n : ℕ) → IsOrderFault bytes m → IsOrderFault bytes n → m ≡ n
+
+-- an order text has no fault
+abbrev pub TextOrFault : Type 0
+TextOrFault = (bytes : List ℕ) (es : List Entry) (n : ℕ) → IsOrderText bytes es → IsOrderFault bytes n → ⊥
+
+-- the bytes begin with no decimal digit
+abbrev pub LacksDigit : List ℕ → Type 0
+LacksDigit [] = Unit {0}
+LacksDigit (byte ∷ rest) = (48 ≤ byte) → (byte ≤ 57) → ⊥
