@@ -11,7 +11,7 @@ use bitflags::Flags;
 
 /// The bytes of a `struct fuse_init_in` of minor 31.
 const INIT_IN: usize = 16;
-/// The bytes of a `struct fuse_init_out` of the oldest minors that have all its first fields.
+/// The bytes of a `struct fuse_init_out` of minors below 23.
 const LEAST_INIT_OUT: usize = 24;
 /// The bytes of a `struct fuse_init_out` of minor 31.
 const MOST_INIT_OUT: usize = 64;

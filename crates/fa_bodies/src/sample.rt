@@ -21,10 +21,20 @@ use bitflags::Flags;
 use fa_capture::Direction;
 use std::alloc::{AllocError, Global};
 
-/// The type of a directory in `mode`.
+/// The type of a pipe with a name, in `mode`.
+pub const FIFO: u32 = 0o010000;
+/// The type of a character device, in `mode`.
+pub const CHR: u32 = 0o020000;
+/// The type of a directory, in `mode`.
 pub const DIR: u32 = 0o040000;
-/// The type of a regular file in `mode`.
+/// The type of a block device, in `mode`.
+pub const BLK: u32 = 0o060000;
+/// The type of a regular file, in `mode`.
 pub const REG: u32 = 0o100000;
+/// The type of a symbolic link, in `mode`.
+pub const LNK: u32 = 0o120000;
+/// The type of a socket, in `mode`.
+pub const SOCK: u32 = 0o140000;
 
 /// A capture that grows by a message with each call.
 #[derive(Drop)]
@@ -127,7 +137,7 @@ impl Sample {
         self.request(unique, opcodes::LOOKUP, node, &body)
     }
 
-    /// Adds `< uU entry X T B size S nlink L`. `mode` is the type and the bits.
+    /// Adds `< uU entry X T B size S nlink L`. `mode` is the type and the bits, as `DIR | 0o755`.
     pub fn entry(
         self,
         unique: u64,
