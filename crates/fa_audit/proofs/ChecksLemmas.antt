@@ -1,5 +1,5 @@
 -- Lists of checks one after the other, and lists whose checks say the same.
-use Rattle.std.proofs.Common.{◌≡◌, ℕ, List, [], ◌∷◌, ◌++◌, ◌⊎◌, inl, inr, sym, ◌∙◌}
+use Rattle.std.proofs.Common.{◌≡◌, ℕ, List, [], ◌∷◌, ◌++◌, inl, inr, sym, ◌∙◌}
 use Rattle.fa_capture.specs.Checks.{FirstFailure, AllHold}
 use Rattle.fa_audit.specs.Faults.{checks_of}
 

@@ -1,18 +1,17 @@
 -- One message more: what was so among the messages before stays so, and what the new one adds.
-use Rattle.std.proofs.Common.{◌≡◌, ◌≢◌, ℕ, zero, suc, ◌+◌, ◌<◌, ◌≤◌, ◌⊎◌, List, [], ◌∷◌, ◌++◌, length, take, Option, Some, None, refl, sym, ap, subst, ◌∙◌, inl, inr, arith}
+use Rattle.std.proofs.Common.{◌≡◌, ℕ, zero, suc, ◌+◌, ◌<◌, ◌≤◌, ◌⊎◌, List, [], ◌∷◌, ◌++◌, length, take, Option, Some, None, refl, sym, ap, subst, ◌∙◌, inl, inr, arith}
 use Rattle.std.specs.Prelude.{slice_get, Bool, true, false, ◌||◌, ◌↔◌, IsTrue, IfSome}
 use Rattle.fa_capture.specs.Checks.{AllHold}
 use Rattle.std.proofs.lemmas.Bool.{cases_lt}
 use Rattle.std.proofs.lemmas.Option.{slice_get_within}
-use Rattle.std.proofs.lemmas.List.{take-append-le, take_at, take_all, length-append, append-nil}
-use Rattle.fa_capture.specs.declared.packet.Direction.{Direction}
+use Rattle.std.proofs.lemmas.List.{take-append-le, take_at, length-append}
 use Rattle.fa_capture.specs.declared.packet.Direction.TheVariants.{ToServer, FromServer}
 use Rattle.fa_capture.specs.Message.{Message}
 use Rattle.fa_bodies.specs.declared.replies.ReplyHead.{ReplyHead}
 use Rattle.fa_bodies.specs.Requests.{PlainRequest, PlainBody, IsRequest, request_shown}
 use Rattle.fa_bodies.specs.Requests.PlainBody.{Lookup, Init}
 use Rattle.fa_bodies.specs.Replies.{IsReplyHead}
-use Rattle.fa_audit.specs.Answers.{IsRequestMessage, IsReplyMessage, IsRequestAt, HasUnique, MayBeAnswered, IsOutstanding, Answers, AnswersAt}
+use Rattle.fa_audit.specs.Answers.{IsRequestMessage, IsRequestAt, HasUnique, MayBeAnswered, IsOutstanding, Answers, AnswersAt}
 use Rattle.fa_audit.specs.Session.{IsInit, IsInitAnswered}
 use Rattle.fa_audit.specs.declared.session.Session.{Session}
 use Rattle.fa_audit.specs.declared.session.Waiting.{Waiting}

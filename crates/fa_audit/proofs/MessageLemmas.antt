@@ -8,7 +8,7 @@ use Rattle.fa_capture.specs.Message.{Message}
 use Rattle.fa_bodies.specs.declared.replies.ReplyHead.{ReplyHead}
 use Rattle.fa_bodies.specs.Requests.{PlainRequest, PlainBody, IsRequest, request_checks}
 use Rattle.fa_bodies.specs.Replies.{PlainReply, IsReplyHead, IsReply, reply_head_checks, reply_checks}
-use Rattle.fa_audit.specs.Answers.{IsOutstanding, Answers}
+use Rattle.fa_audit.specs.Answers.{Answers}
 use Rattle.fa_audit.specs.Session.{ForRequest, ForReply, ForAnswered}
 use Rattle.fa_audit.specs.Faults.{checks_of, request_rules, reply_rules, checks_by, message_checks}
 use Rattle.fa_audit.specs.Progress.{request_checked, head_checked, reply_checked}

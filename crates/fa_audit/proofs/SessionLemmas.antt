@@ -1,5 +1,5 @@
 -- What a session that shows some messages knows of the request that waits.
-use Rattle.std.proofs.Common.{◌≡◌, ℕ, Bool, true, false, List, [], ◌∷◌, length, Option, Some, None, is_some, refl, sym, ap, subst, ◌∙◌, inl, inr}
+use Rattle.std.proofs.Common.{◌≡◌, ℕ, true, false, List, [], length, Option, Some, None, is_some, refl, sym, ap, subst, ◌∙◌, inl, inr}
 use Rattle.fa_capture.specs.declared.codes.TheConstants.{UNIQUE_IN_USE, FORGOTTEN_NODE, NO_REQUEST_WAITS}
 use Rattle.fa_capture.specs.Checks.{FirstFailure, AllHold}
 use Rattle.std.specs.Prelude.{IfSome}

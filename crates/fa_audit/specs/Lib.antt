@@ -7,3 +7,5 @@ pub mod Tree
 pub mod Replay
 pub mod Verdict
 pub mod Progress
+pub mod Calls
+pub mod Refusal

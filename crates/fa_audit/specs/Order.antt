@@ -6,19 +6,27 @@ use Rattle.fa_audit.specs.declared.order.Entry.{Entry}
 use Rattle.fa_audit.specs.declared.order.TextError.{TextError}
 use Rattle.fa_audit.specs.declared.order.TextError.TheVariants.{Line, Memory}
 
+-- how many bytes were written, if any were, is at most 4294967295
+abbrev pub IsCount : Option ℕ → Type 0
+IsCount wrote = IfSome wrote (λ count. count < 2 ^ 32)
+
 -- its numbers are at most 4294967295
 pub record IsInRange (e : Entry) : Type 0 where
   pub at : e.at < 2 ^ 32
-  pub wrote : IfSome e.wrote (λ count. count < 2 ^ 32)
+  pub wrote : IsCount e.wrote
 
 -- what a line says of the bytes written: nothing, or ` w ` and how many they are
 abbrev pub wrote_text : Option ℕ → List ℕ
 wrote_text None = []
 wrote_text (Some count) = codes " w " ++ decimal count
 
--- an entry's line: the number of its message as `{}` prints it, what it wrote, and a line feed
+-- what stands in a line behind the number of its message: what it wrote, and a line feed
+abbrev pub line_end : Option ℕ → List ℕ
+line_end wrote = wrote_text wrote ++ 10 ∷ []
+
+-- an entry's line, its numbers as `{}` prints them
 abbrev pub entry_line : Entry → List ℕ
-entry_line e = decimal e.at ++ wrote_text e.wrote ++ 10 ∷ []
+entry_line e = decimal e.at ++ line_end e.wrote
 
 -- the first line
 abbrev pub first_line : List ℕ
@@ -92,8 +100,8 @@ abbrev pub OneOrderFault : Type 0
 OneOrderFault = (bytes : List ℕ) (m n : ℕ) → IsOrderFault bytes m → IsOrderFault bytes n → m ≡ n
 
 -- an order text has no fault
-abbrev pub TextOrFault : Type 0
-TextOrFault = (bytes : List ℕ) (es : List Entry) (n : ℕ) → IsOrderText bytes es → IsOrderFault bytes n → ⊥
+abbrev pub TextHasNoFault : Type 0
+TextHasNoFault = (bytes : List ℕ) (es : List Entry) (n : ℕ) → IsOrderText bytes es → IsOrderFault bytes n → ⊥
 
 -- the bytes begin with no decimal digit
 abbrev pub LacksDigit : List ℕ → Type 0

@@ -1,5 +1,5 @@
 -- What the audit knows after some messages, and the checks of what it has read.
-use Rattle.std.specs.Prelude.{◌≡◌, ◌≢◌, ℕ, Bool, true, List, [], ◌∷◌, length, Option, None, Some, IfSome}
+use Rattle.std.specs.Prelude.{◌≡◌, ◌≢◌, ℕ, true, List, [], ◌∷◌, length, Option, None, Some, IfSome}
 use Rattle.fa_capture.specs.declared.codes.TheConstants.{FIRST_NOT_INIT, NO_REQUEST_WAITS, VERSION, NEGOTIATED_FLAGS}
 use Rattle.fa_capture.specs.Message.{Message}
 use Rattle.fa_bodies.specs.declared.init.InitIn.{InitIn}
@@ -13,7 +13,7 @@ use Rattle.fa_audit.specs.declared.session.Event.TheVariants.{Asked, Answered}
 use Rattle.fa_audit.specs.declared.session.Session.{Session}
 use Rattle.fa_audit.specs.declared.session.Waiting.{Waiting}
 use Rattle.fa_audit.specs.Answers.{IsRequestMessage, IsOutstanding, Answers}
-use Rattle.fa_audit.specs.Session.{IsInitAnswered, IsVersionRight, AreFlagsRight}
+use Rattle.fa_audit.specs.Session.{IsInit, IsInitAnswered, IsVersionRight, AreFlagsRight}
 use Rattle.fa_audit.specs.Faults.{checks_of, request_rules, reply_rules}
 
 -- the request at p is the one that is kept
@@ -31,7 +31,9 @@ pub record Shows (before : List Message) (s : Session) : Type 0 where
 
 -- what an event says of the message that follows these messages
 abbrev pub IsEvent : List Message → Message → Event → Type 0
-IsEvent before m (Asked w) = (w.at ≡ length before) × IsRequestMessage m (request_shown w.request)
+IsEvent before m (Asked w) =
+    (w.at ≡ length before) × IsRequestMessage m (request_shown w.request)
+    × ((p : ℕ) (r : PlainRequest) → IsOutstanding before p r → ⊥)
 IsEvent before m (Answered asked reply) =
     Answers before m asked.at (request_shown asked.request) × IsReply (request_shown asked.request) m.bytes (reply_shown reply)
 
@@ -53,3 +55,8 @@ reply_checked body reply = checks_of (λ Such. Such body reply) reply_rules
 -- the checks of a success of INIT
 abbrev pub init_checked : InitIn → Negotiated → List (ℕ × Type 0)
 init_checked i n = (VERSION, IsVersionRight (Init i) (Agreed n)) ∷ (NEGOTIATED_FLAGS, AreFlagsRight (Init i) (Agreed n)) ∷ []
+
+-- the number of the tree request that waits, if one does
+abbrev pub UnansweredIn : Session → Option ℕ → Type 0
+UnansweredIn s None = (w : Waiting) → s.waiting ≡ Some w → IsInit (request_shown w.request).body
+UnansweredIn s (Some p) = (w : Waiting) × (s.waiting ≡ Some w) × (w.at ≡ p) × (IsInit (request_shown w.request).body → ⊥)

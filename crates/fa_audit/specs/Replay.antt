@@ -1,5 +1,5 @@
 -- Which orders are valid, which are runs of the tree machine, and the first entry at fault of those that are not.
-use Rattle.std.specs.Prelude.{◌≡◌, ◌≢◌, ℕ, ◌≤◌, ◌<◌, ◌⊎◌, ◌↔◌, List, [], ◌∷◌, ◌++◌, length, map, All, AllPairs, Contains, slice_get, take, Option, Some, None}
+use Rattle.std.specs.Prelude.{◌≡◌, ◌≢◌, ℕ, ◌≤◌, ◌<◌, ◌⊎◌, List, [], ◌∷◌, ◌++◌, length, map, All, AllPairs, Contains, slice_get, take, Option, Some, None}
 use Rattle.std.specs.List.Sorted.{IsStrictlyIncreasing}
 use Rattle.fa_capture.specs.declared.codes.TheConstants.{NO_TREE_REQUEST, PLACED_TWICE, EARLIER_NOT_PLACED, ANSWERED_LEFT_OUT, CHOICE_NOT_ALLOWED}
 use Rattle.fa_capture.specs.Checks.{FirstFailure, AllHold}

@@ -1,5 +1,5 @@
 -- The rules of a session: what INIT and its answer must be, and that one request waits at a time.
-use Rattle.std.specs.Prelude.{◌≡◌, ◌≢◌, ℕ, ◌^◌, min, List, [], ◌∷◌, ◌++◌}
+use Rattle.std.specs.Prelude.{◌≡◌, ◌≢◌, ℕ, ◌^◌, min, List, [], ◌∷◌}
 use Rattle.std.specs.Int.RustNames.{bit_and}
 use Rattle.fa_capture.specs.declared.codes.TheConstants.{FIRST_NOT_INIT, SECOND_INIT, BEFORE_INIT_ANSWERED, INIT_REFUSED, VERSION, NEGOTIATED_FLAGS, UNIQUE_IN_USE, NO_REQUEST_WAITS, UNIQUE_ZERO, REPLY_BODY}
 use Rattle.fa_capture.specs.Message.{Message}

@@ -1,8 +1,7 @@
 -- The tree machine: what a tree is, and what a request may do to it. The steps are this profile's, modelled on
 -- POSIX.1-2017.
-use Rattle.std.specs.Prelude.{◌≡◌, ◌≢◌, ℕ, ℤ, pos, negsuc, ◌⊎◌, List, [], ◌∷◌, Contains, slice_get, Some}
+use Rattle.std.specs.Prelude.{◌≡◌, ◌≢◌, ℕ, ℤ, negsuc, ◌⊎◌, List, [], ◌∷◌, Contains, slice_get, Some}
 use Rattle.fa_capture.specs.declared.codes.TheConstants.{UNKNOWN_HERE, SUCCESS_NOT_ALLOWED, ERROR_WITHOUT_CAUSE}
-use Rattle.fa_bodies.specs.declared.entry.EntryOut.{EntryOut}
 use Rattle.fa_bodies.specs.Requests.{PlainRequest, PlainBody}
 use Rattle.fa_bodies.specs.Requests.PlainBody.{Lookup, Init}
 use Rattle.fa_bodies.specs.Replies.{PlainReply}

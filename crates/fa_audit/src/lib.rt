@@ -1,9 +1,11 @@
 //! The audit of a capture.
 #![tactic(auto)]
 
+mod calls;
+pub mod laws;
 mod order;
 mod session;
 mod verdict;
 
-pub use order::{Entry, TextError};
+pub use order::{Entry, TextError, read_order};
 pub use verdict::{AuditError, Verdict};

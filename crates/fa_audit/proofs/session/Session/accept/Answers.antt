@@ -1,9 +1,9 @@
-use Rattle.std.proofs.Common.{◌≡◌, ℕ, List, refl, sym, ap, subst, ◌∙◌, inl, inr, Option, Some}
+use Rattle.std.proofs.Common.{refl}
 use Rattle.std.proofs.lemmas.Result.{err_from_is_err_and}
-use Rattle.fa_capture.specs.Message.{Message, message}
-use Rattle.fa_bodies.specs.Requests.{request_shown, body_shown}
+use Rattle.fa_capture.specs.Message.{message}
+use Rattle.fa_bodies.specs.Requests.{request_shown}
 use Rattle.fa_bodies.specs.Replies.{reply_shown}
-use Rattle.fa_audit.proofs.MessageLemmas.{IsOnlyRequest, IsOnlyHead, IsOnlyReply, unread_request, request_fails, request_passes, unread_head, head_fails, body_fails, reply_fails, reply_passes}
+use Rattle.fa_audit.proofs.MessageLemmas.{IsOnlyRequest, IsOnlyHead, IsOnlyReply, request_fails, request_passes, head_fails, body_fails, reply_fails, reply_passes}
 use Rattle.fa_audit.proofs.GrowthLemmas.{shows_asked, shows_replied, only_answer, answers_kept, none_other}
 use Rattle.fa_audit.proofs.session.Session.accept.Goals as goal
 
@@ -69,6 +69,12 @@ returns-in_ok-check_request-in-ToServer-clause-shows c =
     let arm = c.in_ok-request-in-ToServer in
     λ before shows. shows_asked before m c.args.self.now _ shows
     (none_other before (request_shown arm.request) (c.in_ok-check_request-in-ToServer.ensures.ok before shows)) (c.in-ToServer.is, arm.ensures.found) arm.ensures.only refl
+
+pub returns-in_ok-check_request-in-ToServer-clause-event :
+    goal.returns-in_ok-check_request-in-ToServer-clause-event
+returns-in_ok-check_request-in-ToServer-clause-event c =
+    let arm = c.in_ok-request-in-ToServer in
+    λ before shows. (shows.counted, (c.in-ToServer.is, arm.ensures.found), none_other before (request_shown arm.request) (c.in_ok-check_request-in-ToServer.ensures.ok before shows))
 
 pub returns-in_ok-check_reply-in-FromServer-clause-passes :
     goal.returns-in_ok-check_reply-in-FromServer-clause-passes
