@@ -6,3 +6,8 @@ pub mod CallsLemmas
 pub mod OrderDigits
 pub mod OrderLines
 pub mod OrderLemmas
+pub mod StepLemmas
+pub mod OneAnswerLists
+pub mod OneAnswerRuns
+pub mod OneAnswer
+pub mod ReplayLemmas

@@ -9,3 +9,4 @@ pub mod Verdict
 pub mod Progress
 pub mod Calls
 pub mod Refusal
+pub mod Placed

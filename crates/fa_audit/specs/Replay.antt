@@ -80,6 +80,13 @@ abbrev pub EachPlaced : List Message → List Entry → Type 0
 EachPlaced c es =
     (earlier later : List Entry) (e : Entry) → es ≡ earlier ++ e ∷ later → AllHold (order_checks c earlier e)
 
+-- The entry fails a check of its place after these entries, or it passes those and its step from this tree fails one,
+-- with the first such code.
+abbrev pub EntryFails : List Message → Tree → List Entry → Entry → ℕ → Type 0
+EntryFails c tree earlier e code =
+    FirstFailure (order_checks c earlier e) code
+    ⊎ (AllHold (order_checks c earlier e) × (r : PlainRequest) × (reply : PlainReply) × IsRepliedTo c e.at r reply × FirstFailure (step_checks tree r reply) code)
+
 -- The first entry that fails a check, with the first check that it fails: after entries that are all placed and are
 -- a run from the first tree, it fails a check of its place, or its step fails one.
 pub record IsEntryAtFault (c : List Message) (first : Tree) (es : List Entry) (entry at code : ℕ) : Type 0 where
@@ -92,8 +99,7 @@ pub record IsEntryAtFault (c : List Message) (first : Tree) (es : List Entry) (e
   pub message : at ≡ e.at
   pub placed : EachPlaced c earlier
   pub run : Run c first earlier tree
-  pub fails : FirstFailure (order_checks c earlier e) code
-      ⊎ (AllHold (order_checks c earlier e) × (r : PlainRequest) × (reply : PlainReply) × IsRepliedTo c e.at r reply × FirstFailure (step_checks tree r reply) code)
+  pub fails : EntryFails c tree earlier e code
 
 -- an answered tree request that these entries leave out
 abbrev pub IsAnsweredUnplaced : List Message → List Entry → ℕ → Type 0

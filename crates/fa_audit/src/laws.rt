@@ -1,6 +1,7 @@
 //! What follows from the definitions alone.
 
 ghost use Rattle.fa_audit.specs.Order.{OneOrderText, OneOrderFault, TextHasNoFault};
+ghost use Rattle.fa_audit.specs.Verdict.{OneAnswer};
 
 /// Bytes are the text of one list of entries at most.
 pub fn one_order()
@@ -16,3 +17,12 @@ pub fn one_order_fault()
 pub fn text_has_no_fault()
     ensures { TextHasNoFault }
 {}
+
+/// A capture and an order have one answer at most.
+pub fn one_answer()
+    ensures { OneAnswer }
+{
+    fa_capture::laws::one_reading();
+    fa_bodies::laws::request_is_one();
+    fa_bodies::laws::reply_is_one();
+}

@@ -4,6 +4,7 @@
 mod calls;
 pub mod laws;
 mod order;
+mod replay;
 mod session;
 mod verdict;
 
