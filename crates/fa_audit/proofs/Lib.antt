@@ -11,3 +11,4 @@ pub mod OneAnswerLists
 pub mod OneAnswerRuns
 pub mod OneAnswer
 pub mod ReplayLemmas
+pub mod AuditLemmas

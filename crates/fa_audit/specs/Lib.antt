@@ -5,6 +5,7 @@ pub mod Faults
 pub mod Order
 pub mod Tree
 pub mod Replay
+pub mod Errors
 pub mod Verdict
 pub mod Progress
 pub mod Calls

@@ -48,6 +48,12 @@ IsAnswer capture order (Ok (NotShown entry at code)) = IsNotShown capture order 
 IsAnswer capture order (Err (OrderText line)) = IsTextAtFault capture order line
 IsAnswer capture order (Err Memory) = ⊥
 
+-- the answer of a call that may be refused memory
+abbrev pub Tells : List ℕ → List ℕ → Result Verdict AuditError → Type 0
+Tells capture order (Ok verdict) = IsAnswer capture order (Ok verdict)
+Tells capture order (Err (OrderText line)) = IsTextAtFault capture order line
+Tells capture order (Err Memory) = Unit {0}
+
 -- The call answers this exactly where the fact holds, unless memory was refused. That memory is not refused where
 -- there is some, no clause can say.
 pub record Exactly (result : Result Verdict AuditError) (answer : Result Verdict AuditError) (Fact : Type 0) : Type 0 where

@@ -1,5 +1,7 @@
 //! What the audit answers.
 
+use crate::order::TextError;
+use std::alloc::AllocError;
 use thiserror::Error;
 
 /// The answer of the audit.
@@ -37,4 +39,29 @@ pub enum AuditError {
     /// Memory was refused.
     #[error("out of memory")]
     Memory,
+}
+
+impl From<AllocError> for AuditError {
+    ghost use Rattle.std.specs.Prelude.{◌≡◌};
+    ghost use Rattle.fa_audit.specs.declared.verdict.AuditError.TheVariants.{Memory};
+
+    ghost from_gives = { λ _ e. e ≡ Memory };
+
+    fn from(_: AllocError) -> AuditError {
+        AuditError::Memory
+    }
+}
+
+impl From<TextError> for AuditError {
+    ghost use Rattle.fa_audit.specs.Errors.{audit_error};
+    ghost use Rattle.std.specs.Prelude.{◌≡◌};
+
+    ghost from_gives = { λ text e. e ≡ audit_error text };
+
+    fn from(text: TextError) -> AuditError {
+        match text {
+            TextError::Line(line) => AuditError::OrderText { line },
+            TextError::Memory => AuditError::Memory,
+        }
+    }
 }

@@ -1,0 +1,82 @@
+//! The audit: what a capture and an order are.
+
+ghost use Rattle.std.specs.Prelude.{◌≡◌, ◌≤◌, ℕ, length, Ok, Err, None};
+ghost use Rattle.fa_audit.specs.Verdict.{IsLegal, IsTextAtFault, IsNotShown, Tells, Exactly};
+ghost use Rattle.fa_audit.specs.Faults.{IsFirstFault};
+ghost use Rattle.fa_audit.specs.declared.order.TheConstants.{MAX_TEXT_BYTES};
+
+use crate::calls::{Refusal, calls_of};
+use crate::laws;
+use crate::order::read_order;
+use crate::replay::{EntryFault, replay};
+use crate::verdict::{AuditError, Verdict};
+use fa_capture::read_capture;
+use std::alloc::Global;
+
+/// Judges a capture and an order.
+///
+/// The capture is judged in one pass, and its first fault is told: at the least number of a message that does not
+/// pass or of the framing fault, with the first check that it fails. Then the order text is read, and its entries are
+/// replayed on a tree that is an empty root with the permission bits 755. No tree text can be handed in yet: `tree` is
+/// None.
+///
+/// The answer is [`Verdict::Legal`] exactly where the capture is good, the order text is in its grammar and its entries
+/// are a valid order and a run of the tree machine that gives each recorded reply. The order text has at most
+/// 268,435,456 bytes.
+///
+/// # Errors
+///
+/// - [`AuditError::OrderText`] exactly where the capture is good and the order text is not in its grammar.
+/// - [`AuditError::Memory`] where memory for the lists of messages, of tree requests or of entries was refused.
+///
+/// # Cost
+///
+/// Time linear in the bytes of the capture and of the order. Memory for a packet a message, a call an answered tree
+/// request and an entry a line; message bytes are not copied.
+pub fn audit(
+    alloc: Global,
+    capture: &[u8],
+    tree: Option<&[u8]>,
+    order: &[u8],
+) -> Result<Verdict, AuditError>
+    requires text { length order.now ≤ MAX_TEXT_BYTES }
+    requires no_tree { tree ≡ None }
+
+    ensures legal { (messages placed left : ℕ) → Exactly result (Ok (Verdict.Legal messages placed left)) (IsLegal capture.now order.now messages placed left) }
+    ensures fault { (at code : ℕ) → Exactly result (Ok (Verdict.Fault at code)) (IsFirstFault capture.now at code) }
+    ensures order_text { (line : ℕ) → Exactly result (Err (AuditError.OrderText line)) (IsTextAtFault capture.now order.now line) }
+    ensures not_shown { (entry at code : ℕ) → Exactly result (Ok (Verdict.NotShown entry at code)) (IsNotShown capture.now order.now entry at code) }
+{
+    prove!(tree.is_none());
+    // A capture and an order have one answer at most, so the one that is found is it.
+    laws::one_answer();
+    answer(alloc, capture, order)
+}
+
+/// An answer for the capture and the order.
+fn answer(alloc: Global, capture: &[u8], order: &[u8]) -> Result<Verdict, AuditError>
+    requires { length order.now ≤ MAX_TEXT_BYTES }
+    ensures { Tells capture.now order.now result }
+{
+    let capture = read_capture(alloc, capture)?;
+    let calls = match calls_of(alloc, &capture.packets) {
+        Ok(calls) => calls,
+        Err(Refusal::Fault { at, code }) => return Ok(Verdict::Fault { at, code }),
+        Err(Refusal::Memory) => return Err(AuditError::Memory),
+    };
+    if let Some(fault) = capture.fault {
+        return Ok(Verdict::Fault {
+            at: fault.whole,
+            code: fault.code,
+        });
+    }
+    let entries = read_order(alloc, order)?;
+    match replay(&calls, &entries) {
+        Ok(left) => Ok(Verdict::Legal {
+            messages: capture.packets.len() as u32,
+            placed: entries.len() as u32,
+            left,
+        }),
+        Err(EntryFault { entry, at, code }) => Ok(Verdict::NotShown { entry, at, code }),
+    }
+}
