@@ -12,3 +12,6 @@ pub mod OneAnswerRuns
 pub mod OneAnswer
 pub mod ReplayLemmas
 pub mod AuditLemmas
+pub mod RunLemmas
+pub mod AnswerLemmas
+pub mod CodedLemmas

@@ -11,3 +11,6 @@ pub mod Progress
 pub mod Calls
 pub mod Refusal
 pub mod Placed
+pub mod Line
+pub mod Run
+pub mod Failure

@@ -1,8 +1,9 @@
 //! The audit: what a capture and an order are.
 
-ghost use Rattle.std.specs.Prelude.{◌≡◌, ◌≤◌, ℕ, length, Ok, Err, None};
+ghost use Rattle.std.specs.Prelude.{◌≡◌, ◌≤◌, ℕ, length, Ok, Err, None, IfOk};
 ghost use Rattle.fa_audit.specs.Verdict.{IsLegal, IsTextAtFault, IsNotShown, Tells, Exactly};
 ghost use Rattle.fa_audit.specs.Faults.{IsFirstFault};
+ghost use Rattle.fa_audit.specs.Line.{IsCoded};
 ghost use Rattle.fa_audit.specs.declared.order.TheConstants.{MAX_TEXT_BYTES};
 
 use crate::calls::{Refusal, calls_of};
@@ -46,6 +47,9 @@ pub fn audit(
     ensures fault { (at code : ℕ) → Exactly result (Ok (Verdict.Fault at code)) (IsFirstFault capture.now at code) }
     ensures order_text { (line : ℕ) → Exactly result (Err (AuditError.OrderText line)) (IsTextAtFault capture.now order.now line) }
     ensures not_shown { (entry at code : ℕ) → Exactly result (Ok (Verdict.NotShown entry at code)) (IsNotShown capture.now order.now entry at code) }
+
+    // A code that is told has a text.
+    ensures codes { IfOk result IsCoded }
 {
     prove!(tree.is_none());
     // A capture and an order have one answer at most, so the one that is found is it.

@@ -4,3 +4,4 @@ pub mod Framing
 pub mod Reading
 pub mod Streams
 pub mod Device
+pub mod Codes

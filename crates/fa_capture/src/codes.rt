@@ -3,6 +3,12 @@
 //! Codes 1 to 5 speak of the framing of a capture, 10 to 17 of one message, 20 to 34 of the session,
 //! 40 to 50 of node ids and file handles, 60 and 61 of the two texts, and 70 to 86 of the order.
 
+ghost use Rattle.std.specs.Prelude.{◌≡◌, option_map};
+ghost use Rattle.fa_capture.specs.Codes.{text_of};
+
+#[cfg(test)]
+mod tests;
+
 /// no FUSECAP1 at the start
 pub const NO_MAGIC: u16 = 1;
 /// record cut off
@@ -94,3 +100,57 @@ pub const NODE_ID_OF_ANOTHER: u16 = 84;
 pub const BYTES_READ: u16 = 85;
 /// listing
 pub const LISTING: u16 = 86;
+
+/// The text of a code, if it is one.
+///
+/// Takes no memory, in constant time.
+pub fn text(code: u16) -> Option<&'static str>
+    ensures { option_map (λ text. text.now) result ≡ text_of code }
+{
+    let text = match code {
+        NO_MAGIC => "no FUSECAP1 at the start",
+        CUT_OFF => "record cut off",
+        DIRECTION => "direction byte",
+        MESSAGE_TOO_LONG => "message too long",
+        CAPTURE_TOO_LARGE => "too many messages or bytes",
+        HEADER_TOO_SHORT => "header too short",
+        LENGTH_FIELD => "length field differs from the record",
+        OPERATION => "operation out of the set",
+        REQUEST_BODY => "request body",
+        PROFILE_LIMIT => "limit of this profile",
+        ERROR_VALUE => "error value out of range",
+        REPLY_BODY => "reply body",
+        NOTIFICATION => "notification",
+        FIRST_NOT_INIT => "first message is not INIT",
+        SECOND_INIT => "second INIT",
+        BEFORE_INIT_ANSWERED => "request before INIT was answered",
+        INIT_REFUSED => "INIT refused",
+        VERSION => "version",
+        NEGOTIATED_FLAGS => "negotiated flags",
+        UNIQUE_IN_USE => "unique in use",
+        NO_REQUEST_WAITS => "no request waits for this reply",
+        LEFT_OUT_SUCCEEDED => "success of an operation left out",
+        OPEN_WITHOUT_HANDLE => "open without a file handle",
+        UNIQUE_ZERO => "request with unique 0",
+        FORGOTTEN_NODE => "forgotten node",
+        FORGOTTEN_TOO_OFTEN => "forgotten too often",
+        NODE_ID_NOT_ALLOWED => "node id not allowed",
+        CLOSED_HANDLE => "closed file handle",
+        NOT_AN_ORDER_TEXT => "not an order text",
+        NOT_A_TREE_TEXT => "not a tree text",
+        NO_TREE_REQUEST => "no tree request",
+        PLACED_TWICE => "placed twice",
+        EARLIER_NOT_PLACED => "an earlier answered request is not placed yet",
+        ANSWERED_LEFT_OUT => "answered request left out",
+        CHOICE_NOT_ALLOWED => "choice not allowed",
+        UNKNOWN_HERE => "node or file handle not known here",
+        SUCCESS_NOT_ALLOWED => "success not allowed",
+        ERROR_WITHOUT_CAUSE => "error without a cause",
+        ATTRIBUTES => "attributes",
+        NODE_ID_OF_ANOTHER => "node id of another file",
+        BYTES_READ => "bytes read",
+        LISTING => "listing",
+        _ => return None,
+    };
+    Some(text)
+}

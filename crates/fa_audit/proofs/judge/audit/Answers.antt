@@ -2,6 +2,7 @@ use Rattle.std.proofs.Common.{Ok, Err}
 use Rattle.fa_audit.specs.declared.verdict.Verdict.TheVariants.{Legal, Fault, NotShown}
 use Rattle.fa_audit.specs.declared.verdict.AuditError.TheVariants.{OrderText}
 use Rattle.fa_audit.proofs.AuditLemmas.{exactly, verdict_apart, line_apart}
+use Rattle.fa_audit.proofs.CodedLemmas.{told_coded}
 use Rattle.fa_audit.proofs.judge.audit.Goals as goal
 
 pub returns-clause-legal : goal.returns-clause-legal
@@ -19,3 +20,6 @@ returns-clause-order_text c = λ line.
 pub returns-clause-not_shown : goal.returns-clause-not_shown
 returns-clause-not_shown c = λ entry at code.
     exactly c.one_answer.ensures c.args.capture.now c.args.order.now c.answer.result (Ok (NotShown entry at code)) c.answer.ensures (verdict_apart (NotShown entry at code))
+
+pub returns-clause-codes : goal.returns-clause-codes
+returns-clause-codes c = told_coded c.args.capture.now c.args.order.now c.answer.result c.answer.ensures

@@ -1,0 +1,83 @@
+-- Each code that the audit tells has a text.
+use Rattle.std.proofs.Common.{◌≡◌, ℕ, List, [], ◌∷◌, Option, Some, Result, Ok, Err, Bool, true, false, is_some, length, take, refl, sym, subst, inl, inr}
+use Rattle.std.specs.Prelude.{IfOk, IsSome}
+use Rattle.fa_capture.specs.declared.packet.Direction.{Direction}
+use Rattle.fa_capture.specs.declared.packet.Direction.TheVariants.{ToServer, FromServer}
+use Rattle.fa_capture.specs.Checks.{FirstFailure}
+use Rattle.fa_capture.specs.Codes.{text_of}
+use Rattle.fa_capture.specs.Message.{Message}
+use Rattle.fa_capture.specs.Reading.{HasMagic, IsReading, IsFault, record_checks}
+use Rattle.fa_capture.specs.Framing.{capture_spelling}
+use Rattle.fa_capture.specs.declared.codes.TheConstants.{NO_MAGIC}
+use Rattle.fa_capture.specs.declared.fault.CaptureFault.{CaptureFault}
+use Rattle.fa_audit.specs.declared.verdict.Verdict.{Verdict}
+use Rattle.fa_audit.specs.declared.verdict.Verdict.TheVariants.{Legal, Fault, NotShown}
+use Rattle.fa_audit.specs.declared.verdict.AuditError.{AuditError}
+use Rattle.fa_audit.specs.Faults.{checks_by, message_checks, IsFirstFault}
+use Rattle.fa_audit.specs.Tree.{Tree, empty_root, step_checks}
+use Rattle.fa_audit.specs.Replay.{order_checks, EntryFails, IsOrderAtFault}
+use Rattle.fa_audit.specs.declared.order.Entry.{Entry}
+use Rattle.fa_audit.specs.Verdict.{Tells}
+use Rattle.fa_audit.specs.Line.{IsCoded}
+
+-- the code of each check has a text
+abbrev AllCoded : List (ℕ × Type 0) → Type 0
+AllCoded [] = Unit {0}
+AllCoded (c ∷ checks) = IsSome (text_of c.0) × AllCoded checks
+
+coded_failure : (checks : List (ℕ × Type 0)) (code : ℕ) → AllCoded checks → FirstFailure checks code → IsSome (text_of code)
+coded_failure [] code coded fails = absurd fails
+coded_failure (c ∷ checks) code coded fails =
+    elim fails [
+      | inl here ↦ subst (λ (n : ℕ). IsSome (text_of n)) (sym here.1) coded.0
+      | inr past ↦ coded_failure checks code coded.1 past.1
+    ]
+
+message_coded : (d : Direction) (before : List Message) (m : Message) → AllCoded (checks_by d before m)
+message_coded ToServer before m = (refl, (refl, (refl, (refl, (refl, (refl, (refl, (refl, (refl, (refl, tt))))))))))
+message_coded FromServer before m = (refl, (refl, (refl, (refl, (refl, (refl, (refl, (refl, (refl, (refl, (refl, tt)))))))))))
+
+record_coded : (before offset : ℕ) (left : List ℕ) → AllCoded (record_checks before offset left)
+record_coded before offset left = (refl, (refl, (refl, (refl, (refl, (refl, tt))))))
+
+-- a framing fault's code, whether the magic is there or not
+framing_cases : (bytes : List ℕ) (c : List Message) (f : CaptureFault) (b : Bool) → is_some (text_of f.code) ≡ b → IsFault bytes c (Some f) → IsSome (text_of f.code)
+framing_cases bytes c f true has fault = has
+framing_cases bytes c f false lacks fault =
+    let without : HasMagic bytes → ⊥ = λ has.
+    let there = fault.2 has in
+    let coded : is_some (text_of f.code) ≡ true = coded_failure (record_checks (length c) (length (capture_spelling c)) there.0) f.code (record_coded (length c) (length (capture_spelling c)) there.0) there.3 in
+    absurd cc in
+    let code : f.code ≡ NO_MAGIC = fault.1 without in
+    subst (λ (n : ℕ). IsSome (text_of n)) (sym code) refl
+
+framing_coded : (bytes : List ℕ) (c : List Message) (framing : Option CaptureFault) (at code : ℕ) → IsReading bytes c framing → framing ≡ Some (record { whole = at; code = code }) → IsSome (text_of code)
+framing_coded bytes c framing at code read is =
+    framing_cases bytes c (record { whole = at; code = code }) (is_some (text_of code)) refl (subst (IsFault bytes c) is read.ended)
+
+fault_coded : (capture : List ℕ) (at code : ℕ) → IsFirstFault capture at code → IsSome (text_of code)
+fault_coded capture at code first =
+    elim first.fault [
+      | inl message ↦ coded_failure (message_checks (take at first.messages) message.message) code (message_coded message.message.direction (take at first.messages) message.message) message.fails
+      | inr framing ↦ framing_coded capture first.messages first.framing at code first.read framing.there
+    ]
+
+entry_coded : (c : List Message) (tree : Tree) (earlier : List Entry) (e : Entry) (code : ℕ) → EntryFails c tree earlier e code → IsSome (text_of code)
+entry_coded c tree earlier e code fails =
+    elim fails [
+      | inl here ↦ coded_failure (order_checks c earlier e) code (refl, (refl, (refl, (refl, tt)))) here
+      | inr step ↦ coded_failure (step_checks tree step.1 step.2) code (refl, (refl, (refl, tt))) step.4
+    ]
+
+order_coded : (c : List Message) (first : Tree) (es : List Entry) (entry at code : ℕ) → IsOrderAtFault c first es entry at code → IsSome (text_of code)
+order_coded c first es entry at code fault =
+    elim fault [
+      | inl fails ↦ entry_coded c fails.tree fails.earlier fails.e code fails.fails
+      | inr leaves ↦ subst (λ (n : ℕ). IsSome (text_of n)) (sym leaves.told) refl
+    ]
+
+pub told_coded : (capture order : List ℕ) (result : Result Verdict AuditError) → Tells capture order result → IfOk result IsCoded
+told_coded capture order (Ok (Legal messages placed left)) tells = tt
+told_coded capture order (Ok (Fault at code)) tells = fault_coded capture at code tells
+told_coded capture order (Ok (NotShown entry at code)) tells = order_coded tells.c empty_root tells.entries entry at code tells.fault
+told_coded capture order (Err error) tells = tt

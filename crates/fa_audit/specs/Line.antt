@@ -1,0 +1,51 @@
+-- The line that tells an answer, and the status with which the program ends.
+use Rattle.std.specs.Prelude.{ℕ, List, [], ◌++◌, IsSome, unwrap_or, codes, decimal, Result, Ok, Err}
+use Rattle.fa_capture.specs.declared.codes.TheConstants.{NOT_AN_ORDER_TEXT}
+use Rattle.fa_capture.specs.Codes.{text_of}
+use Rattle.fa_audit.specs.declared.verdict.Verdict.{Verdict}
+use Rattle.fa_audit.specs.declared.verdict.Verdict.TheVariants.{Legal, Fault, NotShown}
+use Rattle.fa_audit.specs.declared.verdict.AuditError.{AuditError}
+use Rattle.fa_audit.specs.declared.verdict.AuditError.TheVariants.{OrderText, Memory}
+
+-- the code that the verdict tells, if any, has a text
+abbrev pub IsCoded : Verdict → Type 0
+IsCoded (Legal messages placed left) = Unit {0}
+IsCoded (Fault at code) = IsSome (text_of code)
+IsCoded (NotShown entry at code) = IsSome (text_of code)
+
+-- the text of a code that has one
+abbrev pub code_text : ℕ → List ℕ
+code_text code = unwrap_or (text_of code) []
+
+-- `: code C: TEXT`
+abbrev pub code_part : ℕ → List ℕ
+code_part code = codes ": code " ++ (decimal code ++ (codes ": " ++ code_text code))
+
+-- `: message N: code C: TEXT`
+abbrev pub message_part : ℕ → ℕ → List ℕ
+message_part at code = codes ": message " ++ (decimal at ++ code_part code)
+
+-- the line of a verdict
+abbrev pub verdict_line : Verdict → List ℕ
+verdict_line (Legal messages placed left) =
+    codes "legal: " ++ (decimal messages ++ (codes " messages, " ++ (decimal placed ++ (codes " placed, " ++ (decimal left ++ codes " left out")))))
+verdict_line (Fault at code) = codes "fault" ++ message_part at code
+verdict_line (NotShown entry at code) = codes "not shown: entry " ++ (decimal entry ++ message_part at code)
+
+-- the line of an order text that is not in its grammar, by its first line that does not fit
+abbrev pub order_line : ℕ → List ℕ
+order_line line = codes "order: line " ++ (decimal line ++ code_part NOT_AN_ORDER_TEXT)
+
+-- The line of each answer; that memory was refused is no answer.
+abbrev pub answer_line : Result Verdict AuditError → List ℕ
+answer_line (Ok verdict) = verdict_line verdict
+answer_line (Err (OrderText line)) = order_line line
+answer_line (Err Memory) = []
+
+-- The status of each answer.
+abbrev pub answer_status : Result Verdict AuditError → ℕ
+answer_status (Ok (Legal messages placed left)) = 0
+answer_status (Ok (Fault at code)) = 1
+answer_status (Ok (NotShown entry at code)) = 2
+answer_status (Err (OrderText line)) = 3
+answer_status (Err Memory) = 5

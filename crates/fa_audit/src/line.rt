@@ -1,0 +1,64 @@
+//! The line that tells an answer.
+
+ghost use Rattle.std.specs.Prelude.{◌≡◌, IsSome, IfOk, string_bytes};
+ghost use Rattle.fa_capture.specs.Codes.{text_of};
+ghost use Rattle.fa_audit.specs.Line.{IsCoded, verdict_line, order_line, code_text};
+
+use crate::verdict::Verdict;
+use fa_capture::codes;
+use std::alloc::{AllocError, Global};
+
+#[cfg(test)]
+mod tests;
+
+/// The line of a verdict, without a line feed. The code that the verdict tells, if any, is one of [`codes`].
+///
+/// - `legal: M messages, P placed, L left out`
+/// - `fault: message N: code C: TEXT`
+/// - `not shown: entry E: message N: code C: TEXT`
+///
+/// # Errors
+///
+/// `AllocError` where memory for the line was refused.
+///
+/// # Cost
+///
+/// Constant time and memory.
+pub fn verdict_text(alloc: Global, verdict: &Verdict) -> Result<String, AllocError>
+    requires { IsCoded verdict.now }
+    ensures { IfOk result (λ line. string_bytes line ≡ verdict_line verdict.now) }
+{
+    match *verdict {
+        Verdict::Legal {
+            messages,
+            placed,
+            left,
+        } => format!(in alloc; "legal: {messages} messages, {placed} placed, {left} left out"),
+        Verdict::Fault { at, code } => {
+            let text = text_of_code(code);
+            format!(in alloc; "fault: message {at}: code {code}: {text}")
+        }
+        Verdict::NotShown { entry, at, code } => {
+            let text = text_of_code(code);
+            format!(in alloc; "not shown: entry {entry}: message {at}: code {code}: {text}")
+        }
+    }
+}
+
+/// The line of an order text that is not in its grammar, without a line feed: its first line that does not fit,
+/// counted from 1.
+pub fn order_text(alloc: Global, line: u32) -> Result<String, AllocError>
+    ensures { IfOk result (λ text. string_bytes text ≡ order_line line) }
+{
+    let code = codes::NOT_AN_ORDER_TEXT;
+    let text = text_of_code(code);
+    format!(in alloc; "order: line {line}: code {code}: {text}")
+}
+
+/// The text of a code.
+fn text_of_code(code: u16) -> &'static str
+    requires { IsSome (text_of code) }
+    ensures { result.now ≡ code_text code }
+{
+    codes::text(code).unwrap()
+}

@@ -1,0 +1,201 @@
+//! An audit from its inputs to the line that tells its answer.
+
+ghost use Rattle.std.specs.Prelude.{◌≡◌, ◌≢◌, ◌≤◌, ◌↔◌, ◌⊎◌, true, false, vec_len, string_bytes, IfOk, IfErr, IfSome, OnOk, IsErrOf};
+ghost use Rattle.std.specs.Io.KnownBytes.{Keeps};
+ghost use Rattle.fa_audit.specs.Line.{IsCoded, answer_line, answer_status};
+ghost use Rattle.fa_audit.specs.Run.{IsTold, IsAudited, IsUnread};
+
+use crate::judge::audit;
+use crate::line::{order_text, verdict_text};
+use crate::verdict::{AuditError, Verdict};
+use fa_capture::{Broken, Input, Output, ReadError, read_all};
+use std::alloc::{AllocError, AllocFailed, Global};
+use thiserror::Error;
+
+#[cfg(test)]
+mod tests;
+
+/// How many bytes an input may have.
+pub const MAX_INPUT_BYTES: usize = 268_435_456;
+
+/// Why no answer was told.
+#[derive(Clone, Copy, Debug, PartialEq, Eq, Hash, Error)]
+pub enum RunFault {
+    /// An input could not be read to its end, or has more than [`MAX_INPUT_BYTES`] bytes.
+    #[error("read")]
+    Read,
+    /// The output did not take the whole line.
+    #[error("write")]
+    Write,
+    /// Memory was refused.
+    #[error("memory")]
+    Memory,
+}
+
+impl From<AllocError> for RunFault {
+    ghost use Rattle.std.specs.Prelude.{◌≡◌};
+    ghost use Rattle.fa_audit.specs.declared.run.RunFault.TheVariants.{Memory};
+
+    ghost from_gives = { λ _ e. e ≡ Memory };
+
+    fn from(_: AllocError) -> RunFault {
+        RunFault::Memory
+    }
+}
+
+impl<T: Drop> From<AllocFailed<T>> for RunFault {
+    ghost use Rattle.std.specs.Prelude.{◌≡◌};
+    ghost use Rattle.fa_audit.specs.declared.run.RunFault.TheVariants.{Memory};
+
+    ghost from_gives = { λ _ e. e ≡ Memory };
+
+    fn from(_: AllocFailed<T>) -> RunFault {
+        RunFault::Memory
+    }
+}
+
+impl From<ReadError> for RunFault {
+    ghost use Rattle.fa_audit.specs.Run.{IsReadFault};
+
+    ghost from_gives = { IsReadFault };
+
+    fn from(error: ReadError) -> RunFault {
+        match error {
+            ReadError::Memory => RunFault::Memory,
+            ReadError::Failed | ReadError::TooLong | ReadError::Turns => RunFault::Read,
+        }
+    }
+}
+
+impl From<Broken> for RunFault {
+    ghost use Rattle.std.specs.Prelude.{◌≡◌};
+    ghost use Rattle.fa_audit.specs.declared.run.RunFault.TheVariants.{Write};
+
+    ghost from_gives = { λ _ e. e ≡ Write };
+
+    fn from(_: Broken) -> RunFault {
+        RunFault::Write
+    }
+}
+
+/// The status of an order text that is not in its grammar.
+const ORDER_TEXT: u8 = 3;
+
+/// The status of a verdict.
+fn status_of(verdict: Verdict) -> u8
+    ensures { result ≡ answer_status (Ok verdict) }
+{
+    match verdict {
+        Verdict::Legal { .. } => 0,
+        Verdict::Fault { .. } => 1,
+        Verdict::NotShown { .. } => 2,
+    }
+}
+
+/// The whole of an input of at most [`MAX_INPUT_BYTES`] bytes.
+fn input_bytes<R: Input>(alloc: Global, input: &mut R) -> Result<Vec<u8>, RunFault>
+    requires unfailed { R.has_failed input.old ≡ false }
+    requires uninterrupted { R.was_interrupted input.old ≡ false }
+    ensures bytes { IfOk result (λ v. IfSome (R.remaining input.old) (λ bytes. v.items ≡ bytes)) }
+    ensures within { IfOk result (λ v. vec_len v ≤ MAX_INPUT_BYTES) }
+    ensures read { IsErrOf result RunFault.Read →
+        IsUnread (R.remaining input.old) (R.has_failed input.new) (R.was_interrupted input.new) }
+    ensures failed { R.has_failed input.new ≡ true → IsErrOf result RunFault.Read }
+    ensures write { IsErrOf result RunFault.Write → ⊥ }
+{
+    Ok(read_all(alloc, input, MAX_INPUT_BYTES)?)
+}
+
+/// The line of an answer, without a line feed, and its status.
+fn line_and_status(
+    alloc: Global,
+    answer: Result<Verdict, AuditError>,
+) -> Result<(String, u8), RunFault>
+    requires { IfOk answer IsCoded }
+    ensures line { IfOk result (λ told. string_bytes told.0 ≡ answer_line answer) }
+    ensures status { IfOk result (λ told. told.1 ≡ answer_status answer) }
+    ensures answered { OnOk result (answer ≢ Err AuditError.Memory) }
+    ensures memory { IfErr result (λ fault. fault ≡ RunFault.Memory) }
+{
+    match answer {
+        Ok(verdict) => Ok((verdict_text(alloc, &verdict)?, status_of(verdict))),
+        Err(AuditError::OrderText { line }) => Ok((order_text(alloc, line)?, ORDER_TEXT)),
+        Err(AuditError::Memory) => Err(RunFault::Memory),
+    }
+}
+
+/// Writes the line of an answer and a line feed: the status of the answer.
+fn tell<W: Output>(
+    alloc: Global,
+    answer: Result<Verdict, AuditError>,
+    out: &mut W,
+) -> Result<u8, RunFault>
+    requires coded { IfOk answer IsCoded }
+    requires unbroken { W.is_broken out.old ≡ false }
+    ensures told { IfOk result (IsTold answer (W.written out.old) (W.written out.new)) }
+    ensures answered { OnOk result (answer ≢ Err AuditError.Memory) }
+    ensures memory { IsErrOf result RunFault.Memory →
+        Keeps (W.written out.old) (W.written out.new) }
+    ensures read { IsErrOf result RunFault.Read → ⊥ }
+    ensures write { IsErrOf result RunFault.Write ↔ (W.is_broken out.new ≡ true) }
+{
+    let (mut line, status) = line_and_status(alloc, answer)?;
+    line.push('\n')?;
+    out.put(line.as_bytes())?;
+    Ok(status)
+}
+
+/// Audits a capture against an order: reads the capture and then the order, writes the line of the audit's answer and
+/// a line feed by one put, and answers the status.
+///
+/// The status is 0 where the verdict is legal, 1 at a fault of the capture, 2 where the order is not shown to explain
+/// the capture, and 3 where the order text is not in its grammar. Both inputs are read to their end before anything
+/// is judged. No mark of an input or of the output is set at the call.
+///
+/// # Errors
+///
+/// - [`RunFault::Read`] where an input failed, did not come to its end, or has more than [`MAX_INPUT_BYTES`] bytes.
+/// - [`RunFault::Write`] where the output did not take the whole line.
+/// - [`RunFault::Memory`] where memory was refused.
+///
+/// Nothing was written at `Read` and `Memory`. At `Write` nothing is said of what went out.
+///
+/// # Cost
+///
+/// That of [`read_all`] for each input and of [`audit`].
+pub fn run<R: Input, W: Output>(
+    alloc: Global,
+    capture: &mut R,
+    order: &mut R,
+    out: &mut W,
+) -> Result<u8, RunFault>
+    requires capture_unfailed { R.has_failed capture.old ≡ false }
+    requires capture_uninterrupted { R.was_interrupted capture.old ≡ false }
+    requires order_unfailed { R.has_failed order.old ≡ false }
+    requires order_uninterrupted { R.was_interrupted order.old ≡ false }
+    requires unbroken { W.is_broken out.old ≡ false }
+
+    // The line of the audit's answer on the bytes that were read.
+    ensures told { IfOk result (IsAudited (R.remaining capture.old) (R.remaining order.old)
+        (W.written out.old) (W.written out.new)) }
+
+    // When each fault comes.
+    ensures read { IsErrOf result RunFault.Read →
+        IsUnread (R.remaining capture.old) (R.has_failed capture.new)
+        (R.was_interrupted capture.new)
+        ⊎ IsUnread (R.remaining order.old) (R.has_failed order.new)
+        (R.was_interrupted order.new) }
+    ensures failed { (R.has_failed capture.new ≡ true) ⊎ (R.has_failed order.new ≡ true) →
+        IsErrOf result RunFault.Read }
+    ensures write { IsErrOf result RunFault.Write ↔ (W.is_broken out.new ≡ true) }
+
+    // Nothing was written.
+    ensures unread { IsErrOf result RunFault.Read →
+        Keeps (W.written out.old) (W.written out.new) }
+    ensures refused { IsErrOf result RunFault.Memory →
+        Keeps (W.written out.old) (W.written out.new) }
+{
+    let capture = input_bytes(alloc, capture)?;
+    let order = input_bytes(alloc, order)?;
+    tell(alloc, audit(alloc, &capture, None, &order), out)
+}
