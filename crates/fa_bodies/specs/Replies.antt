@@ -11,7 +11,7 @@ use Rattle.fa_bodies.specs.Structs.{out_header, entry_out, init_out}
 use Rattle.fa_bodies.specs.Requests.{PlainBody, PlainRequest, IsLengthRight}
 use Rattle.fa_bodies.specs.Requests.PlainBody.{Lookup, Init}
 
--- a reply, without where its bytes lie in memory
+-- What a reply says, case by case that of `Reply`: no reply has slices yet.
 pub data PlainReply : Type 0 where
   Refused : (error : ℤ) → PlainReply
   Entry : EntryOut → PlainReply
@@ -25,10 +25,10 @@ reply_shown (declared.Negotiated n) = Agreed n
 
 -- an error that a reply may have here: -999 to 0
 abbrev pub IsErrorValue : ℤ → Type 0
-IsErrorValue error = (negsuc 998 ≤ℤ error) × (error ≤ℤ pos 0)
+IsErrorValue error = (negsuc 998 ≤ℤ error) × (error ≤ℤ pos 0)  -- negsuc 998 is -999
 
 -- The bytes begin with this head of a reply: the header's len is the length of the whole, its error
--- is in range, and its unique is that of a request.
+-- is in range, and its unique is not 0.
 pub record IsReplyHead (bytes : List ℕ) (head : ReplyHead) : Type 0 where
   pub body_bytes : List ℕ
   pub header : BeginsWith bytes (out_header (length bytes) head.error head.unique) body_bytes

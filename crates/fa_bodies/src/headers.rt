@@ -17,6 +17,7 @@ pub(crate) const OUT_HEADER: usize = 16;
 /// The header of a request, as far as it is read (`struct fuse_in_header`).
 #[derive(Clone, Copy)]
 pub(crate) struct InHeader {
+    /// The length of the whole message. Clauses speak of it, and no code reads it.
     pub len: u32,
     pub opcode: u32,
     pub unique: u64,
@@ -26,6 +27,7 @@ pub(crate) struct InHeader {
 /// The header of a reply (`struct fuse_out_header`).
 #[derive(Clone, Copy)]
 pub(crate) struct OutHeader {
+    /// The length of the whole message. Clauses speak of it, and no code reads it.
     pub len: u32,
     pub error: i32,
     pub unique: u64,

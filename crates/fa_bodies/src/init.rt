@@ -1,4 +1,4 @@
-//! What INIT asks for, and what its answer agrees to.
+//! What INIT asks for, and what its answer says.
 
 ghost use Rattle.std.specs.Prelude.{◌≡◌, ◌≤◌, List, ℕ, length, IfSome, IfNone};
 ghost use Rattle.fa_bodies.specs.Fields.{BeginsWith};
@@ -26,8 +26,8 @@ pub struct InitIn {
     pub flags: InitFlags,
 }
 
-/// What the server agrees to (the first fields of `struct fuse_init_out`): its version, the bytes
-/// to read ahead at most, and the flags.
+/// What the server answers (the first fields of `struct fuse_init_out`): its version, the bytes to
+/// read ahead at most, and the flags that it sets. Agreed are the flags that both sides set.
 #[derive(Clone, Copy, Debug)]
 pub struct Negotiated {
     pub major: u32,
@@ -54,7 +54,7 @@ pub(crate) fn init_in_at(bytes: &[u8]) -> (InitIn, &[u8])
     (init, rest)
 }
 
-/// What the answer of INIT agrees to, at the front of bytes, and what stands behind it.
+/// What the answer of INIT says, at the front of bytes, and what stands behind it.
 pub(crate) fn negotiated_at(bytes: &[u8]) -> (Negotiated, &[u8])
     requires { 16 ≤ length bytes.now }
     ensures { BeginsWith bytes.now (init_out result.0) result.1.now }
@@ -85,7 +85,7 @@ pub(crate) fn init_body(body: &[u8]) -> Option<InitIn>
     Some(init)
 }
 
-/// What the answer of INIT agrees to, by its whole body.
+/// What the answer of INIT says, by its whole body.
 pub(crate) fn negotiated_body(body: &[u8]) -> Option<Negotiated>
     ensures found { IfSome result (λ n. IsInitOut body.now n) }
     ensures none { IfNone result ((n : Negotiated) → IsInitOut body.now n → ⊥) }

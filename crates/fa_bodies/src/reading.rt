@@ -80,7 +80,7 @@ fn init(body: &[u8]) -> Option<RequestBody<'_>>
 /// The head of a reply.
 ///
 /// The message has the header `struct fuse_out_header` of `fuse.h` (16 bytes): its length, an error
-/// from -999 to 0, and the unique of a request.
+/// from -999 to 0, and a unique other than 0.
 ///
 /// Errors are codes of [`fa_capture::codes`], the first that applies: `HEADER_TOO_SHORT` for fewer
 /// than 16 bytes, `LENGTH_FIELD` where the header's length is not that of the message,
