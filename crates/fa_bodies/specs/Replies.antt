@@ -1,6 +1,6 @@
 -- What bytes are a reply, and which one.
-use Rattle.std.specs.Prelude.{◌≡◌, ◌≢◌, ℕ, ◌≤◌, ℤ, pos, negsuc, ◌≤ℤ◌, ◌⊎◌, List, [], ◌∷◌, length}
-use Rattle.fa_capture.specs.declared.codes.TheConstants.{HEADER_TOO_SHORT, LENGTH_FIELD, ERROR_VALUE, NOTIFICATION, REPLY_BODY}
+use Rattle.std.specs.Prelude.{◌≡◌, ◌≢◌, ℕ, ◌≤◌, ℤ, pos, negsuc, ◌≤ℤ◌, ◌⊎◌, List, [], ◌∷◌, ◌++◌, length}
+use Rattle.fa_capture.specs.declared.codes.TheConstants.{ERROR_VALUE, NOTIFICATION, REPLY_BODY}
 use Rattle.fa_bodies.specs.declared.entry.EntryOut.{EntryOut}
 use Rattle.fa_bodies.specs.declared.init.Negotiated.{Negotiated}
 use Rattle.fa_bodies.specs.declared.replies.ReplyHead.{ReplyHead}
@@ -8,7 +8,7 @@ use Rattle.fa_bodies.specs.declared.replies.Reply.{Reply}
 use Rattle.fa_bodies.specs.declared.replies.Reply.TheVariants as declared
 use Rattle.fa_bodies.specs.Fields.{BeginsWith}
 use Rattle.fa_bodies.specs.Structs.{out_header, entry_out, init_out}
-use Rattle.fa_bodies.specs.Requests.{PlainBody, PlainRequest, IsLengthRight}
+use Rattle.fa_bodies.specs.Requests.{PlainBody, PlainRequest, length_checks}
 use Rattle.fa_bodies.specs.Requests.PlainBody.{Lookup, Init}
 
 -- What a reply says, case by case that of `Reply`: no reply has slices yet.
@@ -49,9 +49,8 @@ pub record HasReplyHeader (bytes : List ℕ) (Such : ℤ → ℕ → Type 0) : T
 -- the checks hold exactly where the bytes begin with the head of a reply.
 abbrev pub reply_head_checks : List ℕ → List (ℕ × Type 0)
 reply_head_checks bytes =
-    (HEADER_TOO_SHORT, 16 ≤ length bytes)
-    ∷ (LENGTH_FIELD, IsLengthRight bytes)
-    ∷ (ERROR_VALUE, HasReplyHeader bytes (λ error unique. unique ≢ 0 → IsErrorValue error))
+    length_checks 16 bytes
+    ++ (ERROR_VALUE, HasReplyHeader bytes (λ error unique. unique ≢ 0 → IsErrorValue error))
     ∷ (NOTIFICATION, HasReplyHeader bytes (λ error unique. unique ≢ 0))
     ∷ []
 

@@ -1,5 +1,5 @@
 -- What bytes are a request, and which one.
-use Rattle.std.specs.Prelude.{◌≡◌, ℕ, ◌≤◌, List, [], ◌∷◌, length, ◌⊎◌}
+use Rattle.std.specs.Prelude.{◌≡◌, ℕ, ◌≤◌, List, [], ◌∷◌, ◌++◌, length, ◌⊎◌}
 use Rattle.fa_capture.specs.declared.codes.TheConstants.{HEADER_TOO_SHORT, LENGTH_FIELD, OPERATION, REQUEST_BODY}
 use Rattle.fa_bodies.specs.declared.opcodes.TheConstants.{LOOKUP, INIT}
 use Rattle.fa_bodies.specs.declared.init.InitIn.{InitIn}
@@ -89,8 +89,7 @@ body_checks opcode body =
 -- bytes are a request.
 abbrev pub request_checks : List ℕ → List (ℕ × Type 0)
 request_checks bytes =
-    (HEADER_TOO_SHORT, 40 ≤ length bytes)
-    ∷ (LENGTH_FIELD, IsLengthRight bytes)
-    ∷ (OPERATION, HasRequestHeader bytes (λ opcode body. IsOperation opcode))
+    length_checks 40 bytes
+    ++ (OPERATION, HasRequestHeader bytes (λ opcode body. IsOperation opcode))
     ∷ (REQUEST_BODY, HasRequestHeader bytes HasBody)
     ∷ []
