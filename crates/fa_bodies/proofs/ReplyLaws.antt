@@ -13,7 +13,7 @@ use Rattle.fa_bodies.specs.Fields.Field.{U64, I32}
 use Rattle.fa_bodies.specs.Structs.{out_header, attr, entry_out, init_out}
 use Rattle.fa_bodies.specs.Requests.{PlainBody, PlainRequest, IsLengthRight, length_checks}
 use Rattle.fa_bodies.specs.Requests.PlainBody.{Lookup, Init}
-use Rattle.fa_bodies.specs.Replies.{PlainReply, IsErrorValue, IsReplyHead, HasReplyHeader, reply_head_checks, IsInitOut, IsSuccess, Says, IsReply, reply_shown}
+use Rattle.fa_bodies.specs.Replies.{PlainReply, IsErrorValue, IsReplyHead, HasReplyHeader, reply_head_checks, IsInitOut, IsSuccessBody, IsSuccess, Says, IsReply, reply_shown}
 use Rattle.fa_bodies.specs.Replies.PlainReply.{Entry, Agreed}
 use Rattle.fa_bodies.proofs.FieldLaws.{fields-one, length-fields}
 use Rattle.fa_bodies.proofs.RequestLaws.{len_right, right_by_len}
@@ -84,19 +84,19 @@ is_out_of_range bytes len error unique body hold p other out =
 
 pub reply_found : (asked : PlainRequest) (bytes : List ℕ) (given : (error : ℤ) × IsReplyHead bytes (record { unique = asked.unique; error = error }))
     (len : ℕ) (error : ℤ) (unique : ℕ) (body : List ℕ) (reply : PlainReply)
-    → BeginsWith bytes (out_header len error unique) body → Says asked.body error body reply → IsReply asked bytes reply
+    → BeginsWith bytes (out_header len error unique) body → Says asked error body reply → IsReply asked bytes reply
 reply_found asked bytes given len error unique body reply p says =
     let head = given.1 in
     let same = header-one bytes len (length bytes) error given.0 unique asked.unique body head.body_bytes p head.header in
-    record { error = given.0; head = head; body = subst (λ (e : ℤ). Says asked.body e head.body_bytes reply) same.errors (subst (λ (x : List ℕ). Says asked.body error x reply) same.bodies says) }
+    record { error = given.0; head = head; body = subst (λ (e : ℤ). Says asked e head.body_bytes reply) same.errors (subst (λ (x : List ℕ). Says asked error x reply) same.bodies says) }
 
 pub reply_says : (asked : PlainRequest) (bytes : List ℕ) (len : ℕ) (error : ℤ) (unique : ℕ) (body : List ℕ) (reply : PlainReply)
-    → BeginsWith bytes (out_header len error unique) body → IsReply asked bytes reply → Says asked.body error body reply
+    → BeginsWith bytes (out_header len error unique) body → IsReply asked bytes reply → Says asked error body reply
 reply_says asked bytes len error unique body reply p is =
     let same = header-one bytes (length bytes) len is.error error asked.unique unique is.head.body_bytes body is.head.header p in
-    subst (λ (e : ℤ). Says asked.body e body reply) same.errors (subst (λ (x : List ℕ). Says asked.body is.error x reply) same.bodies is.body)
+    subst (λ (e : ℤ). Says asked e body reply) same.errors (subst (λ (x : List ℕ). Says asked is.error x reply) same.bodies is.body)
 
-pub says_success : (asked : PlainBody) (error : ℤ) (body : List ℕ) (reply : PlainReply) → error ≡ pos 0 → Says asked error body reply → IsSuccess asked body reply
+pub says_success : (asked : PlainRequest) (error : ℤ) (body : List ℕ) (reply : PlainReply) → error ≡ pos 0 → Says asked error body reply → IsSuccess asked body reply
 says_success asked error body reply e says = elim says [ inl s ↦ s.1 | inr r ↦ absurd (r.0 e) ]
 
 -- ---- the laws
@@ -191,20 +191,20 @@ init_out-one body a b p q =
     let whole : made a.major a.minor a.max_readahead a.flags.0 ≡ made b.major b.minor b.max_readahead b.flags.0 = rw (e1, e2, e3, e4) refl in
     whole
 
-success-one : (asked : PlainBody) (body : List ℕ) (a b : PlainReply) → IsSuccess asked body a → IsSuccess asked body b → a ≡ b
-success-one (Lookup name) body a b p q = p.1 ∙ ap (λ (e : EntryOut). Entry e) (entry-one body [] [] p.0 q.0 p.2 q.2) ∙ sym q.1
-success-one (Init i) body a b p q = p.1 ∙ ap (λ (n : Negotiated). Agreed n) (init_out-one body p.0 q.0 p.2 q.2) ∙ sym q.1
+success_body-one : (opcode : ℕ) (asked : PlainBody) (body : List ℕ) (a b : PlainReply) → IsSuccessBody opcode asked body a → IsSuccessBody opcode asked body b → a ≡ b
+success_body-one opcode (Lookup name) body a b p q = p.1 ∙ ap (λ (e : EntryOut). Entry e) (entry-one body [] [] p.0 q.0 p.2 q.2) ∙ sym q.1
+success_body-one opcode (Init i) body a b p q = p.1 ∙ ap (λ (n : Negotiated). Agreed n) (init_out-one body p.0 q.0 p.2 q.2) ∙ sym q.1
 
-says-one : (asked : PlainBody) (error : ℤ) (body : List ℕ) (a b : PlainReply) → Says asked error body a → Says asked error body b → a ≡ b
+says-one : (asked : PlainRequest) (error : ℤ) (body : List ℕ) (a b : PlainReply) → Says asked error body a → Says asked error body b → a ≡ b
 says-one asked error body a b p q =
     elim p [
-      | inl s ↦ success-one asked body a b s.1 (says_success asked error body b s.0 q)
+      | inl s ↦ success_body-one asked.opcode asked.body body a b s.1 (says_success asked error body b s.0 q)
       | inr r ↦ elim q [ inl t ↦ absurd (r.0 t.0) | inr t ↦ r.1 ∙ sym t.1 ]
     ]
 
 pub reply-one : (asked : PlainRequest) (bytes : List ℕ) (a b : PlainReply) → IsReply asked bytes a → IsReply asked bytes b → a ≡ b
 reply-one asked bytes a b p q =
-    says-one asked.body p.error p.head.body_bytes a b p.body (reply_says asked bytes (length bytes) p.error asked.unique p.head.body_bytes b p.head.header q)
+    says-one asked p.error p.head.body_bytes a b p.body (reply_says asked bytes (length bytes) p.error asked.unique p.head.body_bytes b p.head.header q)
 
 -- what was found is all that there is
 pub only_reply : (asked : PlainRequest) (bytes : List ℕ) (read : Result Reply ℕ) → IfOk read (λ reply. IsReply asked bytes (reply_shown reply)) → IfOk read (λ reply. (other : PlainReply) → IsReply asked bytes other → other ≡ reply_shown reply)

@@ -60,17 +60,21 @@ IsInitOut body n =
     (24 ≤ length body) × (length body ≤ 64)
     × (unread : List ℕ) × BeginsWith body (init_out n) unread
 
--- The body of a success, by the request that it answers: one case an operation.
-abbrev pub IsSuccess : PlainBody → List ℕ → PlainReply → Type 0
+-- The body of a success to a request with this opcode and body: one case an operation.
+abbrev pub IsSuccessBody : (opcode : ℕ) → PlainBody → List ℕ → PlainReply → Type 0
 -- struct fuse_entry_out
-IsSuccess (Lookup name) body reply =
+IsSuccessBody opcode (Lookup name) body reply =
     (e : EntryOut) × (reply ≡ Entry e) × BeginsWith body (entry_out e) []
 -- struct fuse_init_out
-IsSuccess (Init i) body reply = (n : Negotiated) × (reply ≡ Agreed n) × IsInitOut body n
+IsSuccessBody opcode (Init i) body reply =
+    (n : Negotiated) × (reply ≡ Agreed n) × IsInitOut body n
 
--- What a reply with this error and body says to a request with this body: an error other than 0
--- has no body.
-abbrev pub Says : PlainBody → ℤ → List ℕ → PlainReply → Type 0
+-- the body of a success to a request
+abbrev pub IsSuccess : (asked : PlainRequest) → List ℕ → PlainReply → Type 0
+IsSuccess asked body reply = IsSuccessBody asked.opcode asked.body body reply
+
+-- What a reply with this error and body says to a request: an error other than 0 has no body.
+abbrev pub Says : (asked : PlainRequest) → ℤ → List ℕ → PlainReply → Type 0
 Says asked error body reply =
     ((error ≡ pos 0) × IsSuccess asked body reply)
     ⊎ ((error ≢ pos 0) × (reply ≡ Refused error) × (body ≡ []))
@@ -79,7 +83,7 @@ Says asked error body reply =
 pub record IsReply (asked : PlainRequest) (bytes : List ℕ) (reply : PlainReply) : Type 0 where
   pub error : ℤ
   pub head : IsReplyHead bytes (record { unique = asked.unique; error = error })
-  pub body : Says asked.body error head.body_bytes reply
+  pub body : Says asked error head.body_bytes reply
 
 -- The check of a reply whose header was read, with its code.
 abbrev pub reply_checks : PlainRequest → List ℕ → List (ℕ × Type 0)

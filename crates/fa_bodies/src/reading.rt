@@ -136,15 +136,15 @@ pub fn reply_body(asked: &Request<'_>, p: &Packet<'_>) -> Result<Reply, u16>
     ensures fault { IfErr result (FirstFailure (reply_checks (request_shown asked.now) p.now.bytes.now)) }
 {
     let (header, body) = out_header_at(p.bytes);
-    said(&asked.body, header.error, body).ok_or(codes::REPLY_BODY)
+    said(asked, header.error, body).ok_or(codes::REPLY_BODY)
 }
 
 /// What a reply with this error and body says to a request.
-fn said(asked: &RequestBody<'_>, error: i32, body: &[u8]) -> Option<Reply>
+fn said(asked: &Request<'_>, error: i32, body: &[u8]) -> Option<Reply>
     ensures found { IfSome result
-        (λ reply. Says (body_shown asked.now) error body.now (reply_shown reply)) }
+        (λ reply. Says (request_shown asked.now) error body.now (reply_shown reply)) }
     ensures none { IfNone result
-        ((reply : PlainReply) → Says (body_shown asked.now) error body.now reply → ⊥) }
+        ((reply : PlainReply) → Says (request_shown asked.now) error body.now reply → ⊥) }
 {
     if error == 0 {
         success(asked, body)
@@ -156,13 +156,13 @@ fn said(asked: &RequestBody<'_>, error: i32, body: &[u8]) -> Option<Reply>
 }
 
 /// What the body of a success says to a request.
-fn success(asked: &RequestBody<'_>, body: &[u8]) -> Option<Reply>
+fn success(asked: &Request<'_>, body: &[u8]) -> Option<Reply>
     ensures found { IfSome result
-        (λ reply. IsSuccess (body_shown asked.now) body.now (reply_shown reply)) }
+        (λ reply. IsSuccess (request_shown asked.now) body.now (reply_shown reply)) }
     ensures none { IfNone result
-        ((reply : PlainReply) → IsSuccess (body_shown asked.now) body.now reply → ⊥) }
+        ((reply : PlainReply) → IsSuccess (request_shown asked.now) body.now reply → ⊥) }
 {
-    match asked {
+    match asked.body {
         RequestBody::Lookup { .. } => Some(Reply::Entry(entry_body(body)?)),
         RequestBody::Init(_) => Some(Reply::Negotiated(negotiated_body(body)?)),
     }

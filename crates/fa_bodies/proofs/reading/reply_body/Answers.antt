@@ -25,7 +25,7 @@ returns-clause-found c =
     let body = c.out_header_at.result.1.now in
     let exact = to_z-of_z w32 h.error c.out_header_at.ensures.3.0 in
     rw c.ok_or.ensures.value (ok_or_value c.said.result REPLY_BODY
-    (λ (r : Reply). Says asked.body h.error body (reply_shown r)) (λ (r : Reply). IsReply asked bytes (reply_shown r))
+    (λ (r : Reply). Says asked h.error body (reply_shown r)) (λ (r : Reply). IsReply asked bytes (reply_shown r))
     (λ r says. reply_found asked bytes c.requires h.len h.error h.unique body (reply_shown r) c.out_header_at.ensures says)
     (rw exact at c.said.ensures.found))
 
@@ -37,7 +37,7 @@ returns-clause-fault c =
     let body = c.out_header_at.result.1.now in
     let exact = to_z-of_z w32 h.error c.out_header_at.ensures.3.0 in
     rw c.ok_or.ensures.value (ok_or_error c.said.result REPLY_BODY
-    ((reply : PlainReply) → Says asked.body h.error body reply → ⊥) (λ (code : ℕ). FirstFailure (reply_checks asked bytes) code)
+    ((reply : PlainReply) → Says asked h.error body reply → ⊥) (λ (code : ℕ). FirstFailure (reply_checks asked bytes) code)
     (λ none. inl ((λ found. none found.0 (reply_says asked bytes h.len h.error h.unique body found.0 c.out_header_at.ensures found.1)), refl))
     (rw exact at c.said.ensures.none))
 
