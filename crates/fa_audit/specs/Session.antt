@@ -3,6 +3,7 @@ use Rattle.std.specs.Prelude.{◌≡◌, ◌≢◌, ℕ, ◌^◌, min, List, [],
 use Rattle.std.specs.Int.RustNames.{bit_and}
 use Rattle.fa_capture.specs.declared.codes.TheConstants.{FIRST_NOT_INIT, SECOND_INIT, BEFORE_INIT_ANSWERED, INIT_REFUSED, VERSION, NEGOTIATED_FLAGS, UNIQUE_IN_USE, NO_REQUEST_WAITS, UNIQUE_ZERO, REPLY_BODY}
 use Rattle.fa_capture.specs.Message.{Message}
+use Rattle.fa_bodies.specs.Flags.{init_bits}
 use Rattle.fa_bodies.specs.Requests.{PlainRequest, PlainBody}
 use Rattle.fa_bodies.specs.Requests.PlainBody.{Lookup, Init}
 use Rattle.fa_bodies.specs.Replies.{PlainReply, IsReply}
@@ -43,8 +44,8 @@ AreFlagsRight (Lookup name) reply = Unit {0}
 AreFlagsRight (Init i) (Refused error) = Unit {0}
 AreFlagsRight (Init i) (Entry e) = Unit {0}
 AreFlagsRight (Init i) (Agreed n) =
-    (HasFlag i.flags.0 (2 ^ 16) → HasFlag n.flags.0 (2 ^ 16) → ⊥)
-    × (HasFlag i.flags.0 (2 ^ 20) → HasFlag n.flags.0 (2 ^ 20) → ⊥)
+    (HasFlag (init_bits i.flags) (2 ^ 16) → HasFlag (init_bits n.flags) (2 ^ 16) → ⊥)
+    × (HasFlag (init_bits i.flags) (2 ^ 20) → HasFlag (init_bits n.flags) (2 ^ 20) → ⊥)
 
 -- if the message is a request, this holds of it
 abbrev pub ForRequest : Message → (PlainRequest → Type 0) → Type 0

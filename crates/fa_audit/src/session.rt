@@ -3,6 +3,7 @@
 ghost use Rattle.std.specs.Prelude.{◌≡◌, ◌↔◌, ◌<◌, ◌∷◌, ◌++◌, ℕ, List, [], Option, Some, None, IsTrue, OnOk, OnErr, IfOk, IfErr};
 ghost use Rattle.fa_capture.specs.Checks.{AllHold, FirstFailure};
 ghost use Rattle.fa_capture.specs.Message.{Message, message};
+ghost use Rattle.fa_bodies.specs.Flags.{init_bits};
 ghost use Rattle.fa_bodies.specs.Requests.{body_shown};
 ghost use Rattle.fa_bodies.specs.Replies.{reply_shown};
 ghost use Rattle.fa_capture.specs.declared.limits.TheConstants.{MAX_MESSAGES};
@@ -162,7 +163,7 @@ fn is_init(body: &RequestBody<'_>) -> bool
 
 /// Whether both sides set the flag.
 fn is_agreed(init: &InitIn, answer: &Negotiated, flag: InitFlags) -> bool
-    ensures { IsTrue result ↔ (HasFlag init.now.flags.0 flag.0 × HasFlag answer.now.flags.0 flag.0) }
+    ensures { IsTrue result ↔ (HasFlag (init_bits init.now.flags) (init_bits flag) × HasFlag (init_bits answer.now.flags) (init_bits flag)) }
 {
     init.flags.contains(flag) && answer.flags.contains(flag)
 }
