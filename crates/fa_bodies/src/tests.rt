@@ -25,6 +25,42 @@ const FIRST_CAPTURE: [u8; 222] = [
     0x01, 0x10, 0, 0, 0, 0x10, 0, 0, 0, 0xfe, 0xff, 0xff, 0xff, 0x04, 0, 0, 0, 0, 0, 0, 0,
 ];
 
+/// An INIT. The bytes of each field behind the opcode are its own, and the high bits of `unique`,
+/// `nodeid`, `max_readahead` and `flags` are set.
+#[rattlefmt::skip]
+const INIT_REQUEST: [u8; 56] = [
+    // len, opcode
+    0x38, 0, 0, 0, 0x1a, 0, 0, 0,
+    // unique, nodeid
+    0x01, 0x02, 0x03, 0x04, 0x05, 0x06, 0x07, 0xf8, 0x09, 0x0a, 0x0b, 0x0c, 0x0d, 0x0e, 0x0f, 0xf0,
+    // uid, gid, pid, padding
+    0x11, 0x12, 0x13, 0x14, 0x15, 0x16, 0x17, 0x18, 0x19, 0x1a, 0x1b, 0x1c, 0x1d, 0x1e, 0x1f, 0x20,
+    // major, minor, max_readahead, flags
+    0x21, 0x22, 0x23, 0x24, 0x25, 0x26, 0x27, 0x28, 0x29, 0x2a, 0x2b, 0xac, 0x2d, 0x2e, 0x2f, 0xb0,
+];
+
+/// The answer to it, of 24 bytes behind the header.
+#[rattlefmt::skip]
+const INIT_ANSWER: [u8; 40] = [
+    // len, error
+    0x28, 0, 0, 0, 0, 0, 0, 0,
+    // unique
+    0x01, 0x02, 0x03, 0x04, 0x05, 0x06, 0x07, 0xf8,
+    // major, minor, max_readahead, flags
+    0x31, 0x32, 0x33, 0x34, 0x35, 0x36, 0x37, 0x38, 0x39, 0x3a, 0x3b, 0xbc, 0x3d, 0x3e, 0x3f, 0xc0,
+    // max_background, congestion_threshold, max_write
+    0x41, 0x42, 0x43, 0x44, 0x45, 0x46, 0x47, 0x48,
+];
+
+/// A refusal. The error is -742.
+#[rattlefmt::skip]
+const REFUSAL: [u8; 16] = [
+    // len, error
+    0x10, 0, 0, 0, 0x1a, 0xfd, 0xff, 0xff,
+    // unique
+    0x51, 0x52, 0x53, 0x54, 0x55, 0x56, 0x57, 0xd8,
+];
+
 fn to_server(bytes: &[u8]) -> Packet<'_> {
     Packet {
         direction: Direction::ToServer,
@@ -311,6 +347,70 @@ fn attributes_from_40(rt: &impl Abort, a: &Attributes) {
     assert_eq!(rt; a.gid, 0x7372_7170);
     assert_eq!(rt; a.rdev, 0x7776_7574);
     assert_eq!(rt; a.blksize, 0x7b7a_7978);
+}
+
+/// Each field of a request's header and of INIT stands at its place.
+#[test]
+fn init_request_fields(rt: HostRuntime) -> Result<(), Fail> {
+    let init = request(&to_server(&INIT_REQUEST))?;
+    assert_eq!(rt; init.unique, 0xf807_0605_0403_0201);
+    assert_eq!(rt; init.node, 0xf00f_0e0d_0c0b_0a09);
+    assert_eq!(rt; init.opcode, 26);
+    match init.body {
+        RequestBody::Init(asked) => {
+            assert_eq!(rt; asked.major, 0x2423_2221);
+            assert_eq!(rt; asked.minor, 0x2827_2625);
+            assert_eq!(rt; asked.max_readahead, 0xac2b_2a29);
+            assert_eq!(rt; asked.flags.bits(), 0xb02f_2e2d);
+        }
+        RequestBody::Lookup { .. } => assert!(rt; false, "an INIT"),
+    }
+    Ok(())
+}
+
+/// Each field of a reply's header and of INIT's answer stands at its place.
+#[test]
+fn init_answer_fields(rt: HostRuntime) -> Result<(), Fail> {
+    let head = reply_head(&from_server(&REFUSAL))?;
+    assert_eq!(rt; head.unique, 0xd857_5655_5453_5251);
+    assert_eq!(rt; head.error, -742);
+    let head = reply_head(&from_server(&INIT_ANSWER))?;
+    assert_eq!(rt; (head.unique, head.error), (0xf807_0605_0403_0201, 0));
+    let init = request(&to_server(&INIT_REQUEST))?;
+    match reply(&rt, &init, &INIT_ANSWER)? {
+        Reply::Negotiated(answer) => {
+            assert_eq!(rt; answer.major, 0x3433_3231);
+            assert_eq!(rt; answer.minor, 0x3837_3635);
+            assert_eq!(rt; answer.max_readahead, 0xbc3b_3a39);
+            assert_eq!(rt; answer.flags.bits(), 0xc03f_3e3d);
+        }
+        _ => assert!(rt; false, "an answer of INIT"),
+    }
+    Ok(())
+}
+
+/// All four bytes of the length and of the opcode count.
+#[test]
+fn whole_fields(rt: HostRuntime) -> Result<(), Fail> {
+    for (at, byte, code) in [(0, 0x37, 11), (0, 0x39, 11), (3, 0x80, 11), (7, 0x80, 12)] {
+        let mut message = INIT_REQUEST;
+        message[at] = byte;
+        assert_eq!(rt;
+            request(&to_server(&message)).err(),
+            Some(code),
+            "byte {at} is {byte}"
+        );
+    }
+    for (at, byte) in [(0, 0x27), (0, 0x29), (3, 0x80)] {
+        let mut message = INIT_ANSWER;
+        message[at] = byte;
+        assert_eq!(rt;
+            reply_head(&from_server(&message)).err(),
+            Some(11),
+            "byte {at} is {byte}"
+        );
+    }
+    Ok(())
 }
 
 /// Bits that no flag names are kept.
