@@ -15,3 +15,4 @@ pub mod AuditLemmas
 pub mod RunLemmas
 pub mod AnswerLemmas
 pub mod CodedLemmas
+pub mod CommandLineLemmas

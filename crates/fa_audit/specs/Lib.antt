@@ -14,3 +14,4 @@ pub mod Placed
 pub mod Line
 pub mod Run
 pub mod Failure
+pub mod CommandLine

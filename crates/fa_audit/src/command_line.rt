@@ -1,5 +1,8 @@
 //! The words of the command line.
 
+ghost use Rattle.std.specs.Prelude.{◌≡◌, ◌⊎◌, None, Some, IfSome, IsNone, codes};
+ghost use Rattle.fa_audit.specs.CommandLine.{value_of};
+
 use clap::{Arg, ArgAction, ArgMatches, Command};
 use std::alloc::{AllocError, Global};
 
@@ -17,7 +20,14 @@ pub struct CheckPaths<'a> {
 
 impl<'a> CheckPaths<'a> {
     /// The files that a parse by [`command`] found; there are none only where the words were no call of `check`.
-    pub fn new(matches: &ArgMatches<'a>) -> Option<Self> {
+    pub fn new(matches: &ArgMatches<'a>) -> Option<Self>
+        ensures capture { IfSome result (λ paths.
+            value_of matches.now (codes "capture") ≡ Some paths.capture.now) }
+        ensures order { IfSome result (λ paths.
+            value_of matches.now (codes "order") ≡ Some paths.order.now) }
+        ensures none { IsNone result → (value_of matches.now (codes "capture") ≡ None)
+            ⊎ (value_of matches.now (codes "order") ≡ None) }
+    {
         let (_, options) = matches.subcommand()?;
         Some(CheckPaths {
             capture: options.get_str(CAPTURE)?,
