@@ -33,7 +33,7 @@ pub record IsAudited (capture order old new : Option (List ℕ)) (status : ℕ) 
   pub is_answer : IsAnswer capture_bytes order_bytes answer
   pub told : IsTold answer old new status
 
--- The input failed or was interrupted, or it tells its bytes and has more than an input may have.
+-- The input failed or was interrupted, or has more bytes than an input may have, where it tells its bytes.
 abbrev pub IsUnread : Option (List ℕ) → Bool → Bool → Type 0
 IsUnread remaining failed interrupted =
     (failed ≡ true) ⊎ (interrupted ≡ true) ⊎ IfSome remaining (λ bytes. MAX_INPUT_BYTES < length bytes)

@@ -16,14 +16,17 @@ use std::alloc::Global;
 
 /// Judges a capture and an order.
 ///
-/// The capture is judged in one pass, and its first fault is told: at the least number of a message that does not
-/// pass or of the framing fault, with the first check that it fails. Then the order text is read, and its entries are
-/// replayed on a tree that is an empty root with the permission bits 755. No tree text can be handed in yet: `tree` is
-/// None.
+/// The capture is judged message by message, by the message grammar of fuse.h 7.31 and this profile's rules of a session
+/// and of node ids. Then the order text is read, in this profile's format, and its entries are replayed on a tree that
+/// is an empty root with the permission bits 755 (octal), by steps modelled on POSIX.1-2017. No tree text can be handed
+/// in yet: `tree` is None. The order text has at most 268,435,456 bytes.
 ///
-/// The answer is [`Verdict::Legal`] exactly where the capture is good, the order text is in its grammar and its entries
-/// are a valid order and a run of the tree machine that gives each recorded reply. The order text has at most
-/// 268,435,456 bytes.
+/// - [`Verdict::Fault`] exactly where the capture is not good: at the least number of a message that does not pass or
+///   of the framing fault, with the first check that it fails, as one of [`codes`](fa_capture::codes).
+/// - [`Verdict::NotShown`] where the capture is good and the order text is in its grammar, at the first entry that fails
+///   a check, with the first such check, or after all entries at the least answered request that they leave out.
+/// - [`Verdict::Legal`] exactly where the capture is good, the order text is in its grammar and its entries are a valid
+///   order and a run of the tree machine that gives each recorded reply.
 ///
 /// # Errors
 ///
@@ -32,7 +35,8 @@ use std::alloc::Global;
 ///
 /// # Cost
 ///
-/// Time linear in the bytes of the capture and of the order. Memory for a packet a message, a call an answered tree
+/// Time linear in the bytes of the capture and of the order, with three passes: over the bytes of the capture, over its
+/// messages, and over the order. Memory for a packet a message, a call an answered tree
 /// request and an entry a line; message bytes are not copied.
 pub fn audit(
     alloc: Global,
@@ -51,6 +55,7 @@ pub fn audit(
     // A code that is told has a text.
     ensures codes { IfOk result IsCoded }
 {
+    // Tree texts can't be read yet.
     prove!(tree.is_none());
     // A capture and an order have one answer at most, so the one that is found is it.
     laws::one_answer();

@@ -1,5 +1,8 @@
 //! What follows from the definitions alone.
 
+ghost use Rattle.std.specs.Prelude.{◌≡◌};
+ghost use Rattle.fa_audit.specs.declared.order.TheConstants.{MAX_TEXT_BYTES};
+ghost use Rattle.fa_audit.specs.declared.run.TheConstants.{MAX_INPUT_BYTES};
 ghost use Rattle.fa_audit.specs.Order.{OneOrderText, OneOrderFault, TextHasNoFault};
 ghost use Rattle.fa_audit.specs.Verdict.{OneAnswer};
 
@@ -26,3 +29,9 @@ pub fn one_answer()
     fa_bodies::laws::request_is_one();
     fa_bodies::laws::reply_is_one();
 }
+
+/// The limits of a text and of an input, as numbers.
+pub fn limits()
+    ensures text { MAX_TEXT_BYTES ≡ 268435456 }
+    ensures input { MAX_INPUT_BYTES ≡ 268435456 }
+{}

@@ -45,9 +45,17 @@ pub fn verdict_text(alloc: Global, verdict: &Verdict) -> Result<String, AllocErr
     }
 }
 
-/// The line of an order text that is not in its grammar, without a line feed: its first line that does not fit,
-/// counted from 1.
-pub fn order_text(alloc: Global, line: u32) -> Result<String, AllocError>
+/// The line of an order text that is not in its grammar, without a line feed: `order: line L: code 60: TEXT`, with its
+/// first line that does not fit, counted from 1.
+///
+/// # Errors
+///
+/// `AllocError` where memory for the line was refused.
+///
+/// # Cost
+///
+/// Constant time and memory.
+pub fn order_fault_text(alloc: Global, line: u32) -> Result<String, AllocError>
     ensures { IfOk result (λ text. string_bytes text ≡ order_line line) }
 {
     let code = codes::NOT_AN_ORDER_TEXT;

@@ -70,6 +70,7 @@ fn open<R: Files>(rt: &R, path: &str) -> Result<Device<R::File>, RunFault>
 {
     match File::open(rt, path) {
         Ok(file) => Ok(Device::new(file)),
+        Err(error) if error.kind() == ErrorKind::OutOfMemory => Err(RunFault::Memory),
         Err(_) => Err(RunFault::Read),
     }
 }

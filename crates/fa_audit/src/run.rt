@@ -1,12 +1,12 @@
 //! An audit from its inputs to the line that tells its answer.
 
 ghost use Rattle.std.specs.Prelude.{◌≡◌, ◌≢◌, ◌≤◌, ◌↔◌, ◌⊎◌, true, false, vec_len, string_bytes, IfOk, IfErr, IfSome, OnOk, IsErrOf};
-ghost use Rattle.std.specs.Io.KnownBytes.{Keeps};
+ghost use Rattle.std.specs.Io.KnownBytes.{IsAtEnd, Keeps};
 ghost use Rattle.fa_audit.specs.Line.{IsCoded, answer_line, answer_status};
 ghost use Rattle.fa_audit.specs.Run.{IsTold, IsAudited, IsUnread};
 
 use crate::judge::audit;
-use crate::line::{order_text, verdict_text};
+use crate::line::{order_fault_text, verdict_text};
 use crate::verdict::{AuditError, Verdict};
 use fa_capture::{Broken, Input, Output, ReadError, read_all};
 use std::alloc::{AllocError, AllocFailed, Global};
@@ -21,7 +21,7 @@ pub const MAX_INPUT_BYTES: usize = 268_435_456;
 /// Why no answer was told.
 #[derive(Clone, Copy, Debug, PartialEq, Eq, Hash, Error)]
 pub enum RunFault {
-    /// An input could not be read to its end, or has more than [`MAX_INPUT_BYTES`] bytes.
+    /// An input could not be opened or read to its end, or has more than [`MAX_INPUT_BYTES`] bytes.
     #[error("read")]
     Read,
     /// The output did not take the whole line.
@@ -79,7 +79,7 @@ impl From<Broken> for RunFault {
 }
 
 /// The status of an order text that is not in its grammar.
-const ORDER_TEXT: u8 = 3;
+const ORDER_FAULT_STATUS: u8 = 3;
 
 /// The status of a verdict.
 fn status_of(verdict: Verdict) -> u8
@@ -98,6 +98,7 @@ fn input_bytes<R: Input>(alloc: Global, input: &mut R) -> Result<Vec<u8>, RunFau
     requires uninterrupted { R.was_interrupted input.old ≡ false }
     ensures bytes { IfOk result (λ v. IfSome (R.remaining input.old) (λ bytes. v.items ≡ bytes)) }
     ensures within { IfOk result (λ v. vec_len v ≤ MAX_INPUT_BYTES) }
+    ensures end { OnOk result (IsAtEnd (R.remaining input.new)) }
     ensures read { IsErrOf result RunFault.Read →
         IsUnread (R.remaining input.old) (R.has_failed input.new) (R.was_interrupted input.new) }
     ensures failed { R.has_failed input.new ≡ true → IsErrOf result RunFault.Read }
@@ -119,7 +120,10 @@ fn line_and_status(
 {
     match answer {
         Ok(verdict) => Ok((verdict_text(alloc, &verdict)?, status_of(verdict))),
-        Err(AuditError::OrderText { line }) => Ok((order_text(alloc, line)?, ORDER_TEXT)),
+        Err(AuditError::OrderText { line }) => Ok((
+            order_fault_text(alloc, line)?,
+            ORDER_FAULT_STATUS,
+        )),
         Err(AuditError::Memory) => Err(RunFault::Memory),
     }
 }
@@ -152,6 +156,9 @@ fn tell<W: Output>(
 /// the capture, and 3 where the order text is not in its grammar. Both inputs are read to their end before anything
 /// is judged. No mark of an input or of the output is set at the call.
 ///
+/// Which bytes were read and written is said where the inputs and the output tell their bytes, as those over memory
+/// do. Files do not: of them it is said that the line and the status are those of one answer on some bytes.
+///
 /// # Errors
 ///
 /// - [`RunFault::Read`] where an input failed, did not come to its end, or has more than [`MAX_INPUT_BYTES`] bytes.
@@ -178,6 +185,11 @@ pub fn run<R: Input, W: Output>(
     // The line of the audit's answer on the bytes that were read.
     ensures told { IfOk result (IsAudited (R.remaining capture.old) (R.remaining order.old)
         (W.written out.old) (W.written out.new)) }
+
+    ensures end { OnOk result (IsAtEnd (R.remaining capture.new) × IsAtEnd (R.remaining order.new)) }
+
+    // The order is read after the capture.
+    ensures capture_first { R.has_failed capture.new ≡ true → order.new ≡ order.old }
 
     // When each fault comes.
     ensures read { IsErrOf result RunFault.Read →

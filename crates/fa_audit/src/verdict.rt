@@ -16,16 +16,21 @@ pub enum Verdict {
         /// The unanswered tree requests that the order leaves out.
         left: u32,
     },
-    /// The first fault of the capture: a message number, and a code.
+    /// The first fault of the capture.
     Fault {
+        /// The number of the message that does not pass, counted from 0, or the number of whole messages where the
+        /// bytes behind them are no record.
         at: u32,
+        /// The first check that fails there, one of [`codes`](fa_capture::codes).
         code: u16,
     },
-    /// The capture is good, but this order is no run of the tree machine that gives the recorded replies: the first
-    /// entry at fault, the number of its message, and a code.
+    /// The capture is good, but this order is not valid or no run of the tree machine that gives the recorded replies.
     NotShown {
+        /// The first entry at fault, counted from 0, or the number of entries where an answered request is left out.
         entry: u32,
+        /// The message number in that entry, or the least one of an answered request that is left out.
         at: u32,
+        /// The first check that the entry fails, one of [`codes`](fa_capture::codes).
         code: u16,
     },
 }
@@ -34,7 +39,7 @@ pub enum Verdict {
 #[derive(Clone, Copy, Debug, PartialEq, Eq, Hash, Error)]
 pub enum AuditError {
     /// The order text is not in its grammar: the first line that does not fit, counted from 1.
-    #[error("line {line} of the order is not an order text")]
+    #[error("not an order text, at line {line}")]
     OrderText { line: u32 },
     /// Memory was refused.
     #[error("out of memory")]

@@ -1,8 +1,17 @@
 //! What follows from the definitions alone.
 
+ghost use Rattle.std.specs.Prelude.{◌≡◌};
 ghost use Rattle.fa_capture.specs.Reading.{OneReading};
+ghost use Rattle.fa_capture.specs.declared.limits.TheConstants.{MAX_MESSAGES, MAX_MESSAGE_BYTES, MAX_CAPTURE_BYTES};
 
 /// Two readings of the same bytes have the same packets and the same fault.
 pub fn one_reading()
     ensures { OneReading }
+{}
+
+/// The limits of this profile, as numbers.
+pub fn limits()
+    ensures messages { MAX_MESSAGES ≡ 16777216 }
+    ensures message_bytes { MAX_MESSAGE_BYTES ≡ 2097152 }
+    ensures capture_bytes { MAX_CAPTURE_BYTES ≡ 268435456 }
 {}

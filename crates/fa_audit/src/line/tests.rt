@@ -49,7 +49,7 @@ fn the_line_of_an_order_that_is_not_shown(rt: HostRuntime) -> Result<(), Fail> {
 
 #[test]
 fn the_line_of_an_order_text_at_fault(rt: HostRuntime) -> Result<(), Fail> {
-    let line = order_text(rt.alloc(), 17)?;
+    let line = order_fault_text(rt.alloc(), 17)?;
     assert_eq!(rt; line.as_str(), "order: line 17: code 60: not an order text");
     Ok(())
 }
