@@ -9,6 +9,7 @@ use fa_bodies::sample::Sample;
 use fa_capture::Device;
 use std::io;
 use std::io::{ErrorKind, Read, Write};
+use std::process::Abort;
 use std::test::Fail;
 
 const LEGAL: Verdict = Verdict::Legal {
@@ -216,42 +217,58 @@ fn the_first_capture_and_its_order(rt: HostRuntime) -> Result<(), Fail> {
     Ok(())
 }
 
+/// Tests that a run whose inputs fail at these calls, 0 for none, is a read fault and writes nothing.
+fn expect_unread(
+    rt: &impl Abort,
+    alloc: Global,
+    capture: &[u8],
+    capture_fails_at: usize,
+    order_fails_at: usize,
+) {
+    let mut written = Vec::new(alloc);
+    let result = run(
+        alloc,
+        &mut slow(capture, capture_fails_at),
+        &mut slow(ORDER, order_fails_at),
+        &mut Device::new(&mut written),
+    );
+    assert_eq!(rt;
+        result,
+        Err(RunFault::Read),
+        "at {capture_fails_at} and {order_fails_at}"
+    );
+    assert!(rt; written.is_empty());
+}
+
 #[test]
-fn an_unreadable_input_of_a_run(rt: HostRuntime) -> Result<(), Fail> {
+fn a_run_whose_inputs_fail_at_each_call(rt: HostRuntime) -> Result<(), Fail> {
     let capture = first_capture(rt.alloc())?;
     // The capture takes 334 calls, and the order 29: 20 that are not interrupted, and 9 that are.
-    for (capture_fails_at, order_fails_at) in [(1, 0), (334, 0), (0, 1), (0, 16), (0, 29), (5, 5)] {
-        let mut written = Vec::new(rt.alloc());
-        let result = run(
-            rt.alloc(),
-            &mut slow(&capture, capture_fails_at),
-            &mut slow(ORDER, order_fails_at),
-            &mut Device::new(&mut written),
-        );
-        assert_eq!(rt;
-            result,
-            Err(RunFault::Read),
-            "at {capture_fails_at} and {order_fails_at}"
-        );
-        assert!(rt; written.is_empty());
+    for fails_at in 1..=334 {
+        expect_unread(&rt, rt.alloc(), &capture, fails_at, 0);
     }
+    for fails_at in 1..=29 {
+        expect_unread(&rt, rt.alloc(), &capture, 0, fails_at);
+    }
+    expect_unread(&rt, rt.alloc(), &capture, 5, 5);
     Ok(())
 }
 
 #[test]
-fn a_slow_run_and_one_whose_output_breaks(rt: HostRuntime) -> Result<(), Fail> {
+fn a_slow_run_whose_output_breaks_at_each_call(rt: HostRuntime) -> Result<(), Fail> {
     let capture = first_capture(rt.alloc())?;
-    for (breaks_at, expected) in [
-        (1, Err(RunFault::Write)),
-        (11, Err(RunFault::Write)),
-        (12, Ok(0)),
-    ] {
+    for breaks_at in 1..=12 {
         let result = run(
             rt.alloc(),
             &mut slow(&capture, 335),
             &mut slow(ORDER, 30),
             &mut breaking(breaks_at),
         );
+        let expected = if breaks_at <= 11 {
+            Err(RunFault::Write)
+        } else {
+            Ok(0)
+        };
         assert_eq!(rt; result, expected, "at call {breaks_at}");
     }
     Ok(())
