@@ -6,10 +6,11 @@ ghost use Rattle.fa_audit.specs.Line.{IsCoded};
 use super::*;
 use crate::line::{order_text, verdict_text};
 use crate::order::MAX_TEXT_BYTES;
+use crate::run::run;
 use bitflags::Flags;
 use fa_bodies::sample::{self, Sample};
 use fa_bodies::{InitFlags, MAX_NAME, opcodes};
-use fa_capture::{Direction, codes};
+use fa_capture::{Device, Direction, codes};
 use std::alloc::AllocError;
 use std::process::Abort;
 use std::test::Fail;
@@ -90,7 +91,7 @@ fn told(rt: &impl Abort, alloc: Global, capture: &[u8], text: &[u8]) -> Result<S
     }
 }
 
-/// Tests the answer to the bytes of a capture and an order text, and its line.
+/// Tests the answer to the bytes of a capture and an order text, its line, and what a run over both writes.
 fn expect(
     rt: &impl Abort,
     alloc: Global,
@@ -102,6 +103,21 @@ fn expect(
     assert_eq!(rt; judged_bytes(rt, alloc, capture, text), answer);
     let written = told(rt, alloc, capture, text)?;
     assert_eq!(rt; written.as_str(), line);
+    let mut output = Vec::new(alloc);
+    let status = run(
+        alloc,
+        &mut Device::new(capture),
+        &mut Device::new(text),
+        &mut Device::new(&mut output),
+    )?;
+    let expected_status = match answer {
+        Ok(Verdict::Legal { .. }) => 0,
+        Ok(Verdict::Fault { .. }) => 1,
+        Ok(Verdict::NotShown { .. }) => 2,
+        Err(_) => 3,
+    };
+    assert_eq!(rt; status, expected_status);
+    assert!(rt; matches!(output.split_last(), Some((b'\n', rest)) if rest == line.as_bytes()));
     Ok(())
 }
 
@@ -1351,7 +1367,7 @@ fn a_fault_comes_before_the_order_text_and_that_before_its_entries(
     let message_at_fault = opened(alloc)?.lookup(4, 9, b"a")?.capture();
     let record_at_fault = followed_by(opened(alloc)?, b"\0")?;
     let good = refused(alloc, EXISTS)?.capture();
-    // The texts: none, one that does not fit in its second line, and three that are no run.
+    // Texts that are no order text, and then orders that are no run.
     for (text, expected) in [
         (b"".as_slice(), no_order_text(1)),
         (b"fuse-order 1\n02\nend\n".as_slice(), no_order_text(2)),
