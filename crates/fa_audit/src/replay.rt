@@ -15,6 +15,9 @@ use crate::order::Entry;
 use fa_bodies::Reply;
 use fa_capture::codes;
 
+#[cfg(test)]
+mod tests;
+
 /// EEXIST of errno.h, as a reply has it.
 const EXISTS: i32 = -17;
 /// ENOTDIR of errno.h, as a reply has it.

@@ -4,7 +4,7 @@ ghost use Rattle.std.specs.Prelude.{IfOk};
 ghost use Rattle.fa_audit.specs.Line.{IsCoded};
 
 use super::*;
-use crate::line::{order_text, verdict_text};
+use crate::line::{order_fault_text, verdict_text};
 use crate::order::MAX_TEXT_BYTES;
 use crate::run::run;
 use bitflags::Flags;
@@ -86,7 +86,7 @@ fn judged(rt: &impl Abort, alloc: Global, sample: Sample, lines: &[u8]) -> Judge
 fn told(rt: &impl Abort, alloc: Global, capture: &[u8], text: &[u8]) -> Result<String, AuditError> {
     match judged_bytes(rt, alloc, capture, text) {
         Ok(verdict) => Ok(verdict_text(alloc, &verdict)?),
-        Err(AuditError::OrderText { line }) => Ok(order_text(alloc, line)?),
+        Err(AuditError::OrderText { line }) => Ok(order_fault_text(alloc, line)?),
         Err(AuditError::Memory) => Err(AuditError::Memory),
     }
 }
