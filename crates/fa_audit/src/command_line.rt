@@ -6,6 +6,9 @@ ghost use Rattle.fa_audit.specs.CommandLine.{value_of};
 use clap::{Arg, ArgAction, ArgMatches, Command};
 use std::alloc::{AllocError, Global};
 
+#[cfg(test)]
+mod tests;
+
 /// The option that names the capture.
 const CAPTURE: &str = "capture";
 /// The option that names the order text.

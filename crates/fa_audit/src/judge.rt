@@ -50,10 +50,14 @@ pub fn audit(
     requires text { length order.now ≤ MAX_TEXT_BYTES }
     requires no_tree { tree ≡ None }
 
-    ensures legal { (messages placed left : ℕ) → Exactly result (Ok (Verdict.Legal messages placed left)) (IsLegal capture.now order.now messages placed left) }
-    ensures fault { (at code : ℕ) → Exactly result (Ok (Verdict.Fault at code)) (IsFirstFault capture.now at code) }
-    ensures order_text { (line : ℕ) → Exactly result (Err (AuditError.OrderText line)) (IsTextAtFault capture.now order.now line) }
-    ensures not_shown { (entry at code : ℕ) → Exactly result (Ok (Verdict.NotShown entry at code)) (IsNotShown capture.now order.now entry at code) }
+    ensures legal { (messages placed left : ℕ) → Exactly result
+        (Ok (Verdict.Legal messages placed left)) (IsLegal capture.now order.now messages placed left) }
+    ensures fault { (at code : ℕ) → Exactly result
+        (Ok (Verdict.Fault at code)) (IsFirstFault capture.now at code) }
+    ensures order_text { (line : ℕ) → Exactly result
+        (Err (AuditError.OrderText line)) (IsTextAtFault capture.now order.now line) }
+    ensures not_shown { (entry at code : ℕ) → Exactly result
+        (Ok (Verdict.NotShown entry at code)) (IsNotShown capture.now order.now entry at code) }
 
     // A code that is told has a text.
     ensures codes { IfOk result IsCoded }
