@@ -10,8 +10,8 @@ use Rattle.fa_capture.specs.declared.packet.Direction.TheVariants.{FromServer}
 use Rattle.fa_capture.specs.Checks.{FirstFailure}
 use Rattle.fa_capture.specs.declared.packet.Packet.{Packet}
 use Rattle.fa_capture.specs.Message.{Message, message, messages}
-use Rattle.fa_bodies.specs.Requests.{PlainRequest, PlainBody, request_shown}
-use Rattle.fa_bodies.specs.Requests.PlainBody.{Lookup, Init}
+use Rattle.fa_bodies.specs.Requests.{MayBeAnswered, PlainRequest, PlainBody, request_shown}
+use Rattle.fa_bodies.specs.Requests.PlainBody.{Lookup}
 use Rattle.fa_bodies.specs.Replies.{PlainReply, IsReply, reply_shown}
 use Rattle.fa_bodies.specs.declared.replies.Reply.{Reply}
 use Rattle.fa_audit.specs.declared.calls.Call.{Call}
@@ -20,13 +20,12 @@ use Rattle.fa_audit.specs.declared.session.Event.TheVariants.{Asked, Answered}
 use Rattle.fa_audit.specs.declared.session.Session.{Session}
 use Rattle.fa_audit.specs.declared.session.Waiting.{Waiting}
 use Rattle.fa_audit.specs.Answers.{IsRequestMessage, IsOutstanding, Answers, AnswersAt}
-use Rattle.fa_audit.specs.Session.{IsInit}
 use Rattle.fa_audit.specs.Faults.{Passes, EachPasses, IsMessageFault, message_checks}
 use Rattle.fa_audit.specs.Replay.{IsTreeBody, IsRepliedTo}
 use Rattle.fa_audit.specs.Progress.{Shows, IsWaiting, IsEvent, UnansweredIn}
 use Rattle.fa_audit.specs.Refusal.{CallIn}
 use Rattle.fa_audit.specs.Calls.{asked_at, AreAnswered, AreSequential, AreSoFar, AreCalls}
-use Rattle.fa_audit.proofs.GrowthLemmas.{get_kept, get_back, asked_before, get_last, get_cases, take_before, take_all_before, asked_cases, waits_now, waited, not_now, answered_cases, reply_is_no_request, may_be_answered}
+use Rattle.fa_audit.proofs.GrowthLemmas.{get_kept, get_back, asked_before, get_last, get_cases, take_before, take_all_before, asked_cases, waits_now, waited, not_now, answered_cases, reply_is_no_request}
 
 in_one : (x : ℕ) → Contains (x ∷ []) x
 in_one x = (0, omega arith, refl)
@@ -76,14 +75,15 @@ kept_one (Some w) p q r other one two = (sym one.0 ∙ two.0, sym one.1 ∙ two.
 one_waits : (c : List Message) (s : Session) → Shows c s → (p q : ℕ) (r other : PlainRequest) → IsOutstanding c p r → IsOutstanding c q other → (p ≡ q) × (r ≡ other)
 one_waits c s shows p q r other one two = kept_one s.waiting p q r other (shows.alone p r one) (shows.alone q other two)
 
-init_is_no_tree : (body : PlainBody) → IsInit body → IsTreeBody body → ⊥
-init_is_no_tree (Lookup name) init tree = init
-init_is_no_tree (Init i) init tree = tree
+-- a tree request may be answered
+tree_answered : (body : PlainBody) → IsTreeBody body → MayBeAnswered body
+tree_answered (Lookup name) tree = tt
+tree_answered other tree = absurd tree
 
--- where INIT alone may be kept, no tree request waits
-not_kept : (o : Option Waiting) (p : ℕ) (r : PlainRequest) → ((w : Waiting) → o ≡ Some w → IsInit (request_shown w.request).body) → IsTreeBody r.body → IsWaiting o p r → ⊥
+-- where no tree request is kept, none waits
+not_kept : (o : Option Waiting) (p : ℕ) (r : PlainRequest) → ((w : Waiting) → o ≡ Some w → IsTreeBody (request_shown w.request).body → ⊥) → IsTreeBody r.body → IsWaiting o p r → ⊥
 not_kept None p r none tree waiting = waiting
-not_kept (Some w) p r none tree waiting = init_is_no_tree r.body (subst (λ (x : PlainRequest). IsInit x.body) waiting.1 (none w refl)) tree
+not_kept (Some w) p r none tree waiting = none w refl (subst (λ (x : PlainRequest). IsTreeBody x.body) (sym waiting.1) tree)
 
 -- a call that was answered does not wait
 answered_waits : (c : List Message) (calls : List Call) → AreSoFar c calls → (i : ℕ) (call : Call) → slice_get calls i ≡ Some call → (r : PlainRequest) → IsOutstanding c call.at r → ⊥
@@ -117,7 +117,7 @@ so_far_asked c m r calls so_far is none = record {
       | inl there ↦ inl there
       | inr waits ↦ absurd (none p other waits)
     ]
-    | inr now ↦ inr (subst (λ (k : ℕ). IsOutstanding (c ++ m ∷ []) k other) (sym now.0) (waits_now c m other now.1 (may_be_answered other.body)))
+    | inr now ↦ inr (subst (λ (k : ℕ). IsOutstanding (c ++ m ∷ []) k other) (sym now.0) (waits_now c m other now.1 (tree_answered other.body tree)))
   ];
   before = λ p other waits q s asked at. elim (asked_cases c m p other waits.asked) [
     | inl before ↦ absurd (none p other (waited c m p other before waits))
@@ -202,10 +202,6 @@ so_far_init c m s w calls shows so_far answers not_tree = record {
 
 -- ---- the end
 
-init_or_tree : (body : PlainBody) → (IsInit body → ⊥) → IsTreeBody body
-init_or_tree (Lookup name) other = tt
-init_or_tree (Init i) other = absurd (other tt)
-
 pub calls_done : (c : List Message) (s : Session) (calls : List Call) (unanswered : Option ℕ) → Shows c s → AreSoFar c calls → UnansweredIn s unanswered → AreCalls c calls unanswered
 calls_done c s calls None shows so_far none = record {
   answered = so_far.answered;
@@ -229,7 +225,7 @@ calls_done c s calls (Some p) shows so_far kept =
         | inl there ↦ inl there
         | inr waits ↦ inr (ap (λ (k : ℕ). Some k) (sym (one_waits c s shows q p is.0 r waits here).0))
       ];
-      waits = ((r, here.asked, init_or_tree r.body kept.3), λ q answered. let under : q < p = so_far.before p r here q p answered.0 answered.1 in omega (arith, under, answer_after c q p answered.0 answered.1));
+      waits = ((r, here.asked, kept.3), λ q answered. let under : q < p = so_far.before p r here q p answered.0 answered.1 in omega (arith, under, answer_after c q p answered.0 answered.1));
       last = so_far.before p r here;
     }
 

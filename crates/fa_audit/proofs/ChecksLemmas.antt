@@ -19,6 +19,11 @@ pub hold_both : (checks later : List (ℕ × Type 0)) → AllHold checks → All
 hold_both [] later hold more = more
 hold_both (c ∷ checks) later hold more = (hold.0, hold_both checks later hold.1 more)
 
+-- of checks that hold, those behind the first
+pub hold_later : (checks later : List (ℕ × Type 0)) → AllHold (checks ++ later) → AllHold later
+hold_later [] later hold = hold
+hold_later (c ∷ checks) later hold = hold_later checks later hold.1
+
 -- the same codes, and checks that say the same
 abbrev pub SameChecks : List (ℕ × Type 0) → List (ℕ × Type 0) → Type 0
 SameChecks [] [] = Unit {0}

@@ -34,8 +34,8 @@ coded_failure (c ∷ checks) code coded fails =
     ]
 
 message_coded : (d : Direction) (before : List Message) (m : Message) → AllCoded (checks_by d before m)
-message_coded ToServer before m = (refl, (refl, (refl, (refl, (refl, (refl, (refl, (refl, (refl, (refl, tt))))))))))
-message_coded FromServer before m = (refl, (refl, (refl, (refl, (refl, (refl, (refl, (refl, (refl, (refl, (refl, tt)))))))))))
+message_coded ToServer before m = (refl, (refl, (refl, (refl, (refl, (refl, (refl, (refl, (refl, (refl, (refl, (refl, tt))))))))))))
+message_coded FromServer before m = (refl, (refl, (refl, (refl, (refl, (refl, (refl, (refl, (refl, (refl, (refl, (refl, tt))))))))))))
 
 record_coded : (before offset : ℕ) (left : List ℕ) → AllCoded (record_checks before offset left)
 record_coded before offset left = (refl, (refl, (refl, (refl, (refl, (refl, tt))))))

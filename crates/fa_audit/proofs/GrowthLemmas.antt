@@ -8,11 +8,11 @@ use Rattle.std.proofs.lemmas.List.{take-append-le, take_at, length-append}
 use Rattle.fa_capture.specs.declared.packet.Direction.TheVariants.{ToServer, FromServer}
 use Rattle.fa_capture.specs.Message.{Message}
 use Rattle.fa_bodies.specs.declared.replies.ReplyHead.{ReplyHead}
-use Rattle.fa_bodies.specs.Requests.{PlainRequest, PlainBody, IsRequest, request_shown}
-use Rattle.fa_bodies.specs.Requests.PlainBody.{Lookup, Init}
+use Rattle.fa_bodies.specs.Requests.{MayBeAnswered, PlainRequest, PlainBody, IsRequest, IsRequestBody, request_shown}
+use Rattle.fa_bodies.specs.Requests.PlainBody.{Forget, BatchForget}
 use Rattle.fa_bodies.specs.Replies.{IsReplyHead}
-use Rattle.fa_audit.specs.Answers.{IsRequestMessage, IsRequestAt, HasUnique, MayBeAnswered, IsOutstanding, Answers, AnswersAt}
-use Rattle.fa_audit.specs.Session.{IsInit, IsInitAnswered}
+use Rattle.fa_audit.specs.Answers.{IsRequestMessage, IsRequestAt, HasUnique, IsOutstanding, Answers, AnswersAt}
+use Rattle.fa_audit.specs.Session.{IsAdmitted, IsInit, IsInitAnswered}
 use Rattle.fa_audit.specs.declared.session.Session.{Session}
 use Rattle.fa_audit.specs.declared.session.Waiting.{Waiting}
 use Rattle.fa_audit.specs.Progress.{Shows, IsWaiting, request_checked}
@@ -140,23 +140,33 @@ init_before c m to answered =
 pub reply_is_no_request : (m : Message) (r : PlainRequest) → m.direction ≡ FromServer → IsRequestMessage m r → ⊥
 reply_is_no_request m r from is = one_direction m is.0 from
 
--- all requests that are read may be answered
-pub may_be_answered : (body : PlainBody) → MayBeAnswered body
-may_be_answered (Lookup name) = tt
-may_be_answered (Init i) = tt
+-- a body of an operation that only forgets is not of one that is admitted
+answered_body : (opcode : ℕ) (bytes : List ℕ) (body : PlainBody) → IsRequestBody opcode bytes body → IsAdmitted opcode → MayBeAnswered body
+answered_body opcode bytes (Forget nlookup) is admitted = elim admitted [ inl lookup ↦ omega (arith, is.0) | inr init ↦ omega (arith, is.0) ]
+answered_body opcode bytes (BatchForget count items) is admitted = elim admitted [ inl lookup ↦ omega (arith, is.0) | inr init ↦ omega (arith, is.0) ]
+answered_body opcode bytes other is admitted = tt
+
+-- a request of an operation that is admitted may be answered
+pub may_be_answered : (m : Message) (r : PlainRequest) → IsRequestMessage m r → IsAdmitted r.opcode → MayBeAnswered r.body
+may_be_answered m r is admitted = answered_body r.opcode is.1.body_bytes r.body is.1.body admitted
 
 -- ---- what a session shows
 
--- a request that keeps the rules while no other waits: it waits from now on
-pub shows_asked : (c : List Message) (m : Message) (s : Session) (w : Waiting) → Shows c s → ((p : ℕ) (r : PlainRequest) → IsOutstanding c p r → ⊥)
+-- a request whose checks hold finds no other that waits
+pub none_other : (c : List Message) (r : PlainRequest) → AllHold (request_checked c r) → (p : ℕ) (waiting : PlainRequest) → IsOutstanding c p waiting → ⊥
+none_other c r hold = hold.1.1.1.1.1.0
+
+-- a request that keeps the rules waits from now on
+pub shows_asked : (c : List Message) (m : Message) (s : Session) (w : Waiting) → Shows c s → AllHold (request_checked c (request_shown w.request))
     → IsRequestMessage m (request_shown w.request) → ((other : PlainRequest) → IsRequest m.bytes other → other ≡ request_shown w.request) → w.at ≡ s.messages
     → Shows (c ++ m ∷ []) (record { messages = s.messages + 1; waiting = Some w; is_open = s.is_open })
-shows_asked c m s w shows none is only here =
+shows_asked c m s w shows hold is only here =
     let r = request_shown w.request in
+    let none : (p : ℕ) (other : PlainRequest) → IsOutstanding c p other → ⊥ = none_other c r hold in
     let place : length c ≡ w.at = sym shows.counted ∙ sym here in
     record {
       counted = omega (arith, shows.counted, length-append c (m ∷ []));
-      waits = subst (λ (k : ℕ). IsOutstanding (c ++ m ∷ []) k r) place (waits_now c m r is (may_be_answered r.body));
+      waits = subst (λ (k : ℕ). IsOutstanding (c ++ m ∷ []) k r) place (waits_now c m r is (may_be_answered m r is hold.0));
       alone = λ p other waits. elim (asked_cases c m p other waits.asked) [
         | inl before ↦ absurd (none p other (waited c m p other before waits))
         | inr now ↦ (sym place ∙ sym now.0, sym (only other now.1.1))
@@ -211,10 +221,6 @@ answers_kept c m s w head shows is from found unique = record {
   unique = unique;
   outstanding = subst (λ (o : Option Waiting). IfSome o (λ v. IsOutstanding c v.at (request_shown v.request))) is shows.waits;
 }
-
--- a request whose checks hold finds no other that waits
-pub none_other : (c : List Message) (r : PlainRequest) → AllHold (request_checked c r) → (p : ℕ) (waiting : PlainRequest) → IsOutstanding c p waiting → ⊥
-none_other c r hold = hold.1.1.1.1.0
 
 or_true : (b : Bool) → (b || true) ≡ true
 or_true true = refl

@@ -1,6 +1,6 @@
 -- What the checks of a message say once it has been read.
 use Rattle.std.proofs.Common.{◌≡◌, ◌≢◌, ℕ, List, [], ◌∷◌, ◌++◌, refl, sym, ap, subst, ◌∙◌, inl, inr}
-use Rattle.fa_capture.specs.declared.codes.TheConstants.{FIRST_NOT_INIT, NO_REQUEST_WAITS, REPLY_BODY}
+use Rattle.fa_capture.specs.declared.codes.TheConstants.{NOTIFICATION, FIRST_NOT_INIT, NO_REQUEST_WAITS, REPLY_BODY}
 use Rattle.fa_capture.specs.declared.packet.Direction.{Direction}
 use Rattle.fa_capture.specs.declared.packet.Direction.TheVariants.{ToServer, FromServer}
 use Rattle.fa_capture.specs.Checks.{FirstFailure, AllHold}
@@ -9,7 +9,7 @@ use Rattle.fa_bodies.specs.declared.replies.ReplyHead.{ReplyHead}
 use Rattle.fa_bodies.specs.Requests.{PlainRequest, PlainBody, IsRequest, request_checks}
 use Rattle.fa_bodies.specs.Replies.{PlainReply, IsReplyHead, IsReply, reply_head_checks, reply_checks}
 use Rattle.fa_audit.specs.Answers.{Answers}
-use Rattle.fa_audit.specs.Session.{ForRequest, ForReply, ForAnswered}
+use Rattle.fa_audit.specs.Session.{ForHead, ForRequest, ForReply, ForAnswered}
 use Rattle.fa_audit.specs.Faults.{checks_of, request_rules, reply_rules, checks_by, message_checks}
 use Rattle.fa_audit.specs.Progress.{request_checked, head_checked, reply_checked}
 use Rattle.fa_audit.proofs.ChecksLemmas.{SameChecks, fails_first, fails_behind, hold_both, same_failure, same_hold, lifted_failure, lifted_hold}
@@ -74,7 +74,8 @@ pub record IsOnlyReply (m : Message) (r : PlainRequest) (reply : PlainReply) : T
 -- the checks of which request the message answers
 abbrev head_checks : List Message → Message → List (ℕ × Type 0)
 head_checks before m =
-    (FIRST_NOT_INIT, before ≢ [])
+    (NOTIFICATION, ForHead m (λ head. head.unique ≢ 0))
+    ∷ (FIRST_NOT_INIT, before ≢ [])
     ∷ (NO_REQUEST_WAITS, (p : ℕ) × (r : PlainRequest) × Answers before m p r)
     ∷ []
 
@@ -93,13 +94,18 @@ from_server P before m is here = by_direction P before m FromServer is here
 same_head : (before : List Message) (m : Message) (head : ReplyHead) → m.direction ≡ FromServer → IsOnlyHead m head → SameChecks (head_checked before head.unique) (head_checks before m)
 same_head before m head is only = (
   refl,
-  (λ here. here),
-  (λ here. here),
+  (λ reply other found zero. reply (sym (ap (λ (h : ReplyHead). h.unique) (only.only other found.1)) ∙ zero)),
+  (λ every. every head (is, only.found)),
   (
     refl,
-    (λ found. (found.0, found.1, record { head = head; reply = (is, only.found); unique = found.3; outstanding = found.2 })),
-    (λ found. (found.0, found.1, found.2.outstanding, sym (ap (λ (h : ReplyHead). h.unique) (only.only found.2.head found.2.reply.1)) ∙ found.2.unique)),
-    tt,
+    (λ here. here),
+    (λ here. here),
+    (
+      refl,
+      (λ found. (found.0, found.1, record { head = head; reply = (is, only.found); unique = found.3; outstanding = found.2 })),
+      (λ found. (found.0, found.1, found.2.outstanding, sym (ap (λ (h : ReplyHead). h.unique) (only.only found.2.head found.2.reply.1)) ∙ found.2.unique)),
+      tt,
+    ),
   ),
 )
 

@@ -11,18 +11,20 @@ use Rattle.fa_capture.specs.declared.packet.Direction.{Direction}
 use Rattle.fa_capture.specs.declared.packet.Direction.TheVariants.{ToServer}
 use Rattle.fa_capture.specs.Checks.{AllHold}
 use Rattle.fa_capture.specs.Message.{Message}
-use Rattle.fa_bodies.specs.Requests.{PlainRequest, PlainBody}
-use Rattle.fa_bodies.specs.Requests.PlainBody.{Lookup, Init}
+use Rattle.fa_bodies.specs.Requests.{PlainRequest, PlainBody, request_checks}
+use Rattle.fa_bodies.specs.Requests.PlainBody.{Lookup}
 use Rattle.fa_bodies.specs.Replies.{reply_shown}
 use Rattle.fa_audit.specs.declared.calls.Call.{Call}
 use Rattle.fa_audit.specs.declared.order.Entry.{Entry}
 use Rattle.fa_audit.specs.Answers.{IsRequestAt, AnswersAt}
 use Rattle.fa_audit.specs.Nodes.{root_node, NamesKnown}
-use Rattle.fa_audit.specs.Faults.{EachPasses, checks_by}
+use Rattle.fa_audit.specs.Session.{ForRequest}
+use Rattle.fa_audit.specs.Faults.{EachPasses, checks_of, request_rules, checks_by}
 use Rattle.fa_audit.specs.Tree.{Tree, empty_root}
-use Rattle.fa_audit.specs.Replay.{IsTreeBody, IsTreeRequestAt, IsAnsweredBy, IsUnanswered, IsRepliedTo, numbers, MayBeTaken, order_checks, EntryFails, EachPlaced, EntryStep, Run, IsAnsweredUnplaced, IsUnansweredUnplaced, IsOrderAtFault, Counts}
+use Rattle.fa_audit.specs.Replay.{IsTreeBody, IsTreeRequestAt, IsAnsweredBy, IsUnanswered, IsRepliedTo, numbers, order_checks, EntryFails, EachPlaced, EntryStep, Run, IsAnsweredUnplaced, IsUnansweredUnplaced, IsOrderAtFault, Counts}
 use Rattle.fa_audit.specs.Calls.{asked_at}
 use Rattle.fa_audit.specs.Placed.{IsOnRoot, StepAllows, StepRefuses, ArePlaced, AreReplayed, FailsAfter, IsNext, IsPlaced, IsExplained}
+use Rattle.fa_audit.proofs.ChecksLemmas.{hold_later}
 use Rattle.fa_audit.proofs.OneAnswerLists.{get_from_take, get_in_take, contains_cases, parts_at}
 use Rattle.fa_audit.proofs.OneAnswerRuns.{answered_asked, answer_after, placed_valid}
 
@@ -83,21 +85,17 @@ all_placed calls count p none there =
     let whole : calls ≡ take count calls = sym (take-append-drop count calls) ∙ ap (λ (xs : List Call). take count calls ++ xs) none ∙ append-nil (take count calls) in
     subst (λ (xs : List Call). Contains (asked_at xs) p) whole there
 
--- no request that is read is taken unanswered
-no_taking : (body : PlainBody) (wrote : Option ℕ) → MayBeTaken body wrote → ⊥
-no_taking (Lookup name) wrote taken = taken
-no_taking (Init i) wrote taken = taken
-
 -- a tree request names the root, where all messages pass
 root_named : (before : List Message) (body : PlainBody) (node : ℕ) → IsTreeBody body → NamesKnown before body node → node ≡ root_node
 root_named before (Lookup name) node tree known = known
-root_named before (Init i) node tree known = absurd tree
+root_named before other node tree known = absurd tree
 
 root_asked : (c : List Message) (p : ℕ) (r : PlainRequest) → EachPasses c (length c) → IsRequestAt c p r → IsTreeBody r.body → r.node ≡ root_node
 root_asked c p r passes asked tree =
     let within : p < length c = slice_get_within c p asked.0 asked.1 in
     let hold : AllHold (checks_by ToServer (take p c) asked.0) = subst (λ (d : Direction). AllHold (checks_by d (take p c) asked.0)) asked.2.0 (passes p asked.0 within asked.1) in
-    root_named (take p c) r.body r.node tree (hold.1.1.1.1.1.1.1.1.1.0 r asked.2)
+    let rules : AllHold (checks_of (ForRequest asked.0) (request_rules (take p c))) = hold_later (request_checks asked.0.bytes) (checks_of (ForRequest asked.0) (request_rules (take p c))) hold in
+    root_named (take p c) r.body r.node tree (rules.1.1.1.1.1.1.0 r asked.2)
 
 module _ (c : List Message) (calls : List Call) (unanswered : Option ℕ) (known : AreReplayed c calls unanswered) where
   -- a call was answered
@@ -201,7 +199,7 @@ module _ (c : List Message) (calls : List Call) (unanswered : Option ℕ) (known
           (λ there. apart (subst (λ (xs : List ℕ). Contains xs e.at) placed.numbered there)),
           inr (
             (λ p q tree answered before. subst (λ (xs : List ℕ). Contains xs p) (sym placed.numbered) (all_placed calls count p none_left (answered_call p q tree answered))),
-            inl ((λ choice. no_taking waits.0.0.body e.wrote (choice.1 waits.1 waits.0.0 waits.0.1)), refl),
+            inl ((λ choice. choice.1 waits.1 waits.0.0 waits.0.1), refl),
           ),
         ),
       ))

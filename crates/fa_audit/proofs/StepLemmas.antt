@@ -4,7 +4,7 @@ use Rattle.std.specs.Prelude.{ℤ, negsuc}
 use Rattle.fa_capture.specs.declared.codes.TheConstants.{ERROR_WITHOUT_CAUSE}
 use Rattle.fa_bodies.specs.declared.entry.EntryOut.{EntryOut}
 use Rattle.fa_bodies.specs.Requests.{PlainBody}
-use Rattle.fa_bodies.specs.Requests.PlainBody.{Lookup, Init}
+use Rattle.fa_bodies.specs.Requests.PlainBody.{Lookup}
 use Rattle.fa_bodies.specs.Replies.PlainReply.{Refused, Entry}
 use Rattle.fa_audit.specs.Tree.{empty_root, IsDirectory, IsThere, IsDetermined, HasCause, MaySucceed}
 use Rattle.fa_audit.specs.Replay.{IsTreeBody}
@@ -18,7 +18,7 @@ nothing_there dir name there = absurd (omega (arith, there.1.1))
 
 missing : (body : PlainBody) (e : EntryOut) → IsTreeBody body → e.nodeid ≡ 0 → MaySucceed empty_root body 0 (Entry e)
 missing (Lookup name) e tree none = (root_is_directory, inl (none, nothing_there 0 name))
-missing (Init i) e tree none = absurd tree
+missing other e tree none = absurd tree
 
 -- the name is not there
 pub allows_missing : (e : EntryOut) → e.nodeid ≡ 0 → StepAllows (Entry e)
@@ -30,7 +30,7 @@ no_cause (Lookup name) error file tree other root cause =
       | inl missing ↦ other missing.0
       | inr no_directory ↦ no_directory.1 (subst (IsDirectory empty_root) (sym root) root_is_directory)
     ]
-no_cause (Init i) error file tree other root cause = cause
+no_cause body error file tree other root cause = absurd tree
 
 determined : (error : ℤ) → IsUncaused error → IsDetermined error
 determined error uncaused = inr uncaused
@@ -61,7 +61,7 @@ not_uncaused error caused is = elim is [ inl missing ↦ missing | inr uncaused 
 
 missing_causes : (body : PlainBody) (error : ℤ) → IsTreeBody body → error ≡ negsuc 1 → HasCause empty_root body 0 error
 missing_causes (Lookup name) error tree missing = inl (missing, nothing_there 0 name)
-missing_causes (Init i) error tree missing = absurd tree
+missing_causes other error tree missing = absurd tree
 
 -- an error that needs no cause, or ENOENT
 pub allows_error : (error : ℤ) → (IsUncaused error → ⊥) → StepAllows (Refused error)

@@ -4,15 +4,14 @@ use Rattle.std.specs.Prelude.{◌≡◌, ℕ, ◌<◌, ◌⊎◌, List, slice_ge
 use Rattle.fa_capture.specs.declared.packet.Direction.TheVariants.{ToServer, FromServer}
 use Rattle.fa_capture.specs.Message.{Message}
 use Rattle.fa_bodies.specs.declared.replies.ReplyHead.{ReplyHead}
-use Rattle.fa_bodies.specs.Requests.{PlainRequest, PlainBody, IsRequest}
-use Rattle.fa_bodies.specs.Requests.PlainBody.{Lookup, Init}
+use Rattle.fa_bodies.specs.Requests.{PlainRequest, IsRequest, MayBeAnswered}
 use Rattle.fa_bodies.specs.Replies.{IsReplyHead}
 
 -- the message is this request
 abbrev pub IsRequestMessage : Message → PlainRequest → Type 0
 IsRequestMessage m r = (m.direction ≡ ToServer) × IsRequest m.bytes r
 
--- the message is a reply with this head
+-- the message is a reply with this head, or a notification where its unique is 0
 abbrev pub IsReplyMessage : Message → ReplyHead → Type 0
 IsReplyMessage m head = (m.direction ≡ FromServer) × IsReplyHead m.bytes head
 
@@ -25,11 +24,6 @@ abbrev pub HasUnique : Message → ℕ → Type 0
 HasUnique m unique =
     ((r : PlainRequest) × IsRequestMessage m r × (r.unique ≡ unique))
     ⊎ ((head : ReplyHead) × IsReplyMessage m head × (head.unique ≡ unique))
-
--- a request that may be answered: all but those that only forget
-abbrev pub MayBeAnswered : PlainBody → Type 0
-MayBeAnswered (Lookup name) = Unit {0}
-MayBeAnswered (Init i) = Unit {0}
 
 -- After these messages the request at p waits for its answer: it may be answered, and no message after it has its
 -- unique.

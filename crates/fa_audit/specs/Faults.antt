@@ -8,12 +8,12 @@ use Rattle.fa_capture.specs.Message.{Message}
 use Rattle.fa_capture.specs.Reading.{IsReading}
 use Rattle.fa_bodies.specs.Requests.{PlainRequest, PlainBody, request_checks}
 use Rattle.fa_bodies.specs.Replies.{PlainReply, reply_head_checks}
-use Rattle.fa_audit.specs.Session.{ForRequest, ForReply, session_request_rules, answer_checks, session_reply_rules}
+use Rattle.fa_audit.specs.Session.{ForRequest, ForReply, operation_rules, session_request_rules, answer_checks, session_reply_rules}
 use Rattle.fa_audit.specs.Nodes.{node_request_rules, node_reply_rules}
 
 -- the rules of a request after these messages, in their order
 abbrev pub request_rules : List Message → List (ℕ × (PlainRequest → Type 0))
-request_rules before = session_request_rules before ++ node_request_rules before
+request_rules before = operation_rules ++ session_request_rules before ++ node_request_rules before
 
 -- the rules of a request and the reply to it, in their order
 abbrev pub reply_rules : List (ℕ × (PlainBody → PlainReply → Type 0))

@@ -3,9 +3,9 @@ use Rattle.std.specs.Prelude.{◌≡◌, ℕ, List, [], ◌∷◌}
 use Rattle.fa_capture.specs.declared.codes.TheConstants.{FORGOTTEN_NODE, NODE_ID_NOT_ALLOWED}
 use Rattle.fa_capture.specs.Message.{Message}
 use Rattle.fa_bodies.specs.Requests.{PlainRequest, PlainBody}
-use Rattle.fa_bodies.specs.Requests.PlainBody.{Lookup, Init}
+use Rattle.fa_bodies.specs.Requests.PlainBody.{Init}
 use Rattle.fa_bodies.specs.Replies.{PlainReply}
-use Rattle.fa_bodies.specs.Replies.PlainReply.{Refused, Entry, Agreed}
+use Rattle.fa_bodies.specs.Replies.PlainReply.{Entry}
 
 -- the node id of the root (`FUSE_ROOT_ID` of fuse.h)
 abbrev pub root_node : ℕ
@@ -15,17 +15,16 @@ root_node = 1
 abbrev pub IsKnown : List Message → ℕ → Type 0
 IsKnown before node = node ≡ root_node
 
--- the nodes that a request names, by its body and the node of its header, are known
+-- The node that a request names in its header is known; that of INIT is not looked at. A LOOKUP names no other, and
+-- nodes in a body come with the operations that have them.
 abbrev pub NamesKnown : List Message → PlainBody → ℕ → Type 0
-NamesKnown before (Lookup name) node = IsKnown before node
 NamesKnown before (Init i) node = Unit {0}
+NamesKnown before other node = IsKnown before node
 
 -- The node ids that a reply gives are allowed: here none but 0, which stands for no node.
 abbrev pub GivesAllowed : PlainBody → PlainReply → Type 0
-GivesAllowed (Lookup name) (Refused error) = Unit {0}
-GivesAllowed (Lookup name) (Entry e) = e.nodeid ≡ 0
-GivesAllowed (Lookup name) (Agreed n) = Unit {0}
-GivesAllowed (Init i) reply = Unit {0}
+GivesAllowed body (Entry e) = e.nodeid ≡ 0
+GivesAllowed body other = Unit {0}
 
 -- the rule of a request's nodes after these messages
 abbrev pub node_request_rules : List Message → List (ℕ × (PlainRequest → Type 0))

@@ -1,20 +1,21 @@
 -- What the audit knows after some messages, and the checks of what it has read.
 use Rattle.std.specs.Prelude.{◌≡◌, ◌≢◌, ℕ, true, List, [], ◌∷◌, length, Option, None, Some, IfSome}
-use Rattle.fa_capture.specs.declared.codes.TheConstants.{FIRST_NOT_INIT, NO_REQUEST_WAITS, VERSION, NEGOTIATED_FLAGS}
+use Rattle.fa_capture.specs.declared.codes.TheConstants.{NOTIFICATION, FIRST_NOT_INIT, NO_REQUEST_WAITS, VERSION, NEGOTIATED_FLAGS}
 use Rattle.fa_capture.specs.Message.{Message}
 use Rattle.fa_bodies.specs.declared.init.InitIn.{InitIn}
 use Rattle.fa_bodies.specs.declared.init.Negotiated.{Negotiated}
 use Rattle.fa_bodies.specs.Requests.{PlainRequest, PlainBody, request_shown}
 use Rattle.fa_bodies.specs.Requests.PlainBody.{Init}
 use Rattle.fa_bodies.specs.Replies.{PlainReply, IsReply, reply_shown}
-use Rattle.fa_bodies.specs.Replies.PlainReply.{Agreed}
+use Rattle.fa_bodies.specs.Replies.PlainReply.{InitAnswer}
 use Rattle.fa_audit.specs.declared.session.Event.{Event}
 use Rattle.fa_audit.specs.declared.session.Event.TheVariants.{Asked, Answered}
 use Rattle.fa_audit.specs.declared.session.Session.{Session}
 use Rattle.fa_audit.specs.declared.session.Waiting.{Waiting}
 use Rattle.fa_audit.specs.Answers.{IsRequestMessage, IsOutstanding, Answers}
-use Rattle.fa_audit.specs.Session.{IsInit, IsInitAnswered, IsVersionRight, AreFlagsRight}
+use Rattle.fa_audit.specs.Session.{IsInitAnswered, IsVersionRight, AreFlagsRight}
 use Rattle.fa_audit.specs.Faults.{checks_of, request_rules, reply_rules}
+use Rattle.fa_audit.specs.Replay.{IsTreeBody}
 
 -- the request at p is the one that is kept
 abbrev pub IsWaiting : Option Waiting → ℕ → PlainRequest → Type 0
@@ -44,7 +45,8 @@ request_checked before r = checks_of (λ Such. Such r) (request_rules before)
 -- the checks of a reply's head with this unique, after these messages
 abbrev pub head_checked : List Message → ℕ → List (ℕ × Type 0)
 head_checked before unique =
-    (FIRST_NOT_INIT, before ≢ [])
+    (NOTIFICATION, unique ≢ 0)
+    ∷ (FIRST_NOT_INIT, before ≢ [])
     ∷ (NO_REQUEST_WAITS, (p : ℕ) × (r : PlainRequest) × IsOutstanding before p r × (unique ≡ r.unique))
     ∷ []
 
@@ -54,9 +56,9 @@ reply_checked body reply = checks_of (λ Such. Such body reply) reply_rules
 
 -- the checks of a success of INIT
 abbrev pub init_checked : InitIn → Negotiated → List (ℕ × Type 0)
-init_checked i n = (VERSION, IsVersionRight (Init i) (Agreed n)) ∷ (NEGOTIATED_FLAGS, AreFlagsRight (Init i) (Agreed n)) ∷ []
+init_checked i n = (VERSION, IsVersionRight (Init i) (InitAnswer n)) ∷ (NEGOTIATED_FLAGS, AreFlagsRight (Init i) (InitAnswer n)) ∷ []
 
 -- the number of the tree request that waits, if one does
 abbrev pub UnansweredIn : Session → Option ℕ → Type 0
-UnansweredIn s None = (w : Waiting) → s.waiting ≡ Some w → IsInit (request_shown w.request).body
-UnansweredIn s (Some p) = (w : Waiting) × (s.waiting ≡ Some w) × (w.at ≡ p) × (IsInit (request_shown w.request).body → ⊥)
+UnansweredIn s None = (w : Waiting) → s.waiting ≡ Some w → IsTreeBody (request_shown w.request).body → ⊥
+UnansweredIn s (Some p) = (w : Waiting) × (s.waiting ≡ Some w) × (w.at ≡ p) × IsTreeBody (request_shown w.request).body

@@ -5,16 +5,16 @@ use Rattle.fa_capture.specs.declared.codes.TheConstants.{NO_TREE_REQUEST, PLACED
 use Rattle.fa_capture.specs.Checks.{FirstFailure, AllHold}
 use Rattle.fa_capture.specs.Message.{Message}
 use Rattle.fa_bodies.specs.Requests.{PlainRequest, PlainBody}
-use Rattle.fa_bodies.specs.Requests.PlainBody.{Lookup, Init}
+use Rattle.fa_bodies.specs.Requests.PlainBody.{Lookup}
 use Rattle.fa_bodies.specs.Replies.{PlainReply, IsReply}
 use Rattle.fa_audit.specs.declared.order.Entry.{Entry}
 use Rattle.fa_audit.specs.Answers.{IsRequestAt, Answers, AnswersAt}
 use Rattle.fa_audit.specs.Tree.{Tree, Step, step_checks}
 
--- a request that acts on the tree
+-- a request that acts on the tree: a LOOKUP, and none of another operation yet
 abbrev pub IsTreeBody : PlainBody → Type 0
 IsTreeBody (Lookup name) = Unit {0}
-IsTreeBody (Init i) = ⊥
+IsTreeBody other = ⊥
 
 -- message p is a request that acts on the tree
 abbrev pub IsTreeRequestAt : List Message → ℕ → Type 0
@@ -37,10 +37,10 @@ IsRepliedTo c p r reply =
 abbrev pub numbers : List Entry → List ℕ
 numbers es = map (λ e. e.at) es
 
--- An unanswered request that an order may take as done, with this count of bytes written: none that only reads.
+-- An unanswered request that an order may take as done, with this count of bytes written: none that only reads, so none
+-- of those that act on the tree yet.
 abbrev pub MayBeTaken : PlainBody → Option ℕ → Type 0
-MayBeTaken (Lookup name) wrote = ⊥
-MayBeTaken (Init i) wrote = ⊥
+MayBeTaken body wrote = ⊥
 
 -- The entry's choice is allowed: an answered request carries no count, and an unanswered one may be taken so.
 abbrev pub IsChoice : List Message → Entry → Type 0

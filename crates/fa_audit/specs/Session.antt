@@ -1,19 +1,26 @@
--- The rules of a session: what INIT and its answer must be, and that one request waits at a time.
-use Rattle.std.specs.Prelude.{◌≡◌, ◌≢◌, ℕ, ◌^◌, min, List, [], ◌∷◌}
-use Rattle.std.specs.Int.RustNames.{bit_and}
-use Rattle.fa_capture.specs.declared.codes.TheConstants.{FIRST_NOT_INIT, SECOND_INIT, BEFORE_INIT_ANSWERED, INIT_REFUSED, VERSION, NEGOTIATED_FLAGS, UNIQUE_IN_USE, NO_REQUEST_WAITS, UNIQUE_ZERO, REPLY_BODY}
+-- The rules of a session: which operations it may have, what INIT and its answer must be, and that one request waits
+-- at a time.
+use Rattle.std.specs.Prelude.{◌≡◌, ◌≢◌, ℕ, ◌⊎◌, min, List, [], ◌∷◌}
+use Rattle.fa_capture.specs.declared.codes.TheConstants.{NOTIFICATION, OPERATION, FIRST_NOT_INIT, SECOND_INIT, BEFORE_INIT_ANSWERED, INIT_REFUSED, VERSION, NEGOTIATED_FLAGS, UNIQUE_IN_USE, NO_REQUEST_WAITS, UNIQUE_ZERO, REPLY_BODY}
 use Rattle.fa_capture.specs.Message.{Message}
-use Rattle.fa_bodies.specs.Flags.{init_bits}
+use Rattle.fa_bodies.specs.FlagBits.{writeback_cache, posix_acl}
+use Rattle.fa_bodies.specs.declared.replies.ReplyHead.{ReplyHead}
+use Rattle.fa_bodies.specs.Flags.{HasFlag, init_bits}
 use Rattle.fa_bodies.specs.Requests.{PlainRequest, PlainBody}
-use Rattle.fa_bodies.specs.Requests.PlainBody.{Lookup, Init}
+use Rattle.fa_bodies.specs.Requests.PlainBody.{Init}
 use Rattle.fa_bodies.specs.Replies.{PlainReply, IsReply}
-use Rattle.fa_bodies.specs.Replies.PlainReply.{Refused, Entry, Agreed}
-use Rattle.fa_audit.specs.Answers.{IsRequestMessage, IsOutstanding, Answers, AnswersAt}
+use Rattle.fa_bodies.specs.Replies.PlainReply.{Refused, InitAnswer}
+use Rattle.fa_audit.specs.Answers.{IsRequestMessage, IsReplyMessage, IsOutstanding, Answers, AnswersAt}
+
+-- The operations that a request may have so far, by their numbers in enum fuse_opcode of fuse.h: LOOKUP and INIT. The
+-- other operations of the message grammar are read, but their rules do not stand yet.
+abbrev pub IsAdmitted : ℕ → Type 0
+IsAdmitted opcode = (opcode ≡ 1) ⊎ (opcode ≡ 26)
 
 -- the request is INIT
 abbrev pub IsInit : PlainBody → Type 0
-IsInit (Lookup name) = ⊥
 IsInit (Init i) = Unit {0}
+IsInit other = ⊥
 
 -- INIT was answered among these messages
 abbrev pub IsInitAnswered : List Message → Type 0
@@ -21,35 +28,29 @@ IsInitAnswered before = (q p : ℕ) × (r : PlainRequest) × AnswersAt before q 
 
 -- the answer of INIT is a success
 abbrev pub IsInitAccepted : PlainBody → PlainReply → Type 0
-IsInitAccepted (Lookup name) reply = Unit {0}
 IsInitAccepted (Init i) (Refused error) = ⊥
-IsInitAccepted (Init i) (Entry e) = Unit {0}
-IsInitAccepted (Init i) (Agreed n) = Unit {0}
+IsInitAccepted other reply = Unit {0}
 
 -- Both sides speak major 7, and the least of their minors is 31 (`FUSE_KERNEL_VERSION` and `FUSE_KERNEL_MINOR_VERSION`
 -- of fuse.h).
 abbrev pub IsVersionRight : PlainBody → PlainReply → Type 0
-IsVersionRight (Lookup name) reply = Unit {0}
-IsVersionRight (Init i) (Refused error) = Unit {0}
-IsVersionRight (Init i) (Entry e) = Unit {0}
-IsVersionRight (Init i) (Agreed n) = (i.major ≡ 7) × (n.major ≡ 7) × (min i.minor n.minor ≡ 31)
+IsVersionRight (Init i) (InitAnswer n) = (i.major ≡ 7) × (n.major ≡ 7) × (min i.minor n.minor ≡ 31)
+IsVersionRight other reply = Unit {0}
 
--- the flag word has this flag
-abbrev pub HasFlag : ℕ → ℕ → Type 0
-HasFlag flags flag = bit_and flags flag ≡ flag
-
--- Neither `FUSE_WRITEBACK_CACHE` (bit 16) nor `FUSE_POSIX_ACL` (bit 20) is set on both sides.
+-- Neither `FUSE_WRITEBACK_CACHE` nor `FUSE_POSIX_ACL` is set on both sides.
 abbrev pub AreFlagsRight : PlainBody → PlainReply → Type 0
-AreFlagsRight (Lookup name) reply = Unit {0}
-AreFlagsRight (Init i) (Refused error) = Unit {0}
-AreFlagsRight (Init i) (Entry e) = Unit {0}
-AreFlagsRight (Init i) (Agreed n) =
-    (HasFlag (init_bits i.flags) (2 ^ 16) → HasFlag (init_bits n.flags) (2 ^ 16) → ⊥)
-    × (HasFlag (init_bits i.flags) (2 ^ 20) → HasFlag (init_bits n.flags) (2 ^ 20) → ⊥)
+AreFlagsRight (Init i) (InitAnswer n) =
+    (HasFlag (init_bits i.flags) writeback_cache → HasFlag (init_bits n.flags) writeback_cache → ⊥)
+    × (HasFlag (init_bits i.flags) posix_acl → HasFlag (init_bits n.flags) posix_acl → ⊥)
+AreFlagsRight other reply = Unit {0}
 
 -- if the message is a request, this holds of it
 abbrev pub ForRequest : Message → (PlainRequest → Type 0) → Type 0
 ForRequest m Such = (r : PlainRequest) → IsRequestMessage m r → Such r
+
+-- if the message is from the server and has a head, this holds of it
+abbrev pub ForHead : Message → (ReplyHead → Type 0) → Type 0
+ForHead m Such = (head : ReplyHead) → IsReplyMessage m head → Such head
 
 -- if the message answers a request, this holds of that request
 abbrev pub ForAnswered : List Message → Message → (PlainRequest → Type 0) → Type 0
@@ -59,6 +60,10 @@ ForAnswered before m Such = (p : ℕ) (r : PlainRequest) → Answers before m p 
 abbrev pub ForReply : List Message → Message → (PlainBody → PlainReply → Type 0) → Type 0
 ForReply before m Such =
     (p : ℕ) (r : PlainRequest) (reply : PlainReply) → Answers before m p r → IsReply r m.bytes reply → Such r.body reply
+
+-- The rule of a request's operation. It stands before all other rules of a request.
+abbrev pub operation_rules : List (ℕ × (PlainRequest → Type 0))
+operation_rules = (OPERATION, λ r. IsAdmitted r.opcode) ∷ []
 
 -- The session's rules of a request after these messages, in their order. One request waits at a time, whatever its
 -- unique is.
@@ -71,10 +76,12 @@ session_request_rules before =
     ∷ (UNIQUE_IN_USE, λ r. (p : ℕ) (waiting : PlainRequest) → IsOutstanding before p waiting → ⊥)
     ∷ []
 
--- The session's checks of which request a message from the server answers, in their order.
+-- The session's checks of which request a message from the server answers, in their order. No notification, whose
+-- unique is 0, passes yet.
 abbrev pub answer_checks : List Message → Message → List (ℕ × Type 0)
 answer_checks before m =
-    (FIRST_NOT_INIT, before ≢ [])
+    (NOTIFICATION, ForHead m (λ head. head.unique ≢ 0))
+    ∷ (FIRST_NOT_INIT, before ≢ [])
     ∷ (NO_REQUEST_WAITS, (p : ℕ) × (r : PlainRequest) × Answers before m p r)
     ∷ (REPLY_BODY, ForAnswered before m (λ r. (reply : PlainReply) × IsReply r m.bytes reply))
     ∷ []

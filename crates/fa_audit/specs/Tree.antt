@@ -3,9 +3,9 @@
 use Rattle.std.specs.Prelude.{◌≡◌, ◌≢◌, ℕ, ℤ, negsuc, ◌⊎◌, List, [], ◌∷◌, Contains, slice_get, Some}
 use Rattle.fa_capture.specs.declared.codes.TheConstants.{UNKNOWN_HERE, SUCCESS_NOT_ALLOWED, ERROR_WITHOUT_CAUSE}
 use Rattle.fa_bodies.specs.Requests.{PlainRequest, PlainBody}
-use Rattle.fa_bodies.specs.Requests.PlainBody.{Lookup, Init}
+use Rattle.fa_bodies.specs.Requests.PlainBody.{Lookup}
 use Rattle.fa_bodies.specs.Replies.{PlainReply}
-use Rattle.fa_bodies.specs.Replies.PlainReply.{Refused, Entry, Agreed}
+use Rattle.fa_bodies.specs.Replies.PlainReply.{Refused, Entry}
 use Rattle.fa_audit.specs.Nodes.{root_node}
 
 -- what a file is
@@ -46,34 +46,31 @@ IsThere tree dir name = (file : ℕ) × Contains tree.links (dir, name, file)
 abbrev pub IsDetermined : ℤ → Type 0
 IsDetermined error = (error ≡ negsuc 1) ⊎ (error ≡ negsuc 16) ⊎ (error ≡ negsuc 19) ⊎ (error ≡ negsuc 20) ⊎ (error ≡ negsuc 38)
 
--- the cause of a determined error, by the request
+-- the cause of a determined error, by the request: a LOOKUP, as no other request acts on the tree yet
 abbrev pub HasCause : Tree → PlainBody → ℕ → ℤ → Type 0
 -- ENOENT: the name is not there. ENOTDIR: the node is no directory.
 HasCause tree (Lookup name) dir error =
     ((error ≡ negsuc 1) × (IsThere tree dir name → ⊥)) ⊎ ((error ≡ negsuc 19) × (IsDirectory tree dir → ⊥))
-HasCause tree (Init i) dir error = ⊥
+HasCause tree other dir error = ⊥
 
 -- A success that the tree allows. LOOKUP is answered with node id 0 where the directory has no such name, and with
--- another where it has one; the attributes and the node id of that answer are not judged yet.
+-- another where it has one; the attributes and the node id of that answer are not judged yet. No other request acts on
+-- the tree yet.
 abbrev pub MaySucceed : Tree → PlainBody → ℕ → PlainReply → Type 0
-MaySucceed tree (Lookup name) dir (Refused error) = ⊥
 MaySucceed tree (Lookup name) dir (Entry e) =
     IsDirectory tree dir
     × (((e.nodeid ≡ 0) × (IsThere tree dir name → ⊥)) ⊎ ((e.nodeid ≢ 0) × IsThere tree dir name))
-MaySucceed tree (Lookup name) dir (Agreed n) = ⊥
-MaySucceed tree (Init i) dir reply = ⊥
+MaySucceed tree other dir reply = ⊥
 
 -- what holds of a reply that is a success
 abbrev pub OnSuccess : PlainReply → Type 0 → Type 0
 OnSuccess (Refused error) Such = Unit {0}
-OnSuccess (Entry e) Such = Such
-OnSuccess (Agreed n) Such = Such
+OnSuccess other Such = Such
 
 -- what holds of a reply that is an error
 abbrev pub OnRefusal : PlainReply → (ℤ → Type 0) → Type 0
 OnRefusal (Refused error) Such = Such error
-OnRefusal (Entry e) Such = Unit {0}
-OnRefusal (Agreed n) Such = Unit {0}
+OnRefusal other Such = Unit {0}
 
 -- One step: from this tree the request may get this reply and leave the new tree. Its node stands for a file, and on
 -- that file a success is allowed, or an error has its cause where it needs one. LOOKUP changes nothing.

@@ -1,9 +1,11 @@
 //! The tree requests of a capture, each with its answer.
 
-ghost use Rattle.std.specs.Prelude.{◌≡◌, ◌≤◌, length, vec_len, IfOk, MatchResult};
+ghost use Rattle.std.specs.Prelude.{◌≡◌, ◌↔◌, ◌≤◌, length, vec_len, IsTrue, IfOk, MatchResult};
 ghost use Rattle.fa_capture.specs.Message.{messages};
 ghost use Rattle.fa_capture.specs.declared.limits.TheConstants.{MAX_MESSAGES};
+ghost use Rattle.fa_bodies.specs.Requests.{body_shown};
 ghost use Rattle.fa_audit.specs.Faults.{EachPasses};
+ghost use Rattle.fa_audit.specs.Replay.{IsTreeBody};
 ghost use Rattle.fa_audit.specs.Progress.{UnansweredIn};
 ghost use Rattle.fa_audit.specs.Calls.{AreCalls};
 ghost use Rattle.fa_audit.specs.Refusal.{CallIn, IsRefusal};
@@ -15,17 +17,17 @@ use std::alloc::{AllocError, AllocFailed, Global};
 
 /// A tree request that was answered.
 #[derive(Clone, Copy, Debug)]
-pub struct Call {
+pub struct Call<'a> {
     /// The number of its message.
     pub at: u32,
-    pub reply: Reply,
+    pub reply: Reply<'a>,
 }
 
 /// The tree requests of a capture.
 #[derive(Debug, Drop)]
-pub struct Calls {
+pub struct Calls<'a> {
     /// Those that were answered, in the order of their messages. Each was answered before the next was asked.
-    pub answered: Vec<Call>,
+    pub answered: Vec<Call<'a>>,
     /// The number of the one that was not, if there is one.
     pub unanswered: Option<u32>,
 }
@@ -56,7 +58,7 @@ impl<T: Drop> From<AllocFailed<T>> for Refusal {
 ///
 /// One pass, in time linear in the messages and the bytes of their names. Memory for one [`Call`] an answered tree
 /// request, which grows by doubling.
-pub fn calls_of(alloc: Global, packets: &[Packet<'_>]) -> Result<Calls, Refusal>
+pub fn calls_of<'a>(alloc: Global, packets: &[Packet<'a>]) -> Result<Calls<'a>, Refusal>
     requires { length packets.now ≤ MAX_MESSAGES }
     ensures passes { IfOk result (λ calls. EachPasses (messages packets.now) (length packets.now)) }
     ensures calls { IfOk result (λ calls. AreCalls (messages packets.now) calls.answered.items calls.unanswered) }
@@ -82,19 +84,23 @@ pub fn calls_of(alloc: Global, packets: &[Packet<'_>]) -> Result<Calls, Refusal>
     })
 }
 
+/// Whether a request acts on the tree: a LOOKUP, and none of another operation yet.
+fn acts_on_tree(body: &RequestBody<'_>) -> bool
+    ensures { IsTrue result ↔ IsTreeBody (body_shown body.now) }
+{
+    matches!(body, RequestBody::Lookup { .. })
+}
+
 /// The call that an event ends, if it is the answer of a tree request.
-fn call_in(event: &Event<'_>) -> Option<Call>
+fn call_in<'a>(event: &Event<'a>) -> Option<Call<'a>>
     ensures { CallIn event.now result }
 {
     match event {
-        Event::Answered { asked, reply } => match asked.request.body {
-            RequestBody::Lookup { .. } => Some(Call {
-                at: asked.at,
-                reply: *reply,
-            }),
-            RequestBody::Init(_) => None,
-        },
-        Event::Asked(_) => None,
+        Event::Answered { asked, reply } if acts_on_tree(&asked.request.body) => Some(Call {
+            at: asked.at,
+            reply: *reply,
+        }),
+        _ => None,
     }
 }
 
@@ -103,10 +109,7 @@ fn unanswered_in(session: &Session<'_>) -> Option<u32>
     ensures { UnansweredIn session.now result }
 {
     match session.waiting {
-        Some(waiting) => match waiting.request.body {
-            RequestBody::Lookup { .. } => Some(waiting.at),
-            RequestBody::Init(_) => None,
-        },
-        None => None,
+        Some(waiting) if acts_on_tree(&waiting.request.body) => Some(waiting.at),
+        _ => None,
     }
 }

@@ -46,41 +46,41 @@ fn lacks_cause(error: i32) -> bool
 }
 
 /// Looks whether the tree, an empty root, allows this reply to a LOOKUP on its root. The error is a code.
-fn check_step(reply: Reply) -> Result<(), u16>
-    ensures ok { OnOk result (StepAllows (reply_shown reply)) }
-    ensures fault { IfErr result (StepRefuses (reply_shown reply)) }
+fn check_step(reply: &Reply<'_>) -> Result<(), u16>
+    ensures ok { OnOk result (StepAllows (reply_shown reply.now)) }
+    ensures fault { IfErr result (StepRefuses (reply_shown reply.now)) }
 {
     match reply {
-        Reply::Refused(error) if lacks_cause(error) => Err(codes::ERROR_WITHOUT_CAUSE),
+        Reply::Refused(error) if lacks_cause(*error) => Err(codes::ERROR_WITHOUT_CAUSE),
         Reply::Refused(_) => Ok(()),
         Reply::Entry(entry) if entry.nodeid == 0 => Ok(()),
-        Reply::Entry(_) | Reply::Negotiated(_) => Err(codes::SUCCESS_NOT_ALLOWED),
+        _ => Err(codes::SUCCESS_NOT_ALLOWED),
     }
 }
 
 /// Whether one of the calls has this message number.
-fn is_among(calls: &[Call], at: u32) -> bool
+fn is_among(calls: &[Call<'_>], at: u32) -> bool
     ensures { IsTrue result ↔ Any (λ call. call.at ≡ at) calls.now }
 {
     calls.iter().any(|call| call.at == at)
 }
 
 /// The answered call at this place.
-fn call_at(calls: &Calls, place: usize) -> Option<Call>
+fn call_at<'a>(calls: &Calls<'a>, place: usize) -> Option<Call<'a>>
     ensures { result ≡ slice_get calls.now.answered.items place }
 {
     calls.answered.get(place).copied()
 }
 
 /// Whether the request that was not answered has this message number.
-fn is_unanswered(calls: &Calls, at: u32) -> bool
+fn is_unanswered(calls: &Calls<'_>, at: u32) -> bool
     ensures { IsTrue result ↔ (calls.now.unanswered ≡ Some at) }
 {
     calls.unanswered == Some(at)
 }
 
 /// The code of an entry that is not the next call, after the first `count` calls were placed.
-fn misplaced(calls: &Calls, count: usize, entry: Entry) -> u16
+fn misplaced(calls: &Calls<'_>, count: usize, entry: Entry) -> u16
     requires within { count ≤ vec_len calls.now.answered }
     requires apart { IsNext calls.now.answered.items count entry.at → ⊥ }
     ensures { FailsAfter calls.now.answered.items calls.now.unanswered count entry result }
@@ -104,7 +104,7 @@ fn misplaced(calls: &Calls, count: usize, entry: Entry) -> u16
 
 /// Looks whether an entry may come after the first `count` calls. The error is the code of the first check that it
 /// fails.
-fn check_entry(calls: &Calls, count: usize, entry: Entry) -> Result<(), u16>
+fn check_entry(calls: &Calls<'_>, count: usize, entry: Entry) -> Result<(), u16>
     requires { count ≤ vec_len calls.now.answered }
     ensures placed { OnOk result (IsPlaced calls.now.answered.items count entry) }
     ensures fault { IfErr result (FailsAfter calls.now.answered.items calls.now.unanswered count entry) }
@@ -114,7 +114,7 @@ fn check_entry(calls: &Calls, count: usize, entry: Entry) -> Result<(), u16>
             if entry.wrote.is_some() {
                 return Err(codes::CHOICE_NOT_ALLOWED);
             }
-            check_step(call.reply)
+            check_step(&call.reply)
         }
         _ => Err(misplaced(calls, count, entry)),
     }
@@ -128,7 +128,7 @@ fn check_entry(calls: &Calls, count: usize, entry: Entry) -> Result<(), u16>
 /// # Cost
 ///
 /// Takes no memory. One pass over the entries, and at an entry at fault one over the calls.
-pub fn replay(calls: &Calls, entries: &[Entry]) -> Result<u32, EntryFault>
+pub fn replay(calls: &Calls<'_>, entries: &[Entry]) -> Result<u32, EntryFault>
     requires { length entries.now < 2 ^ 32 }
     ensures explained { IfOk result (λ left. (c : List Message) → AreReplayed c calls.now.answered.items calls.now.unanswered → IsExplained c entries.now left) }
     ensures fault { IfErr result (λ f. (c : List Message) → AreReplayed c calls.now.answered.items calls.now.unanswered → IsOrderAtFault c empty_root entries.now f.entry f.at f.code) }

@@ -3,18 +3,18 @@
 ghost use Rattle.std.specs.Prelude.{◌≡◌, ◌↔◌, ◌<◌, ◌∷◌, ◌++◌, ℕ, List, [], Option, Some, None, IsTrue, OnOk, OnErr, IfOk, IfErr};
 ghost use Rattle.fa_capture.specs.Checks.{AllHold, FirstFailure};
 ghost use Rattle.fa_capture.specs.Message.{Message, message};
-ghost use Rattle.fa_bodies.specs.Flags.{init_bits};
+ghost use Rattle.fa_bodies.specs.Flags.{HasFlag, init_bits};
 ghost use Rattle.fa_bodies.specs.Requests.{body_shown};
 ghost use Rattle.fa_bodies.specs.Replies.{reply_shown};
 ghost use Rattle.fa_capture.specs.declared.limits.TheConstants.{MAX_MESSAGES};
-ghost use Rattle.fa_audit.specs.Session.{HasFlag, IsInit};
+ghost use Rattle.fa_audit.specs.Session.{IsAdmitted, IsInit};
 ghost use Rattle.fa_audit.specs.Faults.{Passes, message_checks};
 ghost use Rattle.fa_audit.specs.Progress.{Shows, IsEvent, request_checked, head_checked, reply_checked, init_checked};
 
 use bitflags::Flags;
 use fa_bodies::{
-    InitFlags, InitIn, Negotiated, Reply, ReplyHead, Request, RequestBody, reply_body, reply_head,
-    request,
+    InitFlags, InitIn, Negotiated, Reply, ReplyHead, Request, RequestBody, opcodes, reply_body,
+    reply_head, request,
 };
 use fa_capture::{Direction, Packet, codes};
 
@@ -49,7 +49,10 @@ pub enum Event<'a> {
     /// A request, which waits from now on.
     Asked(Waiting<'a>),
     /// The answer of a request.
-    Answered { asked: Waiting<'a>, reply: Reply },
+    Answered {
+        asked: Waiting<'a>,
+        reply: Reply<'a>,
+    },
 }
 
 impl<'a> Session<'a> {
@@ -109,29 +112,29 @@ impl<'a> Session<'a> {
         ensures ok { OnOk result ((before : List Message) → Shows before self.now → AllHold (request_checked before (request_shown request.now))) }
         ensures fault { IfErr result (λ code. (before : List Message) → Shows before self.now → FirstFailure (request_checked before (request_shown request.now)) code) }
     {
+        if !is_admitted(request.opcode) {
+            return Err(codes::OPERATION);
+        }
         if request.unique == 0 {
             return Err(codes::UNIQUE_ZERO);
         }
-        match request.body {
-            RequestBody::Init(_) => {
-                if self.messages != 0 {
-                    return Err(codes::SECOND_INIT);
-                }
+        if is_init(&request.body) {
+            if self.messages != 0 {
+                return Err(codes::SECOND_INIT);
             }
-            RequestBody::Lookup { .. } => {
-                if self.messages == 0 {
-                    return Err(codes::FIRST_NOT_INIT);
-                }
-                if !self.is_open {
-                    return Err(codes::BEFORE_INIT_ANSWERED);
-                }
-                if self.waiting.is_some() {
-                    return Err(codes::UNIQUE_IN_USE);
-                }
-                if request.node != ROOT_NODE {
-                    return Err(codes::FORGOTTEN_NODE);
-                }
-            }
+            return Ok(());
+        }
+        if self.messages == 0 {
+            return Err(codes::FIRST_NOT_INIT);
+        }
+        if !self.is_open {
+            return Err(codes::BEFORE_INIT_ANSWERED);
+        }
+        if self.waiting.is_some() {
+            return Err(codes::UNIQUE_IN_USE);
+        }
+        if request.node != ROOT_NODE {
+            return Err(codes::FORGOTTEN_NODE);
         }
         Ok(())
     }
@@ -144,6 +147,9 @@ impl<'a> Session<'a> {
         ensures ok { OnOk result ((before : List Message) → Shows before self.now → AllHold (head_checked before head.unique)) }
         ensures fault { IfErr result (λ code. (before : List Message) → Shows before self.now → FirstFailure (head_checked before head.unique) code) }
     {
+        if head.unique == 0 {
+            return Err(codes::NOTIFICATION);
+        }
         if self.messages == 0 {
             return Err(codes::FIRST_NOT_INIT);
         }
@@ -152,6 +158,13 @@ impl<'a> Session<'a> {
             _ => Err(codes::NO_REQUEST_WAITS),
         }
     }
+}
+
+/// Whether a request may have this operation so far.
+fn is_admitted(opcode: u32) -> bool
+    ensures { IsTrue result ↔ IsAdmitted opcode }
+{
+    matches!(opcode, opcodes::LOOKUP | opcodes::INIT)
 }
 
 /// Whether a request is INIT.
@@ -186,16 +199,14 @@ fn check_init_answer(init: &InitIn, answer: &Negotiated) -> Result<(), u16>
 
 /// Looks whether what a reply says to a request keeps the rules. The error is the code of the first rule that it
 /// breaks.
-fn check_reply(asked: &RequestBody<'_>, reply: &Reply) -> Result<(), u16>
+fn check_reply(asked: &RequestBody<'_>, reply: &Reply<'_>) -> Result<(), u16>
     ensures ok { OnOk result (AllHold (reply_checked (body_shown asked.now) (reply_shown reply.now))) }
     ensures fault { IfErr result (FirstFailure (reply_checked (body_shown asked.now) (reply_shown reply.now))) }
 {
     match (asked, reply) {
         (RequestBody::Init(_), Reply::Refused(_)) => Err(codes::INIT_REFUSED),
         (RequestBody::Init(init), Reply::Negotiated(answer)) => check_init_answer(init, answer),
-        (RequestBody::Lookup { .. }, Reply::Entry(entry)) if entry.nodeid != 0 => {
-            Err(codes::NODE_ID_NOT_ALLOWED)
-        }
+        (_, Reply::Entry(entry)) if entry.nodeid != 0 => Err(codes::NODE_ID_NOT_ALLOWED),
         _ => Ok(()),
     }
 }

@@ -1,4 +1,9 @@
 pub mod FieldLaws
+pub mod StructLaws
+pub mod BodyLaws
 pub mod OptionLaws
 pub mod RequestLaws
 pub mod ReplyLaws
+pub mod OperationLaws
+pub mod ItemLaws
+pub mod ListingLaws

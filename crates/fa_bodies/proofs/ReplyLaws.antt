@@ -1,21 +1,25 @@
 -- The checks of a reply, and that bytes are at most one.
-use Rattle.std.proofs.Common.{◌≡◌, ◌≢◌, ℕ, ◌≤◌, List, [], ◌∷◌, length, refl, sym, ap, subst, Result, Ok, Err, ◌∙◌, arith, inl, inr}
-use Rattle.std.specs.Prelude.{ℤ, pos, ◌↔◌, IfOk}
+use Rattle.std.proofs.Common.{◌≡◌, ℕ, ◌≤◌, List, [], ◌∷◌, length, refl, sym, ap, subst, Result, Ok, Err, ◌∙◌, arith, inl, inr, Bool, true, false}
+use Rattle.std.specs.Prelude.{ℤ, pos, ◌<ℤ◌, ◌↔◌, IfOk}
+use Rattle.std.specs.Int.Signed.{<ℤ_irrefl}
 use Rattle.fa_capture.specs.Checks.{FirstFailure, AllHold}
-use Rattle.fa_capture.specs.declared.codes.TheConstants.{ERROR_VALUE, NOTIFICATION}
-use Rattle.fa_bodies.specs.declared.entry.Attributes.{Attributes}
+use Rattle.fa_bodies.specs.declared.entry.AttrOut.{AttrOut}
 use Rattle.fa_bodies.specs.declared.entry.EntryOut.{EntryOut}
+use Rattle.fa_bodies.specs.declared.handles.OpenOut.{OpenOut}
 use Rattle.fa_bodies.specs.declared.init.Negotiated.{Negotiated}
 use Rattle.fa_bodies.specs.declared.replies.ReplyHead.{ReplyHead}
 use Rattle.fa_bodies.specs.declared.replies.Reply.{Reply}
+use Rattle.fa_bodies.specs.Dirents.{PlainDirent}
 use Rattle.fa_bodies.specs.Fields.{Field, BeginsWith}
 use Rattle.fa_bodies.specs.Fields.Field.{U64, I32}
-use Rattle.fa_bodies.specs.Structs.{out_header, attr, entry_out, init_out}
+use Rattle.fa_bodies.specs.Structs.{out_header, entry_out, open_out}
 use Rattle.fa_bodies.specs.Requests.{PlainBody, PlainRequest, IsLengthRight, length_checks}
-use Rattle.fa_bodies.specs.Requests.PlainBody.{Lookup, Init}
-use Rattle.fa_bodies.specs.Replies.{PlainReply, IsErrorValue, IsReplyHead, HasReplyHeader, reply_head_checks, IsInitOut, IsSuccessBody, IsSuccess, Says, IsReply, reply_shown}
-use Rattle.fa_bodies.specs.Replies.PlainReply.{Entry, Agreed}
-use Rattle.fa_bodies.proofs.FieldLaws.{fields-one, length-fields}
+use Rattle.fa_bodies.specs.Requests.PlainBody.{Lookup, Forget, Getattr, Setattr, Readlink, Symlink, Mknod, Mkdir, Unlink, Rmdir, Rename, Link, Open, Read, Write, Release, Flush, Init, Opendir, Readdir, Releasedir, Create, BatchForget, Readdirplus, Passed}
+use Rattle.fa_bodies.specs.Replies.{PlainReply, IsErrorRight, IsNotificationRight, IsReplyHead, HasReplyHeader, head_checks, reply_head_checks, IsEntryBody, IsCreatedBody, IsAttributesBody, IsOpenedBody, IsWrittenBody, IsListedBody, IsSuccessBody, IsSuccess, Says, IsReply, reply_shown}
+use Rattle.fa_bodies.specs.Replies.PlainReply.{Entry, Created, Attributes, Opened, Written, Listed, InitAnswer}
+use Rattle.fa_bodies.proofs.FieldLaws.{fields-one, length-fields, parts_of, rest-one}
+use Rattle.fa_bodies.proofs.StructLaws.{entry-one, attr_out-one, open_out-one, write_out-one, init_out-one}
+use Rattle.fa_bodies.proofs.ListingLaws.{entries-one, none-in_nil}
 use Rattle.fa_bodies.proofs.RequestLaws.{len_right, right_by_len}
 
 -- ---- the header
@@ -36,49 +40,48 @@ header-one bytes len len' error error' unique unique' body body' p q =
 
 -- ---- the checks of the head
 
-pub head_found : (bytes : List ℕ) (len : ℕ) (error : ℤ) (unique : ℕ) (body : List ℕ)
-    → IsLengthRight bytes → BeginsWith bytes (out_header len error unique) body → IsErrorValue error → unique ≢ 0
-    → IsReplyHead bytes (record { unique = unique; error = error })
-head_found bytes len error unique body right p in_range other =
-    let same = len_right bytes len (I32 error ∷ U64 unique ∷ []) body right p in
-    record { body_bytes = body; header = subst (λ (n : ℕ). BeginsWith bytes (out_header n error unique) body) same p; in_range = in_range; no_notification = other }
+pub head_found : (bytes : List ℕ) (len : ℕ) (head : ReplyHead) (body : List ℕ)
+    → IsLengthRight bytes → BeginsWith bytes (out_header len head.error head.unique) body → AllHold (head_checks (λ Such. Such head))
+    → IsReplyHead bytes head
+head_found bytes len head body right p hold =
+    let same = len_right bytes len (I32 head.error ∷ U64 head.unique ∷ []) body right p in
+    record { body_bytes = body; header = subst (λ (n : ℕ). BeginsWith bytes (out_header n head.error head.unique) body) same p; reply = hold.0; notification = hold.1.0 }
 
-has_header : (bytes : List ℕ) (len : ℕ) (error : ℤ) (unique : ℕ) (body : List ℕ) (Such : ℤ → ℕ → Type 0)
-    → BeginsWith bytes (out_header len error unique) body → Such error unique → HasReplyHeader bytes Such
-has_header bytes len error unique body Such p such = record { len = len; error = error; unique = unique; body_bytes = body; header = p; such = such }
+has_header : (bytes : List ℕ) (len : ℕ) (head : ReplyHead) (body : List ℕ) (Such : ReplyHead → Type 0)
+    → BeginsWith bytes (out_header len head.error head.unique) body → Such head → HasReplyHeader bytes Such
+has_header bytes len head body Such p such = record { len = len; head = head; body_bytes = body; header = p; such = such }
 
-such_of : (bytes : List ℕ) (len : ℕ) (error : ℤ) (unique : ℕ) (body : List ℕ) (Such : ℤ → ℕ → Type 0)
-    → BeginsWith bytes (out_header len error unique) body → HasReplyHeader bytes Such → Such error unique
-such_of bytes len error unique body Such p has =
-    let same = header-one bytes has.len len has.error error has.unique unique has.body_bytes body has.header p in
-    subst (λ (e : ℤ). Such e unique) same.errors (subst (λ (u : ℕ). Such has.error u) same.uniques has.such)
+same_head : (a b : ReplyHead) → a.unique ≡ b.unique → a.error ≡ b.error → a ≡ b
+same_head a b uniques errors =
+    let made : ℕ → ℤ → ReplyHead = λ u e. record { unique = u; error = e } in
+    let whole : made a.unique a.error ≡ made b.unique b.error = rw (uniques, errors) refl in
+    whole
 
-abbrev InRange : ℤ → ℕ → Type 0
-InRange error unique = unique ≢ 0 → IsErrorValue error
+such_of : (bytes : List ℕ) (len : ℕ) (head : ReplyHead) (body : List ℕ) (Such : ReplyHead → Type 0)
+    → BeginsWith bytes (out_header len head.error head.unique) body → HasReplyHeader bytes Such → Such head
+such_of bytes len head body Such p has =
+    let same = header-one bytes has.len len has.head.error head.error has.head.unique head.unique has.body_bytes body has.header p in
+    subst (λ (h : ReplyHead). Such h) (same_head has.head head same.uniques same.errors) has.such
 
-abbrev OfRequest : ℤ → ℕ → Type 0
-OfRequest error unique = unique ≢ 0
-
-pub is_notification : (bytes : List ℕ) (len : ℕ) (error : ℤ) (unique : ℕ) (body : List ℕ)
-    → AllHold (length_checks 16 bytes) → BeginsWith bytes (out_header len error unique) body → unique ≡ 0
-    → FirstFailure (reply_head_checks bytes) NOTIFICATION
-is_notification bytes len error unique body hold p zero =
+-- what fails of the head fails of the message, and is the first to fail
+pub head_fault : (bytes : List ℕ) (len : ℕ) (head : ReplyHead) (body : List ℕ) (code : ℕ)
+    → AllHold (length_checks 16 bytes) → BeginsWith bytes (out_header len head.error head.unique) body
+    → FirstFailure (head_checks (λ Such. Such head)) code → FirstFailure (reply_head_checks bytes) code
+head_fault bytes len head body code hold p fails =
+    let first = λ (Such : ReplyHead → Type 0) (fails : Such head → ⊥) (has : HasReplyHeader bytes Such). fails (such_of bytes len head body Such p has) in
     inr (
       hold.0,
       inr (
         hold.1.0,
-        inr (
-          has_header bytes len error unique body InRange p (λ other. absurd (other zero)),
-          inl ((λ has. such_of bytes len error unique body OfRequest p has zero), refl),
-        ),
+        elim fails [
+          | inl f ↦ inl (first IsErrorRight f.0, f.1)
+          | inr f ↦ inr (
+            has_header bytes len head body IsErrorRight p f.0,
+            elim f.1 [ inl g ↦ inl (first IsNotificationRight g.0, g.1) | inr g ↦ absurd g.1 ],
+          )
+        ],
       ),
     )
-
-pub is_out_of_range : (bytes : List ℕ) (len : ℕ) (error : ℤ) (unique : ℕ) (body : List ℕ)
-    → AllHold (length_checks 16 bytes) → BeginsWith bytes (out_header len error unique) body → unique ≢ 0 → (IsErrorValue error → ⊥)
-    → FirstFailure (reply_head_checks bytes) ERROR_VALUE
-is_out_of_range bytes len error unique body hold p other out =
-    inr (hold.0, inr (hold.1.0, inl ((λ has. out (such_of bytes len error unique body InRange p has other)), refl)))
 
 -- ---- the body
 
@@ -96,25 +99,27 @@ reply_says asked bytes len error unique body reply p is =
     let same = header-one bytes (length bytes) len is.error error asked.unique unique is.head.body_bytes body is.head.header p in
     subst (λ (e : ℤ). Says asked e body reply) same.errors (subst (λ (x : List ℕ). Says asked is.error x reply) same.bodies is.body)
 
+-- an error below 0 is not 0
+below_zero : (error : ℤ) → error <ℤ pos 0 → error ≡ pos 0 → ⊥
+below_zero error below zero = <ℤ_irrefl (subst (λ (z : ℤ). z <ℤ pos 0) zero below)
+
 pub says_success : (asked : PlainRequest) (error : ℤ) (body : List ℕ) (reply : PlainReply) → error ≡ pos 0 → Says asked error body reply → IsSuccess asked body reply
-says_success asked error body reply e says = elim says [ inl s ↦ s.1 | inr r ↦ absurd (r.0 e) ]
+says_success asked error body reply e says = elim says [ inl s ↦ s.1 | inr r ↦ absurd (below_zero error r.0 e) ]
 
 -- ---- the laws
 
 pub head-one : (bytes : List ℕ) (a b : ReplyHead) → IsReplyHead bytes a → IsReplyHead bytes b → a ≡ b
 head-one bytes a b p q =
     let same = header-one bytes (length bytes) (length bytes) a.error b.error a.unique b.unique p.body_bytes q.body_bytes p.header q.header in
-    let made : ℕ → ℤ → ReplyHead = λ u e. record { unique = u; error = e } in
-    let whole : made a.unique a.error ≡ made b.unique b.error = rw (same.uniques, same.errors) refl in
-    whole
+    same_head a b same.uniques same.errors
 
 pub head-checks : (bytes : List ℕ) → AllHold (reply_head_checks bytes) ↔ ((head : ReplyHead) × IsReplyHead bytes head)
 head-checks bytes = (
   (λ hold.
-      let ranged = hold.1.1.0 in
+      let error = hold.1.1.0 in
       let has = hold.1.1.1.0 in
-      let in_range = such_of bytes has.len has.error has.unique has.body_bytes InRange has.header ranged has.such in
-      (record { unique = has.unique; error = has.error }, head_found bytes has.len has.error has.unique has.body_bytes hold.1.0 has.header in_range has.such)),
+      let right = such_of bytes has.len has.head has.body_bytes IsErrorRight has.header error in
+      (has.head, head_found bytes has.len has.head has.body_bytes hold.1.0 has.header (right, (has.such, tt)))),
   (λ found.
       let head = found.0 in
       let is = found.1 in
@@ -124,9 +129,9 @@ head-checks bytes = (
         (
           right_by_len bytes fs is.body_bytes is.header,
           (
-            has_header bytes (length bytes) head.error head.unique is.body_bytes InRange is.header (λ other. is.in_range),
+            has_header bytes (length bytes) head is.body_bytes IsErrorRight is.header is.reply,
             (
-              has_header bytes (length bytes) head.error head.unique is.body_bytes OfRequest is.header is.no_notification,
+              has_header bytes (length bytes) head is.body_bytes IsNotificationRight is.header is.notification,
               tt,
             ),
           ),
@@ -134,72 +139,66 @@ head-checks bytes = (
       )),
 )
 
-attr-ext : (a b : Attributes) → attr a ≡ attr b → a ≡ b
-attr-ext a b same =
-    let made : ℕ → ℕ → ℕ → ℕ → ℕ → ℕ → ℕ → ℕ → ℕ → ℕ → ℕ → ℕ → ℕ → ℕ → ℕ → Attributes =
-    λ ino size blocks atime mtime ctime atimensec mtimensec ctimensec mode nlink uid gid rdev blksize.
-    record { ino = ino; size = size; blocks = blocks; atime = atime; mtime = mtime; ctime = ctime; atimensec = atimensec; mtimensec = mtimensec; ctimensec = ctimensec; mode = mode; nlink = nlink; uid = uid; gid = gid; rdev = rdev; blksize = blksize } in
-    let e1 : a.ino ≡ b.ino = cc in
-    let e2 : a.size ≡ b.size = cc in
-    let e3 : a.blocks ≡ b.blocks = cc in
-    let e4 : a.atime ≡ b.atime = cc in
-    let e5 : a.mtime ≡ b.mtime = cc in
-    let e6 : a.ctime ≡ b.ctime = cc in
-    let e7 : a.atimensec ≡ b.atimensec = cc in
-    let e8 : a.mtimensec ≡ b.mtimensec = cc in
-    let e9 : a.ctimensec ≡ b.ctimensec = cc in
-    let e10 : a.mode ≡ b.mode = cc in
-    let e11 : a.nlink ≡ b.nlink = cc in
-    let e12 : a.uid ≡ b.uid = cc in
-    let e13 : a.gid ≡ b.gid = cc in
-    let e14 : a.rdev ≡ b.rdev = cc in
-    let e15 : a.blksize ≡ b.blksize = cc in
-    let whole : made a.ino a.size a.blocks a.atime a.mtime a.ctime a.atimensec a.mtimensec a.ctimensec a.mode a.nlink a.uid a.gid a.rdev a.blksize
-    ≡ made b.ino b.size b.blocks b.atime b.mtime b.ctime b.atimensec b.mtimensec b.ctimensec b.mode b.nlink b.uid b.gid b.rdev b.blksize
-    = rw (e1, e2, e3, e4, e5, e6, e7, e8, e9, e10, e11, e12, e13, e14, e15) refl in
-    whole
+-- ---- bodies of successes
 
-pub entry-one : (body r s : List ℕ) (a b : EntryOut) → BeginsWith body (entry_out a) r → BeginsWith body (entry_out b) s → a ≡ b
-entry-one body r s a b p q =
-    let one = fields-one (entry_out a) (entry_out b) body r s (refl, tt) p q in
-    let same : entry_out a ≡ entry_out b = one.0 in
-    let attrs : attr a.attr ≡ attr b.attr = cc in
-    let made : ℕ → ℕ → ℕ → ℕ → ℕ → ℕ → Attributes → EntryOut =
-    λ nodeid generation entry_valid attr_valid entry_valid_nsec attr_valid_nsec inner.
-    record { nodeid = nodeid; generation = generation; entry_valid = entry_valid; attr_valid = attr_valid; entry_valid_nsec = entry_valid_nsec; attr_valid_nsec = attr_valid_nsec; attr = inner } in
-    let e1 : a.nodeid ≡ b.nodeid = cc in
-    let e2 : a.generation ≡ b.generation = cc in
-    let e3 : a.entry_valid ≡ b.entry_valid = cc in
-    let e4 : a.attr_valid ≡ b.attr_valid = cc in
-    let e5 : a.entry_valid_nsec ≡ b.entry_valid_nsec = cc in
-    let e6 : a.attr_valid_nsec ≡ b.attr_valid_nsec = cc in
-    let e7 : a.attr ≡ b.attr = attr-ext a.attr b.attr attrs in
-    let whole : made a.nodeid a.generation a.entry_valid a.attr_valid a.entry_valid_nsec a.attr_valid_nsec a.attr
-    ≡ made b.nodeid b.generation b.entry_valid b.attr_valid b.entry_valid_nsec b.attr_valid_nsec b.attr
-    = rw (e1, e2, e3, e4, e5, e6, e7) refl in
-    whole
+entry_body-one : (body : List ℕ) (a b : PlainReply) → IsEntryBody body a → IsEntryBody body b → a ≡ b
+entry_body-one body a b p q = p.1 ∙ ap (λ (e : EntryOut). Entry e) (entry-one p.0 q.0 body [] [] p.2 q.2) ∙ sym q.1
 
-pub init_out-one : (body : List ℕ) (a b : Negotiated) → IsInitOut body a → IsInitOut body b → a ≡ b
-init_out-one body a b p q =
-    let one = fields-one (init_out a) (init_out b) body p.2 q.2 tt p.3 q.3 in
-    let same : init_out a ≡ init_out b = one.0 in
-    let made : ℕ → ℕ → ℕ → ℕ → Negotiated = λ x y z w. record { major = x; minor = y; max_readahead = z; flags = record { 0 = w } } in
-    let e1 : a.major ≡ b.major = cc in
-    let e2 : a.minor ≡ b.minor = cc in
-    let e3 : a.max_readahead ≡ b.max_readahead = cc in
-    let e4 : a.flags.0 ≡ b.flags.0 = cc in
-    let whole : made a.major a.minor a.max_readahead a.flags.0 ≡ made b.major b.minor b.max_readahead b.flags.0 = rw (e1, e2, e3, e4) refl in
-    whole
+attributes_body-one : (body : List ℕ) (a b : PlainReply) → IsAttributesBody body a → IsAttributesBody body b → a ≡ b
+attributes_body-one body a b p q = p.1 ∙ ap (λ (x : AttrOut). Attributes x) (attr_out-one p.0 q.0 body [] [] p.2 q.2) ∙ sym q.1
+
+opened_body-one : (body : List ℕ) (a b : PlainReply) → IsOpenedBody body a → IsOpenedBody body b → a ≡ b
+opened_body-one body a b p q = p.1 ∙ ap (λ (o : OpenOut). Opened o) (open_out-one p.0 q.0 body [] [] p.2 q.2) ∙ sym q.1
+
+created_body-one : (body : List ℕ) (a b : PlainReply) → IsCreatedBody body a → IsCreatedBody body b → a ≡ b
+created_body-one body a b p q =
+    let x = parts_of (entry_out p.0) (open_out p.1) body [] p.3 in
+    let y = parts_of (entry_out q.0) (open_out q.1) body [] q.3 in
+    let entries = entry-one p.0 q.0 body x.0 y.0 x.1 y.1 in
+    let middle = rest-one (entry_out p.0) (entry_out q.0) body x.0 y.0 refl x.1 y.1 in
+    let opens = open_out-one p.1 q.1 y.0 [] [] (subst (λ (m : List ℕ). BeginsWith m (open_out p.1) []) middle x.2) y.2 in
+    p.2 ∙ ap (λ (e : EntryOut). Created e p.1) entries ∙ ap (λ (o : OpenOut). Created q.0 o) opens ∙ sym q.2
+
+written_body-one : (asked : ℕ) (body : List ℕ) (a b : PlainReply) → IsWrittenBody asked body a → IsWrittenBody asked body b → a ≡ b
+written_body-one asked body a b p q = p.1 ∙ ap (λ (n : ℕ). Written n) (write_out-one p.0 q.0 body [] [] p.2 q.2) ∙ sym q.1
+
+listed_body-one : (plus : Bool) (asked : ℕ) (body : List ℕ) (a b : PlainReply) → IsListedBody plus asked body a → IsListedBody plus asked body b → a ≡ b
+listed_body-one plus asked body a b p q =
+    let same = entries-one p.0 q.0 plus body [] [] p.2 (none-in_nil plus) q.2 (none-in_nil plus) in
+    p.1 ∙ ap (λ (ds : List PlainDirent). Listed ds) same.0 ∙ sym q.1
 
 success_body-one : (opcode : ℕ) (asked : PlainBody) (body : List ℕ) (a b : PlainReply) → IsSuccessBody opcode asked body a → IsSuccessBody opcode asked body b → a ≡ b
-success_body-one opcode (Lookup name) body a b p q = p.1 ∙ ap (λ (e : EntryOut). Entry e) (entry-one body [] [] p.0 q.0 p.2 q.2) ∙ sym q.1
-success_body-one opcode (Init i) body a b p q = p.1 ∙ ap (λ (n : Negotiated). Agreed n) (init_out-one body p.0 q.0 p.2 q.2) ∙ sym q.1
+success_body-one opcode (Lookup name) body a b p q = entry_body-one body a b p q
+success_body-one opcode (Forget nlookup) body a b p q = absurd p
+success_body-one opcode (Getattr g) body a b p q = attributes_body-one body a b p q
+success_body-one opcode (Setattr s) body a b p q = attributes_body-one body a b p q
+success_body-one opcode Readlink body a b p q = p ∙ sym q
+success_body-one opcode (Symlink name target) body a b p q = entry_body-one body a b p q
+success_body-one opcode (Mknod mode rdev umask name) body a b p q = entry_body-one body a b p q
+success_body-one opcode (Mkdir mode umask name) body a b p q = entry_body-one body a b p q
+success_body-one opcode (Unlink name) body a b p q = p.0 ∙ sym q.0
+success_body-one opcode (Rmdir name) body a b p q = p.0 ∙ sym q.0
+success_body-one opcode (Rename newdir old_name new_name) body a b p q = p.0 ∙ sym q.0
+success_body-one opcode (Link oldnodeid new_name) body a b p q = entry_body-one body a b p q
+success_body-one opcode (Open o) body a b p q = opened_body-one body a b p q
+success_body-one opcode (Read r) body a b p q = p.0 ∙ sym q.0
+success_body-one opcode (Write fh offset size write_flags lock_owner flags payload) body a b p q = written_body-one size body a b p q
+success_body-one opcode (Release r) body a b p q = p.0 ∙ sym q.0
+success_body-one opcode (Flush f) body a b p q = p.0 ∙ sym q.0
+success_body-one opcode (Init i) body a b p q = p.1 ∙ ap (λ (n : Negotiated). InitAnswer n) (init_out-one p.0 q.0 body p.2.2 q.2.2 p.2.3 q.2.3) ∙ sym q.1
+success_body-one opcode (Opendir o) body a b p q = opened_body-one body a b p q
+success_body-one opcode (Readdir r) body a b p q = listed_body-one false r.size body a b p q
+success_body-one opcode (Releasedir r) body a b p q = p.0 ∙ sym q.0
+success_body-one opcode (Create flags mode umask name) body a b p q = created_body-one body a b p q
+success_body-one opcode (BatchForget count items) body a b p q = absurd p
+success_body-one opcode (Readdirplus r) body a b p q = listed_body-one true r.size body a b p q
+success_body-one opcode Passed body a b p q = p.0 ∙ sym q.0
 
 says-one : (asked : PlainRequest) (error : ℤ) (body : List ℕ) (a b : PlainReply) → Says asked error body a → Says asked error body b → a ≡ b
 says-one asked error body a b p q =
     elim p [
       | inl s ↦ success_body-one asked.opcode asked.body body a b s.1 (says_success asked error body b s.0 q)
-      | inr r ↦ elim q [ inl t ↦ absurd (r.0 t.0) | inr t ↦ r.1 ∙ sym t.1 ]
+      | inr r ↦ elim q [ inl t ↦ absurd (below_zero error r.0 t.0) | inr t ↦ r.2 ∙ sym t.2 ]
     ]
 
 pub reply-one : (asked : PlainRequest) (bytes : List ℕ) (a b : PlainReply) → IsReply asked bytes a → IsReply asked bytes b → a ≡ b

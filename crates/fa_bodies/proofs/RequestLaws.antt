@@ -1,17 +1,13 @@
 -- The checks of a request, and that bytes are at most one.
-use Rattle.std.proofs.Common.{◌≡◌, ℕ, ◌≤◌, List, [], ◌∷◌, length, refl, sym, ap, subst, ◌∙◌, arith, inl, inr}
+use Rattle.std.proofs.Common.{◌≡◌, ℕ, ◌≤◌, List, [], ◌∷◌, length, refl, subst, arith, inl, inr}
 use Rattle.std.specs.Prelude.{◌↔◌}
-use Rattle.std.proofs.lemmas.List.{same_from_push}
 use Rattle.fa_capture.specs.Checks.{FirstFailure, AllHold}
-use Rattle.fa_bodies.specs.declared.opcodes.TheConstants.{INIT}
-use Rattle.fa_bodies.specs.declared.init.InitIn.{InitIn}
 use Rattle.fa_bodies.specs.Fields.{Field, BeginsWith}
 use Rattle.fa_bodies.specs.Fields.Field.{U32, U64, Unread}
-use Rattle.fa_bodies.specs.Structs.{in_header, init_in}
-use Rattle.fa_bodies.specs.Names.{IsNameBody}
-use Rattle.fa_bodies.specs.Requests.{PlainBody, PlainRequest, IsOperation, IsRequestBody, IsRequest, IsLengthRight, HasRequestHeader, HasBody, length_checks, body_checks, request_checks}
-use Rattle.fa_bodies.specs.Requests.PlainBody.{Lookup, Init}
+use Rattle.fa_bodies.specs.Structs.{in_header}
+use Rattle.fa_bodies.specs.Requests.{PlainBody, PlainRequest, IsRequestBody, IsWithinLimit, IsRequest, IsLengthRight, HasRequestHeader, IsOperation, HasBody, HasBodyWithinLimit, length_checks, body_checks, request_checks}
 use Rattle.fa_bodies.proofs.FieldLaws.{fields-one, length-fields}
+use Rattle.fa_bodies.proofs.BodyLaws.{body-one, operation_of}
 
 -- ---- the length
 
@@ -47,16 +43,16 @@ header-one bytes len opcode unique node len' opcode' unique' node' body body' p 
 
 -- where the length is right, header and body make the request
 pub request_found : (bytes : List ℕ) (len opcode unique node : ℕ) (body : List ℕ) (b : PlainBody)
-    → IsLengthRight bytes → BeginsWith bytes (in_header len opcode unique node) body → IsRequestBody opcode body b
+    → IsLengthRight bytes → BeginsWith bytes (in_header len opcode unique node) body → IsRequestBody opcode body b → IsWithinLimit b
     → IsRequest bytes (record { unique = unique; node = node; opcode = opcode; body = b })
-request_found bytes len opcode unique node body b right p h =
+request_found bytes len opcode unique node body b right p h within =
     let same = len_right bytes len (U32 opcode ∷ U64 unique ∷ U64 node ∷ Unread 16 ∷ []) body right p in
-    record { body_bytes = body; header = subst (λ (n : ℕ). BeginsWith bytes (in_header n opcode unique node) body) same p; body = h }
+    record { body_bytes = body; header = subst (λ (n : ℕ). BeginsWith bytes (in_header n opcode unique node) body) same p; body = h; limit = within }
 
 -- what fails at the body is the first to fail of the request
 pub request_fault : (bytes : List ℕ) (len opcode unique node : ℕ) (body : List ℕ) (code : ℕ)
     → AllHold (length_checks 40 bytes) → BeginsWith bytes (in_header len opcode unique node) body
-    → FirstFailure (body_checks opcode body) code → FirstFailure (request_checks bytes) code
+    → FirstFailure (body_checks (λ Such. Such opcode body)) code → FirstFailure (request_checks bytes) code
 request_fault bytes len opcode unique node body code hold p fails =
     let header : (Such : ℕ → List ℕ → Type 0) → Such opcode body → HasRequestHeader bytes Such =
     λ Such such. record { len = len; opcode = opcode; unique = unique; node = node; body_bytes = body; header = p; such = such } in
@@ -64,45 +60,23 @@ request_fault bytes len opcode unique node body code hold p fails =
     λ Such has.
     let same = header-one bytes has.len has.opcode has.unique has.node len opcode unique node has.body_bytes body has.header p in
     subst (λ (o : ℕ). Such o body) same.opcodes (subst (λ (x : List ℕ). Such has.opcode x) same.bodies has.such) in
+    let first = λ (Such : ℕ → List ℕ → Type 0) (fails : Such opcode body → ⊥) (has : HasRequestHeader bytes Such). fails (back Such has) in
     inr (
       hold.0,
       inr (
         hold.1.0,
         elim fails [
-          | inl f ↦ inl ((λ has. f.0 (back (λ o x. IsOperation o) has)), f.1)
+          | inl f ↦ inl (first (λ o x. IsOperation o) f.0, f.1)
           | inr f ↦ inr (
             header (λ o x. IsOperation o) f.0,
             elim f.1 [
-              | inl g ↦ inl ((λ has. g.0 (back HasBody has)), g.1)
-              | inr g ↦ absurd g.1
+              | inl g ↦ inl (first HasBody g.0, g.1)
+              | inr g ↦ inr (header HasBody g.0, elim g.1 [ inl h ↦ inl (first HasBodyWithinLimit h.0, h.1) | inr h ↦ absurd h.1 ])
             ],
           )
         ],
       ),
     )
-
--- ---- bodies
-
-init-ext : (i j : InitIn) → i.major ≡ j.major → i.minor ≡ j.minor → i.max_readahead ≡ j.max_readahead → i.flags.0 ≡ j.flags.0 → i ≡ j
-init-ext i j a b c d =
-    let made : ℕ → ℕ → ℕ → ℕ → InitIn = λ p q r s. record { major = p; minor = q; max_readahead = r; flags = record { 0 = s } } in
-    let same : made i.major i.minor i.max_readahead i.flags.0 ≡ made j.major j.minor j.max_readahead j.flags.0 = rw (a, b, c, d) refl in
-    same
-
-pub init_in-one : (i j : InitIn) (body r s : List ℕ) → BeginsWith body (init_in i) r → BeginsWith body (init_in j) s → i ≡ j
-init_in-one i j body r s p q =
-    let one = fields-one (init_in i) (init_in j) body r s tt p q in
-    let same : init_in i ≡ init_in j = one.0 in
-    init-ext i j (cc) (cc) (cc) (cc)
-
-pub name-one : (body x y : List ℕ) → IsNameBody body x → IsNameBody body y → x ≡ y
-name-one body x y p q = (same_from_push x y 0 0 (sym p.ended ∙ q.ended)).0
-
-pub body-one : (opcode : ℕ) (body : List ℕ) (x y : PlainBody) → IsRequestBody opcode body x → IsRequestBody opcode body y → x ≡ y
-body-one opcode body (Lookup x) (Lookup y) p q = ap (λ (n : List ℕ). Lookup n) (name-one body x y p.1 q.1)
-body-one opcode body (Init i) (Init j) p q = ap (λ (n : InitIn). Init n) (init_in-one i j body p.1 q.1 p.2 q.2)
-body-one opcode body (Lookup x) (Init j) p q = absurd (omega (arith, p.0, q.0))
-body-one opcode body (Init i) (Lookup y) p q = absurd (omega (arith, p.0, q.0))
 
 -- ---- the laws
 
@@ -115,17 +89,13 @@ request-one bytes a b p q =
     let whole : made a.unique a.node a.opcode a.body ≡ made b.unique b.node b.opcode b.body = rw (same.uniques, same.nodes, same.opcodes, bodies) refl in
     whole
 
-operation_of : (opcode : ℕ) (body : List ℕ) (b : PlainBody) → IsRequestBody opcode body b → IsOperation opcode
-operation_of opcode body (Lookup x) p = inl p.0
-operation_of opcode body (Init i) p = inr p.0
-
 pub request-checks : (bytes : List ℕ) → AllHold (request_checks bytes) ↔ ((r : PlainRequest) × IsRequest bytes r)
 request-checks bytes = (
   (λ hold.
-      let has = hold.1.1.1.0 in
+      let has = hold.1.1.1.1.0 in
       let b = has.such in (
         record { unique = has.unique; node = has.node; opcode = has.opcode; body = b.0 },
-        request_found bytes has.len has.opcode has.unique has.node has.body_bytes b.0 hold.1.0 has.header b.1,
+        request_found bytes has.len has.opcode has.unique has.node has.body_bytes b.0 hold.1.0 has.header b.1 b.2,
       )),
   (λ found.
       let r = found.0 in
@@ -139,15 +109,12 @@ request-checks bytes = (
             record { len = length bytes; opcode = r.opcode; unique = r.unique; node = r.node; body_bytes = is.body_bytes; header = is.header; such = operation_of r.opcode is.body_bytes r.body is.body },
             (
               record { len = length bytes; opcode = r.opcode; unique = r.unique; node = r.node; body_bytes = is.body_bytes; header = is.header; such = (r.body, is.body) },
-              tt,
+              (
+                record { len = length bytes; opcode = r.opcode; unique = r.unique; node = r.node; body_bytes = is.body_bytes; header = is.header; such = (r.body, is.body, is.limit) },
+                tt,
+              ),
             ),
           ),
         ),
       )),
 )
-
--- ---- bodies that are none of an operation
-
-pub no_init : (body : List ℕ) → ((i : InitIn) (newer : List ℕ) → BeginsWith body (init_in i) newer → ⊥) → (b : PlainBody) → IsRequestBody INIT body b → ⊥
-no_init body none (Lookup x) p = absurd (omega (arith, p.0))
-no_init body none (Init i) p = none i p.1 p.2

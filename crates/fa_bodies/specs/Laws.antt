@@ -1,8 +1,11 @@
 -- What holds of the grammar of messages.
-use Rattle.std.specs.Prelude.{◌≡◌, ◌↔◌, ℕ, List}
+use Rattle.std.specs.Prelude.{◌≡◌, ◌↔◌, ℕ, ◌<◌, ◌*◌, Bool, List, [], length, All}
 use Rattle.fa_capture.specs.Checks.{AllHold}
+use Rattle.fa_bodies.specs.declared.forget_one.ForgetOne.{ForgetOne}
 use Rattle.fa_bodies.specs.declared.replies.ReplyHead.{ReplyHead}
-use Rattle.fa_bodies.specs.Requests.{PlainRequest, IsRequest, request_checks}
+use Rattle.fa_bodies.specs.Dirents.{PlainDirent, AreEntries, HoldsEntries}
+use Rattle.fa_bodies.specs.ForgetOnes.{AreItems, HoldsItems}
+use Rattle.fa_bodies.specs.Requests.{PlainRequest, IsOperation, HasBody, IsRequest, request_checks}
 use Rattle.fa_bodies.specs.Replies.{PlainReply, IsReplyHead, IsReply, reply_head_checks}
 
 -- Bytes are at most one request.
@@ -14,6 +17,10 @@ RequestIsOne =
 abbrev pub RequestPassesChecks : Type 0
 RequestPassesChecks =
     (bytes : List ℕ) → AllHold (request_checks bytes) ↔ ((r : PlainRequest) × IsRequest bytes r)
+
+-- An opcode is that of an operation that is read exactly where some bytes are a body of it.
+abbrev pub OperationHasBody : Type 0
+OperationHasBody = (opcode : ℕ) → IsOperation opcode ↔ ((body : List ℕ) × HasBody opcode body)
 
 -- Bytes begin with at most one head of a reply.
 abbrev pub ReplyHeadIsOne : Type 0
@@ -31,3 +38,37 @@ abbrev pub ReplyIsOne : Type 0
 ReplyIsOne =
     (asked : PlainRequest) (bytes : List ℕ) (a b : PlainReply)
     → IsReply asked bytes a → IsReply asked bytes b → a ≡ b
+
+-- Bytes hold at most one list of items of BATCH_FORGET.
+abbrev pub ItemsAreOne : Type 0
+ItemsAreOne =
+    (bytes : List ℕ) (a b : List ForgetOne) → HoldsItems bytes a → HoldsItems bytes b → a ≡ b
+
+-- All bytes hold a list of items of BATCH_FORGET.
+abbrev pub BytesHoldItems : Type 0
+BytesHoldItems =
+    (bytes : List ℕ) → All (λ b. b < 256) bytes → (items : List ForgetOne) × HoldsItems bytes items
+
+-- The payload of a READDIR or READDIRPLUS reply holds at most one list of entries.
+abbrev pub EntriesAreOne : Type 0
+EntriesAreOne =
+    (plus : Bool) (bytes : List ℕ) (a b : List PlainDirent)
+    → HoldsEntries plus bytes a → HoldsEntries plus bytes b → a ≡ b
+
+-- All bytes hold a list of entries.
+abbrev pub BytesHoldEntries : Type 0
+BytesHoldEntries =
+    (plus : Bool) (bytes : List ℕ) → All (λ b. b < 256) bytes
+    → (ds : List PlainDirent) × HoldsEntries plus bytes ds
+
+-- Bytes with room for so many items of BATCH_FORGET hold so many, and nothing stands behind them.
+abbrev pub CountedItems : Type 0
+CountedItems =
+    (count : ℕ) (bytes : List ℕ) (items : List ForgetOne)
+    → length bytes ≡ 16 * count → HoldsItems bytes items → (length items ≡ count) × AreItems bytes items []
+
+-- Bytes that are whole directory entries hold these.
+abbrev pub WholeEntries : Type 0
+WholeEntries =
+    (plus : Bool) (bytes : List ℕ) (ds : List PlainDirent)
+    → AreEntries plus bytes ds [] → HoldsEntries plus bytes ds

@@ -1,9 +1,15 @@
 pub use Rattle.fa_capture.specs.Checks
 pub use Rattle.fa_capture.specs.Message
+pub mod FlagBits
 pub mod Flags
-pub mod Fields
-pub mod Structs
 pub mod Names
+pub mod Fields
+pub mod Modes
+pub mod Structs
 pub mod Requests
 pub mod Replies
 pub mod Laws
+pub mod ForgetOnes
+pub mod Items
+pub mod Dirents
+pub mod Listing

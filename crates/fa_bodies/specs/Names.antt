@@ -1,19 +1,27 @@
--- Names in requests.
-use Rattle.std.specs.Prelude.{◌≡◌, ◌≢◌, ℕ, ◌≤◌, List, [], ◌∷◌, ◌++◌, length, All, codes}
+-- Names and targets in requests.
+use Rattle.std.specs.Prelude.{◌≢◌, ℕ, ◌≤◌, List, length, All, codes}
 
 -- a byte that a name may have: neither zero nor a slash
 abbrev pub IsNameByte : ℕ → Type 0
 IsNameByte b = (b ≢ 0) × (b ≢ 47)
 
--- A name of this profile: 1 to 1,024 bytes without zero byte and slash, neither `.` nor `..`.
-pub record IsName (name : List ℕ) : Type 0 where
+-- A filename of POSIX (no zero byte, no slash) of 1 to 1,024 bytes, which is FUSE_NAME_MAX of Linux.
+pub record IsFilename (name : List ℕ) : Type 0 where
   pub not_empty : 1 ≤ length name
   pub not_too_long : length name ≤ 1024
   pub each_byte : All IsNameByte name
+
+-- A name in a request: a filename that is neither `.` nor `..`.
+pub record IsName (name : List ℕ) : Type 0 where
+  pub filename : IsFilename name
   pub not_dot : name ≢ codes "."
   pub not_dot_dot : name ≢ codes ".."
 
--- a name, and one zero byte behind it that ends the body
-pub record IsNameBody (body name : List ℕ) : Type 0 where
-  pub name_rule : IsName name
-  pub ended : body ≡ name ++ 0 ∷ []
+-- no byte is zero
+abbrev pub HasNoZero : List ℕ → Type 0
+HasNoZero bytes = All (λ b. b ≢ 0) bytes
+
+-- The target of a symbolic link (POSIX symlink): one byte or more, none of them zero. Slashes, `.` and
+-- `..` may stand in it.
+abbrev pub IsTarget : List ℕ → Type 0
+IsTarget target = (1 ≤ length target) × HasNoZero target

@@ -1,22 +1,55 @@
 -- What bytes are a request, and which one.
-use Rattle.std.specs.Prelude.{◌≡◌, ℕ, ◌≤◌, List, [], ◌∷◌, ◌++◌, length, ◌⊎◌}
-use Rattle.fa_capture.specs.declared.codes.TheConstants.{HEADER_TOO_SHORT, LENGTH_FIELD, OPERATION, REQUEST_BODY}
-use Rattle.fa_bodies.specs.declared.opcodes.TheConstants.{LOOKUP, INIT}
+use Rattle.std.specs.Prelude.{◌≡◌, ◌≢◌, ℕ, ◌≤◌, ◌+◌, ◌*◌, ◌^◌, List, [], ◌∷◌, ◌++◌, length, ◌⊎◌}
+use Rattle.fa_capture.specs.declared.codes.TheConstants.{HEADER_TOO_SHORT, LENGTH_FIELD, OPERATION, REQUEST_BODY, PROFILE_LIMIT}
+use Rattle.fa_bodies.specs.declared.attributes.GetattrIn.{GetattrIn}
+use Rattle.fa_bodies.specs.declared.attributes.SetattrIn.{SetattrIn}
+use Rattle.fa_bodies.specs.declared.flags.OpenFlags.{OpenFlags}
+use Rattle.fa_bodies.specs.declared.handles.FlushIn.{FlushIn}
+use Rattle.fa_bodies.specs.declared.handles.OpenIn.{OpenIn}
+use Rattle.fa_bodies.specs.declared.handles.ReadIn.{ReadIn}
+use Rattle.fa_bodies.specs.declared.handles.ReleaseIn.{ReleaseIn}
 use Rattle.fa_bodies.specs.declared.init.InitIn.{InitIn}
+use Rattle.fa_bodies.specs.declared.mode.Mode.{Mode}
 use Rattle.fa_bodies.specs.declared.requests.Request.{Request}
 use Rattle.fa_bodies.specs.declared.requests.RequestBody.{RequestBody}
 use Rattle.fa_bodies.specs.declared.requests.RequestBody.TheVariants as declared
-use Rattle.fa_bodies.specs.Fields.{BeginsWith}
-use Rattle.fa_bodies.specs.Fields.Field.{U32}
-use Rattle.fa_bodies.specs.Structs.{in_header, init_in}
-use Rattle.fa_bodies.specs.Names.{IsNameBody}
+use Rattle.fa_bodies.specs.Fields.{BeginsWith, IsSpelled}
+use Rattle.fa_bodies.specs.Fields.Field.{U32, Name, Target}
+use Rattle.fa_bodies.specs.FlagBits.{fattr_size}
+use Rattle.fa_bodies.specs.Flags.{HasFlag, fattr_bits}
+use Rattle.fa_bodies.specs.Modes.{mode_bits, IsNodeMode}
+use Rattle.fa_bodies.specs.Structs.{in_header, forget_in, getattr_in, setattr_in, mknod_in, mkdir_in, rename_in, link_in, open_in, read_in, write_in, release_in, flush_in, init_in, create_in, batch_forget_in}
 
--- the body of a request, without where its names lie in memory
+-- The body of a request, without where its names and payloads lie in memory.
 pub data PlainBody : Type 0 where
   Lookup : (name : List ℕ) → PlainBody
+  Forget : (nlookup : ℕ) → PlainBody
+  Getattr : GetattrIn → PlainBody
+  Setattr : SetattrIn → PlainBody
+  Readlink : PlainBody
+  Symlink : (name target : List ℕ) → PlainBody
+  Mknod : (mode : Mode) (rdev umask : ℕ) (name : List ℕ) → PlainBody
+  Mkdir : (mode : Mode) (umask : ℕ) (name : List ℕ) → PlainBody
+  Unlink : (name : List ℕ) → PlainBody
+  Rmdir : (name : List ℕ) → PlainBody
+  Rename : (newdir : ℕ) (old_name new_name : List ℕ) → PlainBody
+  Link : (oldnodeid : ℕ) (new_name : List ℕ) → PlainBody
+  Open : OpenIn → PlainBody
+  Read : ReadIn → PlainBody
+  Write : (fh offset size write_flags lock_owner : ℕ) (flags : OpenFlags) (payload : List ℕ) → PlainBody
+  Release : ReleaseIn → PlainBody
+  Flush : FlushIn → PlainBody
   Init : InitIn → PlainBody
+  Opendir : OpenIn → PlainBody
+  Readdir : ReadIn → PlainBody
+  Releasedir : ReleaseIn → PlainBody
+  Create : (flags : OpenFlags) (mode : Mode) (umask : ℕ) (name : List ℕ) → PlainBody
+  BatchForget : (count : ℕ) (items : List ℕ) → PlainBody
+  Readdirplus : ReadIn → PlainBody
+  -- an operation that is read by its header alone
+  Passed : PlainBody
 
--- a request, without where its names lie in memory
+-- A request, without where its names and payloads lie in memory.
 pub record PlainRequest : Type 0 where
   pub unique : ℕ
   pub node : ℕ
@@ -26,31 +59,147 @@ pub record PlainRequest : Type 0 where
 -- what a body that was read shows
 abbrev pub body_shown : RequestBody → PlainBody
 body_shown (declared.Lookup name) = Lookup name.now
+body_shown (declared.Forget nlookup) = Forget nlookup
+body_shown (declared.Getattr g) = Getattr g
+body_shown (declared.Setattr s) = Setattr s
+body_shown declared.Readlink = Readlink
+body_shown (declared.Symlink name target) = Symlink name.now target.now
+body_shown (declared.Mknod mode rdev umask name) = Mknod mode rdev umask name.now
+body_shown (declared.Mkdir mode umask name) = Mkdir mode umask name.now
+body_shown (declared.Unlink name) = Unlink name.now
+body_shown (declared.Rmdir name) = Rmdir name.now
+body_shown (declared.Rename newdir old_name new_name) = Rename newdir old_name.now new_name.now
+body_shown (declared.Link oldnodeid new_name) = Link oldnodeid new_name.now
+body_shown (declared.Open o) = Open o
+body_shown (declared.Read r) = Read r
+body_shown (declared.Write fh offset size write_flags lock_owner flags payload) =
+    Write fh offset size write_flags lock_owner flags payload.now
+body_shown (declared.Release r) = Release r
+body_shown (declared.Flush f) = Flush f
 body_shown (declared.Init i) = Init i
+body_shown (declared.Opendir o) = Opendir o
+body_shown (declared.Readdir r) = Readdir r
+body_shown (declared.Releasedir r) = Releasedir r
+body_shown (declared.Create flags mode umask name) = Create flags mode umask name.now
+body_shown (declared.BatchForget count items) = BatchForget count items.now
+body_shown (declared.Readdirplus r) = Readdirplus r
+body_shown declared.Passed = Passed
 
 -- what a request that was read shows
 abbrev pub request_shown : Request → PlainRequest
 request_shown r =
     record { unique = r.unique; node = r.node; opcode = r.opcode; body = body_shown r.body }
 
--- an operation of the set
-abbrev pub IsOperation : ℕ → Type 0
-IsOperation opcode = (opcode ≡ LOOKUP) ⊎ (opcode ≡ INIT)
+-- the number is one of these, in a form that computes on a list that is written out
+abbrev pub IsOneOf : List ℕ → ℕ → Type 0
+IsOneOf [] n = ⊥
+IsOneOf (m ∷ ms) n = (n ≡ m) ⊎ IsOneOf ms n
 
--- The body of a request with this opcode: one case an operation.
+-- operations without effect here, whatever is answered
+abbrev pub bystanders : List ℕ
+bystanders =
+    17 ∷ 20 ∷ 30  -- STATFS, FSYNC, FSYNCDIR
+    ∷ 21 ∷ 22 ∷ 23 ∷ 24  -- SETXATTR, GETXATTR, LISTXATTR, REMOVEXATTR
+    ∷ 31 ∷ 32 ∷ 33  -- GETLK, SETLK, SETLKW
+    ∷ 34 ∷ 36 ∷ 37 ∷ 38  -- ACCESS, INTERRUPT, BMAP, DESTROY
+    ∷ 40 ∷ 46  -- POLL, LSEEK
+    ∷ []
+
+-- operations that change files in ways that are not judged here
+abbrev pub changers : List ℕ
+changers = 39 ∷ 43 ∷ 45 ∷ 47 ∷ []  -- IOCTL, FALLOCATE, RENAME2, COPY_FILE_RANGE
+
+-- An operation that is read (enum fuse_opcode of fuse.h): those from 1 to 47, of which 7 and 19 are
+-- no operations, and 41 is NOTIFY_REPLY.
+abbrev pub IsOperation : ℕ → Type 0
+IsOperation opcode = (1 ≤ opcode) × (opcode ≤ 47) × (opcode ≢ 7) × (opcode ≢ 19) × (opcode ≢ 41)
+
+-- The body of a request with this opcode: one case for each operation that is judged, with its
+-- number in enum fuse_opcode of fuse.h, and one for those that are read by their headers alone.
 abbrev pub IsRequestBody : ℕ → List ℕ → PlainBody → Type 0
 -- a name
-IsRequestBody opcode body (Lookup name) = (opcode ≡ LOOKUP) × IsNameBody body name
--- struct fuse_init_in, and behind it whatever newer minors append
-IsRequestBody opcode body (Init i) =
-    (opcode ≡ INIT) × (newer : List ℕ) × BeginsWith body (init_in i) newer
+IsRequestBody opcode body (Lookup name) = (opcode ≡ 1) × IsSpelled body (Name name ∷ [])
+-- struct fuse_forget_in
+IsRequestBody opcode body (Forget nlookup) = (opcode ≡ 2) × IsSpelled body (forget_in nlookup)
+-- struct fuse_getattr_in
+IsRequestBody opcode body (Getattr g) = (opcode ≡ 3) × IsSpelled body (getattr_in g)
+-- struct fuse_setattr_in
+IsRequestBody opcode body (Setattr s) = (opcode ≡ 4) × IsSpelled body (setattr_in s)
+-- nothing
+IsRequestBody opcode body Readlink = (opcode ≡ 5) × IsSpelled body []
+-- a name, and behind it the target
+IsRequestBody opcode body (Symlink name target) = (opcode ≡ 6) × IsSpelled body (Name name ∷ Target target ∷ [])
+-- struct fuse_mknod_in with a type that MKNOD may make, and a name
+IsRequestBody opcode body (Mknod mode rdev umask name) =
+    (opcode ≡ 8) × IsNodeMode (mode_bits mode) × IsSpelled body (mknod_in mode rdev umask ++ Name name ∷ [])
+-- struct fuse_mkdir_in, and a name
+IsRequestBody opcode body (Mkdir mode umask name) =
+    (opcode ≡ 9) × IsSpelled body (mkdir_in mode umask ++ Name name ∷ [])
+-- a name
+IsRequestBody opcode body (Unlink name) = (opcode ≡ 10) × IsSpelled body (Name name ∷ [])
+-- a name
+IsRequestBody opcode body (Rmdir name) = (opcode ≡ 11) × IsSpelled body (Name name ∷ [])
+-- struct fuse_rename_in, and two names
+IsRequestBody opcode body (Rename newdir old_name new_name) =
+    (opcode ≡ 12) × IsSpelled body (rename_in newdir ++ Name old_name ∷ Name new_name ∷ [])
+-- struct fuse_link_in, and a name
+IsRequestBody opcode body (Link oldnodeid new_name) =
+    (opcode ≡ 13) × IsSpelled body (link_in oldnodeid ++ Name new_name ∷ [])
+-- struct fuse_open_in
+IsRequestBody opcode body (Open o) = (opcode ≡ 14) × IsSpelled body (open_in o)
+-- struct fuse_read_in
+IsRequestBody opcode body (Read r) = (opcode ≡ 15) × IsSpelled body (read_in r)
+-- struct fuse_write_in, and as many bytes as its size says
+IsRequestBody opcode body (Write fh offset size write_flags lock_owner flags payload) =
+    (opcode ≡ 16) × BeginsWith body (write_in fh offset size write_flags lock_owner flags) payload
+    × (length payload ≡ size)
+-- struct fuse_release_in
+IsRequestBody opcode body (Release r) = (opcode ≡ 18) × IsSpelled body (release_in r)
+-- struct fuse_flush_in
+IsRequestBody opcode body (Flush f) = (opcode ≡ 25) × IsSpelled body (flush_in f)
+-- struct fuse_init_in, and any bytes behind it: newer minors append fields
+IsRequestBody opcode body (Init i) = (opcode ≡ 26) × (newer : List ℕ) × BeginsWith body (init_in i) newer
+-- struct fuse_open_in
+IsRequestBody opcode body (Opendir o) = (opcode ≡ 27) × IsSpelled body (open_in o)
+-- struct fuse_read_in
+IsRequestBody opcode body (Readdir r) = (opcode ≡ 28) × IsSpelled body (read_in r)
+-- struct fuse_release_in
+IsRequestBody opcode body (Releasedir r) = (opcode ≡ 29) × IsSpelled body (release_in r)
+-- struct fuse_create_in, and a name
+IsRequestBody opcode body (Create flags mode umask name) =
+    (opcode ≡ 35) × IsSpelled body (create_in flags mode umask ++ Name name ∷ [])
+-- struct fuse_batch_forget_in, and 16 bytes for each item
+IsRequestBody opcode body (BatchForget count items) =
+    (opcode ≡ 42) × BeginsWith body (batch_forget_in count) items × (length items ≡ 16 * count)
+-- struct fuse_read_in
+IsRequestBody opcode body (Readdirplus r) = (opcode ≡ 44) × IsSpelled body (read_in r)
+-- any bytes
+IsRequestBody opcode body Passed = IsOneOf bystanders opcode ⊎ IsOneOf changers opcode
+
+-- a request that may be answered: all but those that only forget
+abbrev pub MayBeAnswered : PlainBody → Type 0
+MayBeAnswered (Forget nlookup) = ⊥
+MayBeAnswered (BatchForget count items) = ⊥
+MayBeAnswered other = Unit {0}
+
+-- how many bytes a file may have in this profile
+abbrev pub file_limit : ℕ
+file_limit = 2 ^ 24
+
+-- The request stays within the file limit: no WRITE goes past it, and no SETATTR with FATTR_SIZE asks
+-- for more. A sum in a definition does not wrap.
+abbrev pub IsWithinLimit : PlainBody → Type 0
+IsWithinLimit (Write fh offset size write_flags lock_owner flags payload) = offset + size ≤ file_limit
+IsWithinLimit (Setattr s) = HasFlag (fattr_bits s.valid) fattr_size → s.size ≤ file_limit
+IsWithinLimit other = Unit {0}
 
 -- The bytes are this request: a header whose len is the length of the whole, and a body of its
--- operation.
+-- operation that stays within the file limit.
 pub record IsRequest (bytes : List ℕ) (r : PlainRequest) : Type 0 where
   pub body_bytes : List ℕ
   pub header : BeginsWith bytes (in_header (length bytes) r.opcode r.unique r.node) body_bytes
   pub body : IsRequestBody r.opcode body_bytes r.body
+  pub limit : IsWithinLimit r.body
 
 -- the message is as long as its first field says
 abbrev pub IsLengthRight : List ℕ → Type 0
@@ -70,6 +219,10 @@ pub record HasRequestHeader (bytes : List ℕ) (Such : ℕ → List ℕ → Type
 abbrev pub HasBody : ℕ → List ℕ → Type 0
 HasBody opcode body = (b : PlainBody) × IsRequestBody opcode body b
 
+-- some body that the operation allows, within the file limit
+abbrev pub HasBodyWithinLimit : ℕ → List ℕ → Type 0
+HasBodyWithinLimit opcode body = (b : PlainBody) × IsRequestBody opcode body b × IsWithinLimit b
+
 -- The checks of every message in their order, each with its code: it has room for its header, and
 -- its length is right.
 abbrev pub length_checks : (header : ℕ) → List ℕ → List (ℕ × Type 0)
@@ -78,18 +231,16 @@ length_checks header bytes =
     ∷ (LENGTH_FIELD, IsLengthRight bytes)
     ∷ []
 
--- the checks of a request's body in their order, each with its code
-abbrev pub body_checks : ℕ → List ℕ → List (ℕ × Type 0)
-body_checks opcode body =
-    (OPERATION, IsOperation opcode)
-    ∷ (REQUEST_BODY, HasBody opcode body)
+-- The checks of a request's opcode and body in their order, each with its code. `Holds Such` says that
+-- the opcode and the body at hand are such.
+abbrev pub body_checks : ((ℕ → List ℕ → Type 0) → Type 0) → List (ℕ × Type 0)
+body_checks Holds =
+    (OPERATION, Holds (λ opcode body. IsOperation opcode))
+    ∷ (REQUEST_BODY, Holds HasBody)
+    ∷ (PROFILE_LIMIT, Holds HasBodyWithinLimit)
     ∷ []
 
 -- The checks of a request in their order, each with its code. All of them hold exactly where the
 -- bytes are a request.
 abbrev pub request_checks : List ℕ → List (ℕ × Type 0)
-request_checks bytes =
-    length_checks 40 bytes
-    ++ (OPERATION, HasRequestHeader bytes (λ opcode body. IsOperation opcode))
-    ∷ (REQUEST_BODY, HasRequestHeader bytes HasBody)
-    ∷ []
+request_checks bytes = length_checks 40 bytes ++ body_checks (HasRequestHeader bytes)

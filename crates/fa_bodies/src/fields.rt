@@ -1,6 +1,6 @@
 //! Single fields at the front of bytes. Each reader answers the value and the bytes behind it.
 
-ghost use Rattle.std.specs.Prelude.{◌≡◌, ◌+◌, ◌≤◌, ◌++◌, length};
+ghost use Rattle.std.specs.Prelude.{◌≡◌, ◌+◌, ◌≤◌, ◌++◌, ℕ, List, length};
 ghost use Rattle.std.specs.Int.{w32, cast_unsigned};
 ghost use Rattle.fa_bodies.specs.Fields.{le32, le64};
 
@@ -31,4 +31,13 @@ pub(crate) fn u64_at(bytes: &[u8]) -> (u64, &[u8])
 {
     let (field, rest) = bytes.split_at(8);
     (LittleEndian::read_u64(field), rest)
+}
+
+/// What stands behind so many bytes that are not read.
+pub(crate) fn skip(bytes: &[u8], count: usize) -> &[u8]
+    requires { count ≤ length bytes.now }
+    ensures value { (skipped : List ℕ) × (length skipped ≡ count) × (bytes.now ≡ skipped ++ result.now) }
+    ensures left { length result.now + count ≡ length bytes.now }
+{
+    bytes.split_at(count).1
 }

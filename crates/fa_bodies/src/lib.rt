@@ -1,30 +1,48 @@
 //! Messages of /dev/fuse: from the bytes of a packet to requests and replies.
 //!
 //! The structs and numbers are those of `fuse.h` at protocol 7.31, little-endian. No reader takes
-//! memory: each name is a slice of the message that it was read from. The readers do not look at a
-//! packet's direction.
+//! memory: each name, target and payload is a slice of the message that it was read from. The readers
+//! do not look at a packet's direction.
 #![tactic(auto)]
 
+mod attributes;
+mod block;
+mod bodies;
+mod dirent;
 mod entry;
 mod fields;
 mod flags;
+mod forget;
+mod forget_one;
+mod handles;
 mod headers;
 mod init;
 pub mod laws;
+mod making;
+mod mode;
 mod names;
 pub mod opcodes;
 mod reading;
 mod replies;
 mod requests;
 pub mod sample;
+mod successes;
+mod walking;
 
-pub use entry::{Attributes, EntryOut};
-pub use flags::InitFlags;
+pub use attributes::{GetattrIn, SetattrIn};
+pub use bodies::MAX_FILE_BYTES;
+pub use dirent::{Dirent, Entries};
+pub use entry::{AttrOut, Attributes, EntryOut};
+pub use flags::{FattrFlags, FopenFlags, GetattrFlags, InitFlags, OpenFlags};
+pub use forget_one::{ForgetOne, Items};
+pub use handles::{FlushIn, OpenIn, OpenOut, ReadIn, ReleaseIn};
 pub use init::{InitIn, Negotiated};
+pub use mode::{FileType, Mode};
 pub use names::MAX_NAME;
 pub use reading::{reply_body, reply_head, request};
 pub use replies::{Reply, ReplyHead};
 pub use requests::{Request, RequestBody};
+pub use walking::{entries, items};
 
 #[cfg(test)]
 mod tests;

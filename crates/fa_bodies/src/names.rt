@@ -1,30 +1,78 @@
-//! Names in requests.
+//! Names and targets in requests.
 
-ghost use Rattle.std.specs.Prelude.{List, ℕ, IsTrue, ◌↔◌, IfSome, IfNone};
-ghost use Rattle.fa_bodies.specs.Names.{IsName, IsNameBody};
+ghost use Rattle.std.specs.Prelude.{◌≡◌, ◌↔◌, ℕ, List, [], ◌∷◌, ◌++◌, IsTrue, IfSome, IfNone};
+ghost use Rattle.fa_bodies.specs.Names.{HasNoZero, IsFilename, IsName, IsTarget};
+ghost use Rattle.fa_bodies.specs.Fields.{BeginsWith, IsSpelled};
+ghost use Rattle.fa_bodies.specs.Fields.Field.{Name, Target};
 
 /// The most bytes that a name may have.
 pub const MAX_NAME: usize = 1024;
 
-/// Whether bytes are a name of this profile: 1 to 1,024 bytes without zero byte and slash, neither
-/// `.` nor `..`.
+/// Whether bytes are a filename: 1 to 1,024 bytes without zero byte and slash.
+pub(crate) fn is_filename(bytes: &[u8]) -> bool
+    ensures { IsTrue result ↔ IsFilename bytes.now }
+{
+    !bytes.is_empty() && bytes.len() <= MAX_NAME && bytes.iter().all(|b| *b != 0 && *b != b'/')
+}
+
+/// Whether bytes are a name in a request: a filename that is neither `.` nor `..`.
 fn is_name(bytes: &[u8]) -> bool
     ensures { IsTrue result ↔ IsName bytes.now }
 {
-    !bytes.is_empty()
-        && bytes.len() <= MAX_NAME
-        && bytes.iter().all(|b| *b != 0 && *b != b'/')
-        && bytes != b".".as_slice()
-        && bytes != b"..".as_slice()
+    is_filename(bytes) && bytes != b".".as_slice() && bytes != b"..".as_slice()
 }
 
-/// The name of a body that is a name and the zero byte behind it.
-pub(crate) fn name_body(body: &[u8]) -> Option<&[u8]>
-    ensures found { IfSome result (λ name. IsNameBody body.now name.now) }
-    ensures none { IfNone result ((name : List ℕ) → IsNameBody body.now name → ⊥) }
+/// Whether bytes are the target of a symbolic link: one byte or more, none of them zero.
+fn is_target(bytes: &[u8]) -> bool
+    ensures { IsTrue result ↔ IsTarget bytes.now }
 {
-    match body.split_last() {
+    !bytes.is_empty() && bytes.iter().all(|b| *b != 0)
+}
+
+/// The bytes before the first zero byte, and those behind it.
+fn until_zero(bytes: &[u8]) -> Option<(&[u8], &[u8])>
+    ensures found { IfSome result
+        (λ r. HasNoZero r.0.now × (bytes.now ≡ r.0.now ++ 0 ∷ r.1.now)) }
+    ensures none { IfNone result (HasNoZero bytes.now) }
+{
+    let end = bytes.iter().position(|b| *b == 0)?;
+    let (front, ended) = bytes.split_at(end);
+    let (_zero, behind) = ended.split_at(1);
+    Some((front, behind))
+}
+
+/// The name at the front of bytes, and what stands behind the zero byte that ends it.
+pub(crate) fn name_at(bytes: &[u8]) -> Option<(&[u8], &[u8])>
+    ensures found { IfSome result (λ r. BeginsWith bytes.now (Name r.0.now ∷ []) r.1.now) }
+    ensures none { IfNone result
+        ((name rest : List ℕ) → BeginsWith bytes.now (Name name ∷ []) rest → ⊥) }
+{
+    let (name, rest) = until_zero(bytes)?;
+    if is_name(name) {
+        Some((name, rest))
+    } else {
+        None
+    }
+}
+
+/// The name of bytes that are a name and the zero byte behind it.
+pub(crate) fn whole_name(bytes: &[u8]) -> Option<&[u8]>
+    ensures found { IfSome result (λ name. IsSpelled bytes.now (Name name.now ∷ [])) }
+    ensures none { IfNone result ((name : List ℕ) → IsSpelled bytes.now (Name name ∷ []) → ⊥) }
+{
+    match bytes.split_last() {
         Some((0, name)) if is_name(name) => Some(name),
+        _ => None,
+    }
+}
+
+/// The target of bytes that are a target and the zero byte behind it.
+pub(crate) fn whole_target(bytes: &[u8]) -> Option<&[u8]>
+    ensures found { IfSome result (λ target. IsSpelled bytes.now (Target target.now ∷ [])) }
+    ensures none { IfNone result ((target : List ℕ) → IsSpelled bytes.now (Target target ∷ []) → ⊥) }
+{
+    match bytes.split_last() {
+        Some((0, target)) if is_target(target) => Some(target),
         _ => None,
     }
 }

@@ -2,16 +2,14 @@
 
 ghost use Rattle.std.specs.Prelude.{◌≡◌, ◌↔◌, ℤ, IsTrue, IfOk, IfErr, OnOk, IfSome, IfNone};
 ghost use Rattle.fa_capture.specs.Checks.{AllHold, FirstFailure};
-ghost use Rattle.fa_bodies.specs.Requests.{PlainBody, PlainRequest, IsRequest, IsRequestBody, body_shown, request_shown, body_checks, request_checks};
-ghost use Rattle.fa_bodies.specs.Replies.{PlainReply, IsErrorValue, IsReplyHead, IsReply, IsSuccess, Says, reply_shown, reply_head_checks, reply_checks};
+ghost use Rattle.fa_bodies.specs.Requests.{PlainRequest, IsRequest, MayBeAnswered, body_shown, request_shown, request_checks};
+ghost use Rattle.fa_bodies.specs.Replies.{PlainReply, IsErrorValue, IsNotificationCode, IsReplyHead, IsReply, Says, head_checks, reply_shown, reply_head_checks, reply_checks};
 
-use crate::entry::entry_body;
+use crate::bodies::request_body;
 use crate::headers::{IN_HEADER, OUT_HEADER, check_length, in_header_at, out_header_at};
-use crate::init::{init_body, negotiated_body};
-use crate::names::name_body;
-use crate::opcodes::{INIT, LOOKUP};
 use crate::replies::{Reply, ReplyHead};
 use crate::requests::{Request, RequestBody};
+use crate::successes::success;
 use fa_capture::{Packet, codes};
 
 /// The least error that a reply may have.
@@ -19,17 +17,19 @@ const LEAST_ERROR: i32 = -999;
 
 /// The request that a message is.
 ///
-/// The message has the header `struct fuse_in_header` of `fuse.h` (40 bytes) and the body of its
-/// operation. INIT has `struct fuse_init_in` (16 bytes) and any bytes behind it, LOOKUP a name and
-/// one zero byte. A name has 1 to 1,024 bytes without zero byte and slash, and is neither `.` nor
-/// `..`.
+/// The message has the header `struct fuse_in_header` of `fuse.h` (40 bytes), whose length is that of
+/// the message, and the body of its operation, as [`RequestBody`](crate::RequestBody) lists them: a
+/// struct of `fuse.h`, names or both. A name has 1 to 1,024 bytes without zero byte and slash, is
+/// neither `.` nor `..`, and ends at one zero byte; a target has one byte or more and ends likewise.
+/// Bystanders and changers are read by their header alone.
 ///
 /// Errors are codes of [`fa_capture::codes`], the first that applies: `HEADER_TOO_SHORT` for fewer
 /// than 40 bytes, `LENGTH_FIELD` where the header's length is not that of the message, `OPERATION`
-/// for an opcode other than LOOKUP and INIT, `REQUEST_BODY` for a body that its operation does not
-/// have.
+/// for an opcode that is not 1 to 47 or is 7, 19 or 41, `REQUEST_BODY` for a body that its operation
+/// does not have, `PROFILE_LIMIT` for a WRITE or a SETATTR of a size that goes past
+/// [`MAX_FILE_BYTES`](crate::MAX_FILE_BYTES).
 ///
-/// Takes no memory. The time is constant but for the bytes of a name.
+/// Takes no memory. The time is constant but for the bytes of names and targets.
 pub fn request<'a>(p: &Packet<'a>) -> Result<Request<'a>, u16>
     ensures found { IfOk result (λ r. IsRequest p.now.bytes.now (request_shown r)) }
     ensures only { IfOk result
@@ -48,44 +48,16 @@ pub fn request<'a>(p: &Packet<'a>) -> Result<Request<'a>, u16>
     })
 }
 
-/// The body of a request with this opcode.
-fn request_body(opcode: u32, body: &[u8]) -> Result<RequestBody<'_>, u16>
-    ensures found { IfOk result (λ b. IsRequestBody opcode body.now (body_shown b)) }
-    ensures fault { IfErr result (λ code. FirstFailure (body_checks opcode body.now) code) }
-{
-    let read = match opcode {
-        LOOKUP => lookup(body),
-        INIT => init(body),
-        _ => return Err(codes::OPERATION),
-    };
-    read.ok_or(codes::REQUEST_BODY)
-}
-
-fn lookup(body: &[u8]) -> Option<RequestBody<'_>>
-    ensures found { IfSome result (λ b. IsRequestBody LOOKUP body.now (body_shown b)) }
-    ensures none { IfNone result ((b : PlainBody) → IsRequestBody LOOKUP body.now b → ⊥) }
-{
-    let name = name_body(body)?;
-    Some(RequestBody::Lookup { name })
-}
-
-fn init(body: &[u8]) -> Option<RequestBody<'_>>
-    ensures found { IfSome result (λ b. IsRequestBody INIT body.now (body_shown b)) }
-    ensures none { IfNone result ((b : PlainBody) → IsRequestBody INIT body.now b → ⊥) }
-{
-    let init = init_body(body)?;
-    Some(RequestBody::Init(init))
-}
-
-/// The head of a reply.
+/// The head of a message from the server: of a reply, or of a notification, whose unique is 0.
 ///
 /// The message has the header `struct fuse_out_header` of `fuse.h` (16 bytes): its length, an error
-/// from -999 to 0, and a unique other than 0.
+/// from -999 to 0, and a unique. A notification has its code in the place of the error: 1 POLL, 2
+/// INVAL_INODE, 3 INVAL_ENTRY, 4 STORE or 6 DELETE.
 ///
 /// Errors are codes of [`fa_capture::codes`], the first that applies: `HEADER_TOO_SHORT` for fewer
 /// than 16 bytes, `LENGTH_FIELD` where the header's length is not that of the message,
 /// `ERROR_VALUE` for an error that is above 0 or below -999 in a message with a unique other than
-/// 0, `NOTIFICATION` for unique 0.
+/// 0, `NOTIFICATION` for another code in one with unique 0.
 ///
 /// Takes no memory, in constant time. The body is not looked at.
 pub fn reply_head(p: &Packet<'_>) -> Result<ReplyHead, u16>
@@ -97,16 +69,35 @@ pub fn reply_head(p: &Packet<'_>) -> Result<ReplyHead, u16>
 {
     check_length(p.bytes, OUT_HEADER)?;
     let (header, _body) = out_header_at(p.bytes);
-    if header.unique == 0 {
-        return Err(codes::NOTIFICATION);
-    }
-    if !is_error_value(header.error) {
-        return Err(codes::ERROR_VALUE);
-    }
-    Ok(ReplyHead {
+    let head = ReplyHead {
         unique: header.unique,
         error: header.error,
-    })
+    };
+    check_head(head)?;
+    Ok(head)
+}
+
+/// Looks whether the error of a reply, or the code of a notification, is right.
+fn check_head(head: ReplyHead) -> Result<(), u16>
+    ensures ok { OnOk result (AllHold (head_checks (λ Such. Such head))) }
+    ensures fault { IfErr result (FirstFailure (head_checks (λ Such. Such head))) }
+{
+    if head.unique == 0 {
+        if !is_notification_code(head.error) {
+            return Err(codes::NOTIFICATION);
+        }
+    } else if !is_error_value(head.error) {
+        return Err(codes::ERROR_VALUE);
+    }
+    Ok(())
+}
+
+/// Whether a notification has this code (`enum fuse_notify_code`): POLL, INVAL_INODE, INVAL_ENTRY,
+/// STORE and DELETE do, and RETRIEVE does not.
+fn is_notification_code(code: i32) -> bool
+    ensures { IsTrue result ↔ IsNotificationCode code }
+{
+    matches!(code, 1 | 2 | 3 | 4 | 6)
 }
 
 /// Whether a reply may have this error.
@@ -119,14 +110,16 @@ fn is_error_value(error: i32) -> bool
 /// What a reply says to the request that it answers.
 ///
 /// A reply with an error other than 0 is the header alone. A success has the body of the request's
-/// operation: LOOKUP `struct fuse_entry_out` of `fuse.h` (128 bytes), INIT the first 24 to 64 bytes
-/// of `struct fuse_init_out`.
+/// operation, as [`Reply`] lists them: a struct of `fuse.h`, at most as many bytes as were asked for,
+/// any bytes for READLINK, or nothing. INIT has the first 24 to 64 bytes of `struct fuse_init_out`. INTERRUPT is answered by
+/// the header alone, and other operations that are read by their header by any bytes. FORGET and
+/// BATCH_FORGET have no answer.
 ///
 /// The one error is the code `REPLY_BODY` of [`fa_capture::codes`], for any other body. The caller
 /// has read the head by [`reply_head`], and its unique is that of the request.
 ///
-/// Takes no memory, in constant time.
-pub fn reply_body(asked: &Request<'_>, p: &Packet<'_>) -> Result<Reply, u16>
+/// Takes no memory. The time is constant, but for READDIR and READDIRPLUS linear in the payload.
+pub fn reply_body<'a>(asked: &Request<'_>, p: &Packet<'a>) -> Result<Reply<'a>, u16>
     requires { (error : ℤ)
         × IsReplyHead p.now.bytes.now (record { unique = asked.now.unique; error = error }) }
     ensures found { IfOk result
@@ -140,30 +133,27 @@ pub fn reply_body(asked: &Request<'_>, p: &Packet<'_>) -> Result<Reply, u16>
 }
 
 /// What a reply with this error and body says to a request.
-fn said(asked: &Request<'_>, error: i32, body: &[u8]) -> Option<Reply>
+fn said<'a>(asked: &Request<'_>, error: i32, body: &'a [u8]) -> Option<Reply<'a>>
     ensures found { IfSome result
         (λ reply. Says (request_shown asked.now) error body.now (reply_shown reply)) }
     ensures none { IfNone result
         ((reply : PlainReply) → Says (request_shown asked.now) error body.now reply → ⊥) }
 {
     if error == 0 {
-        success(asked, body)
-    } else if body.is_empty() {
+        success(asked.opcode, &asked.body, body)
+    } else if error < 0 && body.is_empty() && may_be_answered(&asked.body) {
         Some(Reply::Refused(error))
     } else {
         None
     }
 }
 
-/// What the body of a success says to a request.
-fn success(asked: &Request<'_>, body: &[u8]) -> Option<Reply>
-    ensures found { IfSome result
-        (λ reply. IsSuccess (request_shown asked.now) body.now (reply_shown reply)) }
-    ensures none { IfNone result
-        ((reply : PlainReply) → IsSuccess (request_shown asked.now) body.now reply → ⊥) }
+/// Whether a request may be answered: all but those that only forget.
+fn may_be_answered(body: &RequestBody<'_>) -> bool
+    ensures { IsTrue result ↔ MayBeAnswered (body_shown body.now) }
 {
-    match asked.body {
-        RequestBody::Lookup { .. } => Some(Reply::Entry(entry_body(body)?)),
-        RequestBody::Init(_) => Some(Reply::Negotiated(negotiated_body(body)?)),
-    }
+    !matches!(
+        body,
+        RequestBody::Forget { .. } | RequestBody::BatchForget { .. }
+    )
 }

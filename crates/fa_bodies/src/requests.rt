@@ -1,14 +1,108 @@
 //! Requests, as the kernel sends them.
 
+use crate::attributes::{GetattrIn, SetattrIn};
+use crate::flags::OpenFlags;
+use crate::handles::{FlushIn, OpenIn, ReadIn, ReleaseIn};
 use crate::init::InitIn;
+use crate::mode::Mode;
 
-/// What a request asks for. Names are slices of the message.
+/// What a request asks for, by its operation (`enum fuse_opcode` of `fuse.h`). Fields have the names of `fuse.h`, and
+/// what is of no use is left out. Names, targets and payloads are slices of the message.
 #[derive(Clone, Copy, Debug)]
 pub enum RequestBody<'a> {
     /// The file of a name in the directory of the request's node.
-    Lookup { name: &'a [u8] },
+    Lookup {
+        name: &'a [u8],
+    },
+    /// So many lookups of the node are taken back. It has no answer.
+    Forget {
+        nlookup: u64,
+    },
+    /// The attributes of the node's file.
+    Getattr(GetattrIn),
+    /// A change of attributes of the node's file.
+    Setattr(SetattrIn),
+    /// The target of a symbolic link.
+    Readlink,
+    /// A new symbolic link with this name and target in the directory of the node.
+    Symlink {
+        name: &'a [u8],
+        target: &'a [u8],
+    },
+    /// A new file in the directory of the node that is neither a directory nor a symbolic link.
+    Mknod {
+        mode: Mode,
+        rdev: u32,
+        umask: u32,
+        name: &'a [u8],
+    },
+    /// A new directory in the directory of the node. The type in its mode is of no meaning.
+    Mkdir {
+        mode: Mode,
+        umask: u32,
+        name: &'a [u8],
+    },
+    /// A name of a file that is no directory goes.
+    Unlink {
+        name: &'a [u8],
+    },
+    /// A name of an empty directory goes.
+    Rmdir {
+        name: &'a [u8],
+    },
+    /// A name moves from the directory of the node to the directory `newdir`.
+    Rename {
+        newdir: u64,
+        old_name: &'a [u8],
+        new_name: &'a [u8],
+    },
+    /// The file of `oldnodeid` gets a further name in the directory of the node.
+    Link {
+        oldnodeid: u64,
+        new_name: &'a [u8],
+    },
+    /// The node's file is opened.
+    Open(OpenIn),
+    /// Bytes of the node's file.
+    Read(ReadIn),
+    /// Bytes for the node's file, which are `payload`: `size` of them, from `offset` on.
+    Write {
+        fh: u64,
+        offset: u64,
+        size: u32,
+        write_flags: u32,
+        lock_owner: u64,
+        flags: OpenFlags,
+        payload: &'a [u8],
+    },
+    /// A file handle is closed for good.
+    Release(ReleaseIn),
+    /// A descriptor of a file handle was closed.
+    Flush(FlushIn),
     /// The start of the session.
     Init(InitIn),
+    /// The node's directory is opened.
+    Opendir(OpenIn),
+    /// Entries of the node's directory.
+    Readdir(ReadIn),
+    /// A directory handle is closed for good.
+    Releasedir(ReleaseIn),
+    /// A new file in the directory of the node, or one that is there, is opened.
+    Create {
+        flags: OpenFlags,
+        mode: Mode,
+        umask: u32,
+        name: &'a [u8],
+    },
+    /// Lookups of `count` nodes are taken back. [`items`](crate::items) reads them. It has no answer.
+    BatchForget {
+        count: u32,
+        items: &'a [u8],
+    },
+    /// Entries of the node's directory, whose names are looked up too.
+    Readdirplus(ReadIn),
+    /// An operation that is read by its header alone.
+    Passed,
 }
 
 /// A request: the fields of its header (`struct fuse_in_header`) that are read, and its body.

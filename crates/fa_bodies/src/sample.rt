@@ -1,9 +1,11 @@
 //! Captures for tests, from short calls. No part of the product rests on this module.
 //!
 //! Each call of a [`Sample`] adds one message. Whatever a call does not name is 0, but for these:
-//! the lengths of records and headers are those of what is written, INIT has version 7.31 in both
-//! messages, and its answer has 64 bytes of body. The capture of one LOOKUP that is refused with
-//! ENOENT, 222 bytes:
+//! the lengths of records and headers, the size of a WRITE, the count of a BATCH_FORGET and the
+//! length of a name in a listing are those of what is written; INIT has version 7.31 in both
+//! messages, and its answer has 64 bytes of body; CREATE has the flags 0x42, which are O_RDWR and
+//! O_CREAT, the mode of a regular file with the bits 644 and the umask 022; MKDIR has the bits 755
+//! and the umask 022. The capture of one LOOKUP that is refused with ENOENT, 222 bytes:
 //!
 //! ```
 //! let bytes = Sample::new(alloc)?
@@ -13,10 +15,16 @@
 //!     .error(4, -2)?
 //!     .capture();
 //! ```
+//!
+//! The first line of a call's comment spells its message in short: `>` is a request and `<` a reply,
+//! `uU` its unique U, and N the node of a request.
 
+use crate::attributes::SetattrIn;
 use crate::entry::{Attributes, EntryOut};
-use crate::flags::InitFlags;
+use crate::flags::{FattrFlags, FopenFlags, GetattrFlags, InitFlags, OpenFlags};
+use crate::mode::Mode;
 use crate::opcodes;
+use Field::{Bytes, Name, U32, U64, Zeros};
 use bitflags::Flags;
 use fa_capture::Direction;
 use std::alloc::{AllocError, Global};
@@ -35,6 +43,28 @@ pub const REG: u32 = 0o100000;
 pub const LNK: u32 = 0o120000;
 /// The type of a socket, in `mode`.
 pub const SOCK: u32 = 0o140000;
+
+/// A part of a body.
+#[derive(Clone, Copy, Debug)]
+pub enum Field<'a> {
+    U32(u32),
+    U64(u64),
+    /// So many zero bytes.
+    Zeros(usize),
+    /// A name or a target, and the zero byte behind it.
+    Name(&'a [u8]),
+    /// Bytes as they are.
+    Bytes(&'a [u8]),
+}
+
+/// An entry of a listing: a name, the place behind it, and the type of its file, which is the type in
+/// `mode` divided by 4,096, as 8 for a regular file.
+#[derive(Clone, Copy, Debug)]
+pub struct Listed<'a> {
+    pub name: &'a [u8],
+    pub off: u64,
+    pub file_type: u32,
+}
 
 /// A capture that grows by a message with each call.
 #[derive(Drop)]
@@ -63,8 +93,7 @@ impl Sample {
             Direction::ToServer => 0,
             Direction::FromServer => 1,
         })?;
-        put_u32(&mut self.bytes, len_of(message))?;
-        self.bytes.extend_from_slice(message)?;
+        put(&mut self.bytes, &[U32(len_of(message)), Bytes(message)])?;
         Ok(self)
     }
 
@@ -80,28 +109,36 @@ impl Sample {
         self.raw(Direction::ToServer, &message)
     }
 
+    /// Adds a request: `> uU OPCODE N` with a body of these fields.
+    pub fn request_of(
+        self,
+        unique: u64,
+        opcode: u32,
+        node: u64,
+        fields: &[Field<'_>],
+    ) -> Result<Sample, AllocError> {
+        let body = spelled(self.alloc, fields)?;
+        self.request(unique, opcode, node, &body)
+    }
+
     /// Adds a message from the server: `< uU` with this error and body.
     pub fn reply(self, unique: u64, error: i32, body: &[u8]) -> Result<Sample, AllocError> {
         let message = reply_bytes(self.alloc, unique, error, body)?;
         self.raw(Direction::FromServer, &message)
     }
 
-    /// Adds the refusal of a request: `< uU -E`, where the error is `-E`.
-    pub fn error(self, unique: u64, error: i32) -> Result<Sample, AllocError> {
-        self.reply(unique, error, &[])
+    /// Adds a success: `< uU` with a body of these fields.
+    pub fn success_of(self, unique: u64, fields: &[Field<'_>]) -> Result<Sample, AllocError> {
+        let body = spelled(self.alloc, fields)?;
+        self.reply(unique, 0, &body)
     }
 
-    /// Adds a success with an empty body: `< uU ok`.
-    pub fn ok(self, unique: u64) -> Result<Sample, AllocError> {
-        self.reply(unique, 0, &[])
-    }
-
-    /// Adds `> uU INIT` of version 7.31 without flags.
+    /// `> uU INIT` of version 7.31 without flags.
     pub fn init(self, unique: u64) -> Result<Sample, AllocError> {
         self.init_with(unique, 7, 31, InitFlags::empty())
     }
 
-    /// Adds `> uU INIT major J minor N flags F`.
+    /// `> uU INIT major J minor M flags F`
     pub fn init_with(
         self,
         unique: u64,
@@ -113,12 +150,283 @@ impl Sample {
         self.request(unique, opcodes::INIT, 0, &body)
     }
 
-    /// Adds the answer of INIT, of version 7.31 without flags.
+    /// `> uU LOOKUP N name`
+    pub fn lookup(self, unique: u64, node: u64, name: &[u8]) -> Result<Sample, AllocError> {
+        self.request_of(unique, opcodes::LOOKUP, node, &[Name(name)])
+    }
+
+    /// `> uU FORGET N nlookup L`
+    pub fn forget(self, unique: u64, node: u64, nlookup: u64) -> Result<Sample, AllocError> {
+        self.request_of(unique, opcodes::FORGET, node, &[U64(nlookup)])
+    }
+
+    /// `> uU BATCH_FORGET 0` with these items, each a node id and how many lookups it loses.
+    pub fn batch_forget(self, unique: u64, items: &[(u64, u64)]) -> Result<Sample, AllocError> {
+        let body = batch_forget_bytes(self.alloc, items)?;
+        self.request(unique, opcodes::BATCH_FORGET, 0, &body)
+    }
+
+    /// `> uU GETATTR N`
+    pub fn getattr(self, unique: u64, node: u64) -> Result<Sample, AllocError> {
+        self.getattr_with(unique, node, GetattrFlags::empty(), 0)
+    }
+
+    /// `> uU GETATTR N flags F fh H`
+    pub fn getattr_with(
+        self,
+        unique: u64,
+        node: u64,
+        flags: GetattrFlags,
+        fh: u64,
+    ) -> Result<Sample, AllocError> {
+        self.request_of(
+            unique,
+            opcodes::GETATTR,
+            node,
+            &[U32(flags.bits()), Zeros(4), U64(fh)],
+        )
+    }
+
+    /// `> uU SETATTR N size S`, of which the size alone counts.
+    pub fn setattr_size(self, unique: u64, node: u64, size: u64) -> Result<Sample, AllocError> {
+        let wanted = SetattrIn {
+            valid: FattrFlags::SIZE,
+            size,
+            ..no_attributes()
+        };
+        self.setattr(unique, node, &wanted)
+    }
+
+    /// `> uU SETATTR N` with these attributes.
+    pub fn setattr(self, unique: u64, node: u64, wanted: &SetattrIn) -> Result<Sample, AllocError> {
+        let body = setattr_bytes(self.alloc, wanted)?;
+        self.request(unique, opcodes::SETATTR, node, &body)
+    }
+
+    /// `> uU READLINK N`
+    pub fn readlink(self, unique: u64, node: u64) -> Result<Sample, AllocError> {
+        self.request(unique, opcodes::READLINK, node, &[])
+    }
+
+    /// `> uU SYMLINK N name target`
+    pub fn symlink(
+        self,
+        unique: u64,
+        node: u64,
+        name: &[u8],
+        target: &[u8],
+    ) -> Result<Sample, AllocError> {
+        self.request_of(unique, opcodes::SYMLINK, node, &[Name(name), Name(target)])
+    }
+
+    /// `> uU MKNOD N name T B`. `mode` is the type and the bits, as `FIFO | 0o644`.
+    pub fn mknod(
+        self,
+        unique: u64,
+        node: u64,
+        mode: u32,
+        name: &[u8],
+    ) -> Result<Sample, AllocError> {
+        self.request_of(
+            unique,
+            opcodes::MKNOD,
+            node,
+            &[U32(mode), Zeros(12), Name(name)],
+        )
+    }
+
+    /// `> uU MKDIR N name`
+    pub fn mkdir(self, unique: u64, node: u64, name: &[u8]) -> Result<Sample, AllocError> {
+        self.request_of(
+            unique,
+            opcodes::MKDIR,
+            node,
+            &[U32(0o755), U32(0o022), Name(name)],
+        )
+    }
+
+    /// `> uU CREATE N name`
+    pub fn create(self, unique: u64, node: u64, name: &[u8]) -> Result<Sample, AllocError> {
+        let flags = OpenFlags::from_bits_retain(0x42);
+        self.create_with(unique, node, flags, REG | 0o644, name)
+    }
+
+    /// `> uU CREATE N name flags F T B`. `mode` is the type and the bits.
+    pub fn create_with(
+        self,
+        unique: u64,
+        node: u64,
+        flags: OpenFlags,
+        mode: u32,
+        name: &[u8],
+    ) -> Result<Sample, AllocError> {
+        self.request_of(
+            unique,
+            opcodes::CREATE,
+            node,
+            &[
+                U32(flags.bits()),
+                U32(mode),
+                U32(0o022),
+                Zeros(4),
+                Name(name),
+            ],
+        )
+    }
+
+    /// `> uU UNLINK N name`
+    pub fn unlink(self, unique: u64, node: u64, name: &[u8]) -> Result<Sample, AllocError> {
+        self.request_of(unique, opcodes::UNLINK, node, &[Name(name)])
+    }
+
+    /// `> uU RMDIR N name`
+    pub fn rmdir(self, unique: u64, node: u64, name: &[u8]) -> Result<Sample, AllocError> {
+        self.request_of(unique, opcodes::RMDIR, node, &[Name(name)])
+    }
+
+    /// `> uU RENAME N old to M new`
+    pub fn rename<'a>(
+        self,
+        unique: u64,
+        node: u64,
+        old_name: &'a [u8],
+        newdir: u64,
+        new_name: &'a [u8],
+    ) -> Result<Sample, AllocError> {
+        self.request_of(
+            unique,
+            opcodes::RENAME,
+            node,
+            &[U64(newdir), Name(old_name), Name(new_name)],
+        )
+    }
+
+    /// `> uU LINK N name oldnodeid M`: the file of M gets this name in the directory N.
+    pub fn link(
+        self,
+        unique: u64,
+        node: u64,
+        new_name: &[u8],
+        oldnodeid: u64,
+    ) -> Result<Sample, AllocError> {
+        self.request_of(
+            unique,
+            opcodes::LINK,
+            node,
+            &[U64(oldnodeid), Name(new_name)],
+        )
+    }
+
+    /// `> uU OPEN N`
+    pub fn open(self, unique: u64, node: u64) -> Result<Sample, AllocError> {
+        self.open_with(unique, node, OpenFlags::empty())
+    }
+
+    /// `> uU OPEN N flags F`
+    pub fn open_with(self, unique: u64, node: u64, flags: OpenFlags) -> Result<Sample, AllocError> {
+        self.request_of(unique, opcodes::OPEN, node, &[U32(flags.bits()), Zeros(4)])
+    }
+
+    /// `> uU OPENDIR N`
+    pub fn opendir(self, unique: u64, node: u64) -> Result<Sample, AllocError> {
+        self.request_of(unique, opcodes::OPENDIR, node, &[Zeros(8)])
+    }
+
+    /// `> uU READ N fh H off O size S`
+    pub fn read(
+        self,
+        unique: u64,
+        node: u64,
+        fh: u64,
+        offset: u64,
+        size: u32,
+    ) -> Result<Sample, AllocError> {
+        self.request_of(unique, opcodes::READ, node, &reading(fh, offset, size))
+    }
+
+    /// `> uU READDIR N fh H off O size S`
+    pub fn readdir(
+        self,
+        unique: u64,
+        node: u64,
+        fh: u64,
+        offset: u64,
+        size: u32,
+    ) -> Result<Sample, AllocError> {
+        self.request_of(unique, opcodes::READDIR, node, &reading(fh, offset, size))
+    }
+
+    /// `> uU READDIRPLUS N fh H off O size S`
+    pub fn readdirplus(
+        self,
+        unique: u64,
+        node: u64,
+        fh: u64,
+        offset: u64,
+        size: u32,
+    ) -> Result<Sample, AllocError> {
+        self.request_of(
+            unique,
+            opcodes::READDIRPLUS,
+            node,
+            &reading(fh, offset, size),
+        )
+    }
+
+    /// `> uU WRITE N fh H off O "data"`
+    pub fn write(
+        self,
+        unique: u64,
+        node: u64,
+        fh: u64,
+        offset: u64,
+        data: &[u8],
+    ) -> Result<Sample, AllocError> {
+        self.request_of(
+            unique,
+            opcodes::WRITE,
+            node,
+            &[
+                U64(fh),
+                U64(offset),
+                U32(len_of(data)),
+                Zeros(20),
+                Bytes(data),
+            ],
+        )
+    }
+
+    /// `> uU RELEASE N fh H`
+    pub fn release(self, unique: u64, node: u64, fh: u64) -> Result<Sample, AllocError> {
+        self.request_of(unique, opcodes::RELEASE, node, &closing(fh))
+    }
+
+    /// `> uU RELEASEDIR N fh H`
+    pub fn releasedir(self, unique: u64, node: u64, fh: u64) -> Result<Sample, AllocError> {
+        self.request_of(unique, opcodes::RELEASEDIR, node, &closing(fh))
+    }
+
+    /// `> uU FLUSH N fh H`
+    pub fn flush(self, unique: u64, node: u64, fh: u64) -> Result<Sample, AllocError> {
+        self.request_of(unique, opcodes::FLUSH, node, &closing(fh))
+    }
+
+    /// `< uU -E`, where the error is `-E`.
+    pub fn error(self, unique: u64, error: i32) -> Result<Sample, AllocError> {
+        self.reply(unique, error, &[])
+    }
+
+    /// `< uU ok`
+    pub fn ok(self, unique: u64) -> Result<Sample, AllocError> {
+        self.reply(unique, 0, &[])
+    }
+
+    /// `< uU init` of version 7.31 without flags.
     pub fn init_answer(self, unique: u64) -> Result<Sample, AllocError> {
         self.init_answer_with(unique, 7, 31, InitFlags::empty(), 64)
     }
 
-    /// Adds the answer of INIT with a body of this length.
+    /// `< uU init major J minor M flags F` with a body of this length.
     pub fn init_answer_with(
         self,
         unique: u64,
@@ -131,13 +439,7 @@ impl Sample {
         self.reply(unique, 0, &body)
     }
 
-    /// Adds `> uU LOOKUP N name`.
-    pub fn lookup(self, unique: u64, node: u64, name: &[u8]) -> Result<Sample, AllocError> {
-        let body = name_bytes(self.alloc, name)?;
-        self.request(unique, opcodes::LOOKUP, node, &body)
-    }
-
-    /// Adds `< uU entry X T B size S nlink L`. `mode` is the type and the bits, as `DIR | 0o755`.
+    /// `< uU entry X T B size S nlink L`. `mode` is the type and the bits, as `DIR | 0o755`.
     pub fn entry(
         self,
         unique: u64,
@@ -146,20 +448,86 @@ impl Sample {
         size: u64,
         nlink: u32,
     ) -> Result<Sample, AllocError> {
-        let attr = Attributes {
-            mode,
-            size,
-            nlink,
-            ..Attributes::default()
-        };
-        let entry = EntryOut {
-            nodeid,
-            attr,
-            ..EntryOut::default()
-        };
-        let body = entry_bytes(self.alloc, &entry)?;
+        let body = entry_bytes(self.alloc, &entry_out(nodeid, mode, size, nlink))?;
         self.reply(unique, 0, &body)
     }
+
+    /// `< uU created X T B size S nlink L fh H`. `mode` is the type and the bits.
+    pub fn created(
+        self,
+        unique: u64,
+        nodeid: u64,
+        mode: u32,
+        size: u64,
+        nlink: u32,
+        fh: u64,
+    ) -> Result<Sample, AllocError> {
+        let mut body = entry_bytes(self.alloc, &entry_out(nodeid, mode, size, nlink))?;
+        put(&mut body, &[U64(fh), Zeros(8)])?;
+        self.reply(unique, 0, &body)
+    }
+
+    /// `< uU attr T B size S nlink L`. `mode` is the type and the bits.
+    pub fn attr(self, unique: u64, mode: u32, size: u64, nlink: u32) -> Result<Sample, AllocError> {
+        let mut body = spelled(self.alloc, &[Zeros(16)])?;
+        put_attributes(&mut body, &attributes(mode, size, nlink))?;
+        self.reply(unique, 0, &body)
+    }
+
+    /// `< uU opened fh H`
+    pub fn opened(self, unique: u64, fh: u64) -> Result<Sample, AllocError> {
+        self.opened_with(unique, fh, FopenFlags::empty())
+    }
+
+    /// `< uU opened fh H flags F`
+    pub fn opened_with(
+        self,
+        unique: u64,
+        fh: u64,
+        flags: FopenFlags,
+    ) -> Result<Sample, AllocError> {
+        self.success_of(unique, &[U64(fh), U32(flags.bits()), Zeros(4)])
+    }
+
+    /// `< uU written S`
+    pub fn written(self, unique: u64, size: u32) -> Result<Sample, AllocError> {
+        self.success_of(unique, &[U32(size), Zeros(4)])
+    }
+
+    /// `< uU "data"`: what READ or READLINK gives.
+    pub fn data(self, unique: u64, data: &[u8]) -> Result<Sample, AllocError> {
+        self.reply(unique, 0, data)
+    }
+
+    /// `< uU [name off O type T, ..]`: what READDIR gives.
+    pub fn listing(self, unique: u64, entries: &[Listed<'_>]) -> Result<Sample, AllocError> {
+        let mut body = Vec::new(self.alloc);
+        for listed in entries {
+            put_listed(&mut body, listed)?;
+        }
+        self.reply(unique, 0, &body)
+    }
+
+    /// `< uU [entry X T B name off O type T, ..]`: what READDIRPLUS gives.
+    pub fn listing_plus(
+        self,
+        unique: u64,
+        entries: &[(EntryOut, Listed<'_>)],
+    ) -> Result<Sample, AllocError> {
+        let mut body = Vec::new(self.alloc);
+        for (entry, listed) in entries {
+            put_entry(&mut body, entry)?;
+            put_listed(&mut body, listed)?;
+        }
+        self.reply(unique, 0, &body)
+    }
+}
+
+/// The fields one after the other.
+pub fn spelled(alloc: Global, fields: &[Field<'_>]) -> Result<Vec<u8>, AllocError> {
+    let mut bytes = Vec::new(alloc);
+    put(&mut bytes, fields)?;
+    Ok(bytes)
 }
 
 /// The bytes of a request.
@@ -170,14 +538,16 @@ pub fn request_bytes(
     node: u64,
     body: &[u8],
 ) -> Result<Vec<u8>, AllocError> {
-    let mut message = Vec::new(alloc);
-    put_u32(&mut message, len_of(body).saturating_add(40))?;
-    put_u32(&mut message, opcode)?;
-    put_u64(&mut message, unique)?;
-    put_u64(&mut message, node)?;
-    message.extend_from_slice(&[0; 16])?;
-    message.extend_from_slice(body)?;
-    Ok(message)
+    let len = len_of(body).saturating_add(40);
+    let fields = [
+        U32(len),
+        U32(opcode),
+        U64(unique),
+        U64(node),
+        Zeros(16),
+        Bytes(body),
+    ];
+    spelled(alloc, &fields)
 }
 
 /// The bytes of a message from the server.
@@ -187,12 +557,14 @@ pub fn reply_bytes(
     error: i32,
     body: &[u8],
 ) -> Result<Vec<u8>, AllocError> {
-    let mut message = Vec::new(alloc);
-    put_u32(&mut message, len_of(body).saturating_add(16))?;
-    message.extend_from_slice(&error.to_le_bytes())?;
-    put_u64(&mut message, unique)?;
-    message.extend_from_slice(body)?;
-    Ok(message)
+    let len = len_of(body).saturating_add(16);
+    let fields = [
+        U32(len),
+        U32(error.cast_unsigned()),
+        U64(unique),
+        Bytes(body),
+    ];
+    spelled(alloc, &fields)
 }
 
 /// The first `len` bytes of the body of INIT or of its answer, zeros behind the fields.
@@ -203,65 +575,165 @@ pub fn init_bytes(
     flags: InitFlags,
     len: usize,
 ) -> Result<Vec<u8>, AllocError> {
-    let mut body = Vec::new(alloc);
-    for field in [major, minor, 0, flags.bits()] {
-        put_u32(&mut body, field)?;
-    }
+    let mut body = spelled(alloc, &[U32(major), U32(minor), U32(0), U32(flags.bits())])?;
     body.resize(len, 0)?;
     Ok(body)
 }
 
 /// A name and the zero byte behind it.
 pub fn name_bytes(alloc: Global, name: &[u8]) -> Result<Vec<u8>, AllocError> {
-    let mut body = Vec::from_slice(alloc, name)?;
-    body.push(0)?;
+    spelled(alloc, &[Name(name)])
+}
+
+/// The body of a BATCH_FORGET.
+pub fn batch_forget_bytes(alloc: Global, items: &[(u64, u64)]) -> Result<Vec<u8>, AllocError> {
+    let count = u32::try_from(items.len()).unwrap_or(u32::MAX);
+    let mut body = spelled(alloc, &[U32(count), Zeros(4)])?;
+    for (nodeid, nlookup) in items {
+        put(&mut body, &[U64(*nodeid), U64(*nlookup)])?;
+    }
     Ok(body)
+}
+
+/// A SETATTR that changes nothing.
+pub fn no_attributes() -> SetattrIn {
+    SetattrIn {
+        valid: FattrFlags::empty(),
+        fh: 0,
+        size: 0,
+        lock_owner: 0,
+        atime: 0,
+        mtime: 0,
+        ctime: 0,
+        atimensec: 0,
+        mtimensec: 0,
+        ctimensec: 0,
+        mode: Mode::from_bits(0),
+        uid: 0,
+        gid: 0,
+    }
+}
+
+/// The body of a SETATTR.
+pub fn setattr_bytes(alloc: Global, wanted: &SetattrIn) -> Result<Vec<u8>, AllocError> {
+    let fields = [
+        U32(wanted.valid.bits()),
+        Zeros(4),
+        U64(wanted.fh),
+        U64(wanted.size),
+        U64(wanted.lock_owner),
+        U64(wanted.atime),
+        U64(wanted.mtime),
+        U64(wanted.ctime),
+        U32(wanted.atimensec),
+        U32(wanted.mtimensec),
+        U32(wanted.ctimensec),
+        U32(wanted.mode.bits()),
+        Zeros(4),
+        U32(wanted.uid),
+        U32(wanted.gid),
+        Zeros(4),
+    ];
+    spelled(alloc, &fields)
+}
+
+/// An entry of this node. `mode` is the type and the bits.
+pub fn entry_out(nodeid: u64, mode: u32, size: u64, nlink: u32) -> EntryOut {
+    EntryOut {
+        nodeid,
+        attr: attributes(mode, size, nlink),
+        ..EntryOut::default()
+    }
 }
 
 /// The bytes of an entry.
 pub fn entry_bytes(alloc: Global, entry: &EntryOut) -> Result<Vec<u8>, AllocError> {
     let mut body = Vec::new(alloc);
-    for field in [
-        entry.nodeid,
-        entry.generation,
-        entry.entry_valid,
-        entry.attr_valid,
-    ] {
-        put_u64(&mut body, field)?;
-    }
-    put_u32(&mut body, entry.entry_valid_nsec)?;
-    put_u32(&mut body, entry.attr_valid_nsec)?;
-    put_attributes(&mut body, &entry.attr)?;
+    put_entry(&mut body, entry)?;
     Ok(body)
 }
 
-fn put_attributes(body: &mut Vec<u8>, a: &Attributes) -> Result<(), AllocError> {
-    for field in [a.ino, a.size, a.blocks, a.atime, a.mtime, a.ctime] {
-        put_u64(body, field)?;
+fn attributes(mode: u32, size: u64, nlink: u32) -> Attributes {
+    Attributes {
+        mode: Mode::from_bits(mode),
+        size,
+        nlink,
+        ..Attributes::default()
     }
-    for field in [
-        a.atimensec,
-        a.mtimensec,
-        a.ctimensec,
-        a.mode,
-        a.nlink,
-        a.uid,
-        a.gid,
-        a.rdev,
-        a.blksize,
-        0,
-    ] {
-        put_u32(body, field)?;
+}
+
+/// The fields of READ, READDIR and READDIRPLUS.
+fn reading(fh: u64, offset: u64, size: u32) -> [Field<'static>; 4] {
+    [U64(fh), U64(offset), U32(size), Zeros(20)]
+}
+
+/// The fields of RELEASE, RELEASEDIR and FLUSH.
+fn closing(fh: u64) -> [Field<'static>; 2] {
+    [U64(fh), Zeros(16)]
+}
+
+fn put_entry(out: &mut Vec<u8>, entry: &EntryOut) -> Result<(), AllocError> {
+    let fields = [
+        U64(entry.nodeid),
+        U64(entry.generation),
+        U64(entry.entry_valid),
+        U64(entry.attr_valid),
+        U32(entry.entry_valid_nsec),
+        U32(entry.attr_valid_nsec),
+    ];
+    put(out, &fields)?;
+    put_attributes(out, &entry.attr)
+}
+
+fn put_attributes(out: &mut Vec<u8>, attr: &Attributes) -> Result<(), AllocError> {
+    let fields = [
+        U64(attr.ino),
+        U64(attr.size),
+        U64(attr.blocks),
+        U64(attr.atime),
+        U64(attr.mtime),
+        U64(attr.ctime),
+        U32(attr.atimensec),
+        U32(attr.mtimensec),
+        U32(attr.ctimensec),
+        U32(attr.mode.bits()),
+        U32(attr.nlink),
+        U32(attr.uid),
+        U32(attr.gid),
+        U32(attr.rdev),
+        U32(attr.blksize),
+        Zeros(4),
+    ];
+    put(out, &fields)
+}
+
+/// An entry of a listing, padded to a multiple of 8 bytes.
+fn put_listed(out: &mut Vec<u8>, listed: &Listed<'_>) -> Result<(), AllocError> {
+    let fields = [
+        U64(0),
+        U64(listed.off),
+        U32(len_of(listed.name)),
+        U32(listed.file_type),
+        Bytes(listed.name),
+        Zeros((8 - listed.name.len() % 8) % 8),
+    ];
+    put(out, &fields)
+}
+
+fn put(out: &mut Vec<u8>, fields: &[Field<'_>]) -> Result<(), AllocError> {
+    for field in fields {
+        match *field {
+            U32(number) => out.extend_from_slice(&number.to_le_bytes())?,
+            U64(number) => out.extend_from_slice(&number.to_le_bytes())?,
+            Zeros(count) => out.resize(out.len().saturating_add(count), 0)?,
+            Name(name) => {
+                out.extend_from_slice(name)?;
+                out.push(0)?;
+            }
+            Bytes(bytes) => out.extend_from_slice(bytes)?,
+        }
     }
     Ok(())
-}
-
-fn put_u32(out: &mut Vec<u8>, number: u32) -> Result<(), AllocError> {
-    out.extend_from_slice(&number.to_le_bytes())
-}
-
-fn put_u64(out: &mut Vec<u8>, number: u64) -> Result<(), AllocError> {
-    out.extend_from_slice(&number.to_le_bytes())
 }
 
 /// The length of bytes as a field. A test has no longer ones.

@@ -6,6 +6,10 @@ use std::alloc::Global;
 use std::process::Abort;
 use std::test::Fail;
 
+mod reply_bodies;
+mod request_bodies;
+mod spelling;
+
 /// The capture of one LOOKUP that is refused with ENOENT.
 #[rattlefmt::skip]
 const FIRST_CAPTURE: [u8; 222] = [
@@ -81,20 +85,8 @@ fn request_code(alloc: Global, opcode: u32, body: &[u8]) -> Result<u16, Fail> {
     Ok(request(&to_server(&message)).err().unwrap_or(0))
 }
 
-/// The code of a name in a LOOKUP, or 0 where it is read.
-fn name_code(alloc: Global, name: &[u8]) -> Result<u16, Fail> {
-    let body = sample::name_bytes(alloc, name)?;
-    request_code(alloc, opcodes::LOOKUP, &body)
-}
-
-/// The code of the head of a message from the server, or 0 where it is read.
-fn head_code(alloc: Global, unique: u64, error: i32) -> Result<u16, Fail> {
-    let message = sample::reply_bytes(alloc, unique, error, &[])?;
-    Ok(reply_head(&from_server(&message)).err().unwrap_or(0))
-}
-
 /// What a message says to a request, its head included.
-fn reply(rt: &impl Abort, asked: &Request<'_>, message: &[u8]) -> Result<Reply, u16> {
+fn reply<'a>(rt: &impl Abort, asked: &Request<'_>, message: &'a [u8]) -> Result<Reply<'a>, u16> {
     let packet = from_server(message);
     let head = reply_head(&packet)?;
     assert_eq!(rt; head.unique, asked.unique);
@@ -122,20 +114,6 @@ fn asked_lookup() -> Request<'static> {
     }
 }
 
-fn asked_init() -> Request<'static> {
-    Request {
-        unique: 4,
-        node: 0,
-        opcode: opcodes::INIT,
-        body: RequestBody::Init(InitIn {
-            major: 7,
-            minor: 31,
-            max_readahead: 0,
-            flags: InitFlags::empty(),
-        }),
-    }
-}
-
 #[test]
 fn sample_spells_the_first_capture(rt: HostRuntime) -> Result<(), Fail> {
     let capture = Sample::new(rt.alloc())?
@@ -157,7 +135,7 @@ fn first_capture(rt: HostRuntime) -> Result<(), Fail> {
             assert_eq!(rt; (asked.major, asked.minor, asked.max_readahead), (7, 31, 0));
             assert!(rt; asked.flags.is_empty());
         }
-        RequestBody::Lookup { .. } => assert!(rt; false, "an INIT"),
+        _ => assert!(rt; false, "an INIT"),
     }
     match reply(&rt, &init, &FIRST_CAPTURE[74..154])? {
         Reply::Negotiated(agreed) => {
@@ -184,36 +162,9 @@ fn first_capture(rt: HostRuntime) -> Result<(), Fail> {
 }
 
 #[test]
-fn names(rt: HostRuntime) -> Result<(), Fail> {
-    let long = [b'n'; 1025];
-    for (name, code) in [
-        (b"a".as_slice(), 0),
-        (b"...".as_slice(), 0),
-        (&long[..1024], 0),
-        (&long[..], 13),
-        (b"".as_slice(), 13),
-        (b".".as_slice(), 13),
-        (b"..".as_slice(), 13),
-        (b"a/b".as_slice(), 13),
-        (b"a\0b".as_slice(), 13),
-    ] {
-        assert_eq!(rt;
-            name_code(rt.alloc(), name)?,
-            code,
-            "a name of {} bytes",
-            name.len()
-        );
-    }
-    assert_eq!(rt; request_code(rt.alloc(), 1, &[0x61, 0, 0])?, 13);
-    assert_eq!(rt; request_code(rt.alloc(), 1, &[0x61])?, 13);
-    assert_eq!(rt; request_code(rt.alloc(), 1, &[])?, 13);
-    Ok(())
-}
-
-#[test]
 fn requests(rt: HostRuntime) -> Result<(), Fail> {
     // The operation is looked at before the body.
-    assert_eq!(rt; request_code(rt.alloc(), 2, &[])?, 12);
+    assert_eq!(rt; request_code(rt.alloc(), 7, &[])?, 12);
     assert_eq!(rt; request_code(rt.alloc(), 41, &[0x61, 0])?, 12);
     // INIT has 16 bytes, and more of newer minors.
     for (len, code) in [(0, 13), (15, 13), (16, 0), (64, 0)] {
@@ -244,111 +195,6 @@ fn requests(rt: HostRuntime) -> Result<(), Fail> {
     Ok(())
 }
 
-#[test]
-fn heads(rt: HostRuntime) -> Result<(), Fail> {
-    for (error, code) in [
-        (0, 0),
-        (-1, 0),
-        (-999, 0),
-        (-1000, 15),
-        (1, 15),
-        (i32::MIN, 15),
-    ] {
-        assert_eq!(rt; head_code(rt.alloc(), 4, error)?, code, "error {error}");
-    }
-    // A message with unique 0 is a notification, whatever its error field.
-    for error in [0, 1, 5, -1000] {
-        assert_eq!(rt;
-            head_code(rt.alloc(), 0, error)?,
-            17,
-            "notification {error}"
-        );
-    }
-    let mut message = sample::reply_bytes(rt.alloc(), 4, 0, &[])?;
-    message.truncate(15);
-    assert_eq!(rt;
-        reply_head(&from_server(&message)).err(),
-        Some(codes::HEADER_TOO_SHORT)
-    );
-    let mut message = sample::reply_bytes(rt.alloc(), 0, 1, &[])?;
-    message.push(0)?;
-    assert_eq!(rt;
-        reply_head(&from_server(&message)).err(),
-        Some(codes::LENGTH_FIELD)
-    );
-    Ok(())
-}
-
-#[test]
-fn replies(rt: HostRuntime) -> Result<(), Fail> {
-    // An error has no body, whatever was asked.
-    assert_eq!(rt; reply_code(&rt, rt.alloc(), &asked_lookup(), -2, &[])?, 0);
-    assert_eq!(rt; reply_code(&rt, rt.alloc(), &asked_lookup(), -2, &[0])?, 16);
-    assert_eq!(rt;
-        reply_code(&rt, rt.alloc(), &asked_init(), -71, &[0; 24])?,
-        16
-    );
-    // The answer of INIT has 24 to 64 bytes.
-    for (len, code) in [(0, 16), (23, 16), (24, 0), (64, 0), (65, 16)] {
-        let body = sample::init_bytes(rt.alloc(), 7, 31, InitFlags::empty(), len)?;
-        assert_eq!(rt;
-            reply_code(&rt, rt.alloc(), &asked_init(), 0, &body)?,
-            code,
-            "an answer of {len} bytes"
-        );
-    }
-    // LOOKUP gives an entry of 128 bytes.
-    let mut body = sample::entry_bytes(rt.alloc(), &EntryOut::default())?;
-    assert_eq!(rt; body.len(), 128);
-    assert_eq!(rt; reply_code(&rt, rt.alloc(), &asked_lookup(), 0, &body)?, 0);
-    body.push(0)?;
-    assert_eq!(rt; reply_code(&rt, rt.alloc(), &asked_lookup(), 0, &body)?, 16);
-    body.truncate(127);
-    assert_eq!(rt; reply_code(&rt, rt.alloc(), &asked_lookup(), 0, &body)?, 16);
-    Ok(())
-}
-
-/// Each field of an entry stands at its place: the bytes are 0, 1, 2 and so on.
-#[test]
-fn entry_fields(rt: HostRuntime) -> Result<(), Fail> {
-    let mut body = [0u8; 128];
-    for (i, byte) in body.iter_mut().enumerate() {
-        *byte = i as u8;
-    }
-    let message = sample::reply_bytes(rt.alloc(), 4, 0, &body)?;
-    match reply(&rt, &asked_lookup(), &message)? {
-        Reply::Entry(e) => {
-            assert_eq!(rt; e.nodeid, 0x0706_0504_0302_0100);
-            assert_eq!(rt; e.generation, 0x0f0e_0d0c_0b0a_0908);
-            assert_eq!(rt; e.entry_valid, 0x1716_1514_1312_1110);
-            assert_eq!(rt; e.attr_valid, 0x1f1e_1d1c_1b1a_1918);
-            assert_eq!(rt; e.entry_valid_nsec, 0x2322_2120);
-            assert_eq!(rt; e.attr_valid_nsec, 0x2726_2524);
-            attributes_from_40(&rt, &e.attr);
-        }
-        _ => assert!(rt; false, "an entry"),
-    }
-    Ok(())
-}
-
-fn attributes_from_40(rt: &impl Abort, a: &Attributes) {
-    assert_eq!(rt; a.ino, 0x2f2e_2d2c_2b2a_2928);
-    assert_eq!(rt; a.size, 0x3736_3534_3332_3130);
-    assert_eq!(rt; a.blocks, 0x3f3e_3d3c_3b3a_3938);
-    assert_eq!(rt; a.atime, 0x4746_4544_4342_4140);
-    assert_eq!(rt; a.mtime, 0x4f4e_4d4c_4b4a_4948);
-    assert_eq!(rt; a.ctime, 0x5756_5554_5352_5150);
-    assert_eq!(rt; a.atimensec, 0x5b5a_5958);
-    assert_eq!(rt; a.mtimensec, 0x5f5e_5d5c);
-    assert_eq!(rt; a.ctimensec, 0x6362_6160);
-    assert_eq!(rt; a.mode, 0x6766_6564);
-    assert_eq!(rt; a.nlink, 0x6b6a_6968);
-    assert_eq!(rt; a.uid, 0x6f6e_6d6c);
-    assert_eq!(rt; a.gid, 0x7372_7170);
-    assert_eq!(rt; a.rdev, 0x7776_7574);
-    assert_eq!(rt; a.blksize, 0x7b7a_7978);
-}
-
 /// Each field of a request's header and of INIT stands at its place.
 #[test]
 fn init_request_fields(rt: HostRuntime) -> Result<(), Fail> {
@@ -363,7 +209,7 @@ fn init_request_fields(rt: HostRuntime) -> Result<(), Fail> {
             assert_eq!(rt; asked.max_readahead, 0xac2b_2a29);
             assert_eq!(rt; asked.flags.bits(), 0xb02f_2e2d);
         }
-        RequestBody::Lookup { .. } => assert!(rt; false, "an INIT"),
+        _ => assert!(rt; false, "an INIT"),
     }
     Ok(())
 }
@@ -413,7 +259,7 @@ fn whole_fields(rt: HostRuntime) -> Result<(), Fail> {
     Ok(())
 }
 
-/// Bits that no flag names are kept.
+/// Flags are their bits, and bits that no flag names are kept.
 #[test]
 fn flags(rt: HostRuntime) -> Result<(), Fail> {
     let asked = InitFlags::from_bits_retain(0x8011_0008);
@@ -426,7 +272,22 @@ fn flags(rt: HostRuntime) -> Result<(), Fail> {
             assert!(rt; init.flags.contains(InitFlags::WRITEBACK_CACHE));
             assert!(rt; init.flags.contains(InitFlags::POSIX_ACL));
         }
-        RequestBody::Lookup { .. } => assert!(rt; false, "an INIT"),
+        _ => assert!(rt; false, "an INIT"),
+    }
+    // Each flag is its bit of fuse.h or of the C library's open.
+    for (bits, wanted) in [
+        (InitFlags::ATOMIC_O_TRUNC.bits(), 0x8),
+        (InitFlags::WRITEBACK_CACHE.bits(), 0x1_0000),
+        (InitFlags::POSIX_ACL.bits(), 0x10_0000),
+        (GetattrFlags::FH.bits(), 0x1),
+        (FattrFlags::MODE.bits(), 0x1),
+        (FattrFlags::SIZE.bits(), 0x8),
+        (FattrFlags::FH.bits(), 0x40),
+        (OpenFlags::EXCL.bits(), 0x80),
+        (OpenFlags::TRUNC.bits(), 0x200),
+        (FopenFlags::DIRECT_IO.bits(), 0x1),
+    ] {
+        assert_eq!(rt; bits, wanted);
     }
     Ok(())
 }
@@ -442,7 +303,10 @@ fn sample_entry(rt: HostRuntime) -> Result<(), Fail> {
     match reply(&rt, &asked_lookup(), &capture[13..157])? {
         Reply::Entry(e) => {
             assert_eq!(rt; e.nodeid, 2);
-            assert_eq!(rt; (e.attr.mode, e.attr.size, e.attr.nlink), (0o040755, 5, 1));
+            assert_eq!(rt;
+                (e.attr.mode.bits(), e.attr.size, e.attr.nlink),
+                (0o040755, 5, 1)
+            );
         }
         _ => assert!(rt; false, "an entry"),
     }

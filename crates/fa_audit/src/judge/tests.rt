@@ -453,29 +453,99 @@ fn a_length_field_that_differs_from_the_record(rt: HostRuntime) -> Result<(), Fa
 }
 
 #[test]
-fn an_operation_that_is_not_judged(rt: HostRuntime) -> Result<(), Fail> {
-    let alloc = rt.alloc();
-    // Only LOOKUP and INIT are.
-    for opcode in [0, 2, 3, 14, 25, 27, 41, 48, 50, 4096, u32::MAX] {
+fn an_opcode_that_is_no_operation(rt: HostRuntime) {
+    // 7 and 19 are no operations of fuse.h, 41 answers a notification, and none above 47 is read.
+    for opcode in [0, 7, 19, 41, 48, 50, 4096, u32::MAX] {
         assert_eq!(rt;
-            request_judged(&rt, alloc, 4, opcode, &[]),
+            request_judged(&rt, rt.alloc(), 4, opcode, &[]),
             fault(2, codes::OPERATION),
             "operation {opcode}"
         );
     }
-    // The operation is looked at before a unique of 0 ..
-    assert_eq!(rt;
-        request_judged(&rt, alloc, 0, 3, &[]),
-        fault(2, codes::OPERATION)
-    );
-    // .. before the first message is asked to be INIT ..
-    let sample = Sample::new(alloc)?.request(4, 3, ROOT, &[])?;
+}
+
+/// The body of a WRITE of one byte at this offset.
+fn write_at(alloc: Global, offset: u64) -> Result<Vec<u8>, AllocError> {
+    let mut body = Vec::from_slice(alloc, &[0; 8])?;
+    body.extend_from_slice(&offset.to_le_bytes())?;
+    body.extend_from_slice(&1u32.to_le_bytes())?;
+    body.resize(40, 0)?;
+    body.push(b'a')?;
+    Ok(body)
+}
+
+#[test]
+fn an_operation_that_is_read_but_not_judged(rt: HostRuntime) -> Result<(), Fail> {
+    let alloc = rt.alloc();
+    let zeros = [0; 40];
+    // The last byte that a file may have is at 16,777,215.
+    let last_byte = write_at(alloc, 16_777_215)?;
+    let byte_behind = write_at(alloc, 16_777_216)?;
+    for (unique, opcode, body, code) in [
+        (4, opcodes::FORGET, &zeros[..8], codes::OPERATION),
+        (4, opcodes::FORGET, &zeros[..7], codes::REQUEST_BODY),
+        (4, opcodes::GETATTR, &zeros[..16], codes::OPERATION),
+        (4, opcodes::GETATTR, &zeros[..0], codes::REQUEST_BODY),
+        (4, opcodes::MKDIR, b"\0\0\0\0\0\0\0\0d\0", codes::OPERATION),
+        (
+            4,
+            opcodes::MKDIR,
+            b"\0\0\0\0\0\0\0\0.\0",
+            codes::REQUEST_BODY,
+        ),
+        // No item.
+        (4, opcodes::BATCH_FORGET, &zeros[..8], codes::OPERATION),
+        (4, opcodes::BATCH_FORGET, &zeros[..24], codes::REQUEST_BODY),
+        // Any body does where the header alone is read.
+        (4, opcodes::GETXATTR, &zeros[..0], codes::OPERATION),
+        (4, opcodes::IOCTL, &zeros[..40], codes::OPERATION),
+        (4, opcodes::WRITE, last_byte.as_slice(), codes::OPERATION),
+        (
+            4,
+            opcodes::WRITE,
+            byte_behind.as_slice(),
+            codes::PROFILE_LIMIT,
+        ),
+        (4, opcodes::LOOKUP, b"a", codes::REQUEST_BODY),
+        // The operation is looked at before a unique of 0, and the body and the limit before it.
+        (
+            0,
+            opcodes::CREATE,
+            b"\0\0\0\0\0\0\0\0\0\0\0\0\0\0\0\0f\0",
+            codes::OPERATION,
+        ),
+        (0, opcodes::GETATTR, &zeros[..15], codes::REQUEST_BODY),
+        (
+            0,
+            opcodes::WRITE,
+            byte_behind.as_slice(),
+            codes::PROFILE_LIMIT,
+        ),
+    ] {
+        assert_eq!(rt;
+            request_judged(&rt, alloc, unique, opcode, body),
+            fault(2, code),
+            "operation {opcode} with {} bytes",
+            body.len()
+        );
+    }
+    Ok(())
+}
+
+#[test]
+fn the_operation_comes_before_the_place_in_the_session(rt: HostRuntime) -> Result<(), Fail> {
+    let alloc = rt.alloc();
+    let body = [0; 16];
+    // The first message is no INIT.
+    let sample = Sample::new(alloc)?.request(4, opcodes::GETATTR, ROOT, &body)?;
     assert_eq!(rt; judged(&rt, alloc, sample, b""), fault(0, codes::OPERATION));
-    // .. before INIT is asked to be answered ..
-    let sample = Sample::new(alloc)?.init(2)?.request(4, 3, ROOT, &[])?;
+    // INIT was not answered, and has the same unique.
+    let sample = Sample::new(alloc)?
+        .init(2)?
+        .request(2, opcodes::GETATTR, ROOT, &body)?;
     assert_eq!(rt; judged(&rt, alloc, sample, b""), fault(1, codes::OPERATION));
-    // .. and before another request is seen to wait.
-    let sample = asked(alloc)?.request(6, 3, ROOT, &[])?;
+    // Another request waits, and the node is not known.
+    let sample = asked(alloc)?.request(6, opcodes::GETATTR, 9, &body)?;
     assert_eq!(rt; judged(&rt, alloc, sample, b""), fault(3, codes::OPERATION));
     Ok(())
 }

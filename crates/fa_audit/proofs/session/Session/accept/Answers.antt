@@ -67,8 +67,7 @@ pub returns-in_ok-check_request-in-ToServer-clause-shows :
 returns-in_ok-check_request-in-ToServer-clause-shows c =
     let m = message c.args.packet.now in
     let arm = c.in_ok-request-in-ToServer in
-    λ before shows. shows_asked before m c.args.self.now _ shows
-    (none_other before (request_shown arm.request) (c.in_ok-check_request-in-ToServer.ensures.ok before shows)) (c.in-ToServer.is, arm.ensures.found) arm.ensures.only refl
+    λ before shows. shows_asked before m c.args.self.now _ shows (c.in_ok-check_request-in-ToServer.ensures.ok before shows) (c.in-ToServer.is, arm.ensures.found) arm.ensures.only refl
 
 pub returns-in_ok-check_request-in-ToServer-clause-event :
     goal.returns-in_ok-check_request-in-ToServer-clause-event

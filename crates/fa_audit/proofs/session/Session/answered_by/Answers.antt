@@ -6,7 +6,7 @@ use Rattle.fa_audit.proofs.session.Session.answered_by.Goals.{in_default-via-in-
 
 pub returns-in_default-clause-fault : goal.returns-in_default-clause-fault
 returns-in_default-clause-fault c = λ before shows.
-    none_answered before c.args.self.now c.args.head.unique shows c.if-self-eq0.false (λ w is same.
+    none_answered before c.args.self.now c.args.head.unique shows c.if-head-eq0.false c.if-self-eq0.false (λ w is same.
     elim c.in_default.branch [
       | in_default-via-in-Some+else-waiting-head b ↦
           let one : b.in-Some.waiting ≡ w = cc (b.in-Some.is, is) in

@@ -1,0 +1,5 @@
+use Rattle.fa_bodies.proofs.OptionLaws.{if_none}
+use Rattle.fa_bodies.proofs.successes.entry.Goals as goal
+
+pub returns-in_err-whole-clause-none : goal.returns-in_err-whole-clause-none
+returns-in_err-whole-clause-none c = if_none c.from_residual.result _ (λ reply p. c.in_err-whole.ensures.none p.0 p.2)

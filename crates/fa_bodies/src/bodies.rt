@@ -1,0 +1,273 @@
+//! The bodies of requests: one reader for each shape.
+
+ghost use Rattle.std.specs.Prelude.{◌≡◌, ◌↔◌, ◌++◌, ℕ, List, [], ◌∷◌, IsTrue, IfSome, IfNone, IfOk, IfErr};
+ghost use Rattle.fa_capture.specs.Checks.{FirstFailure};
+ghost use Rattle.fa_bodies.specs.Fields.{IsSpelled};
+ghost use Rattle.fa_bodies.specs.Fields.Field.{Name};
+ghost use Rattle.fa_bodies.specs.Requests.{PlainBody, IsOneOf, IsOperation, IsRequestBody, IsWithinLimit, bystanders, changers, body_checks, body_shown};
+
+use crate::block::{Block, front, whole};
+use crate::flags::FattrFlags;
+use crate::forget::{BatchForgetIn, ForgetIn};
+use crate::handles::WriteIn;
+use crate::making::{CreateIn, LinkIn, MkdirIn, MknodIn, RenameIn};
+use crate::names::{name_at, whole_name, whole_target};
+use crate::opcodes::*;
+use crate::requests::RequestBody;
+use bitflags::Flags;
+use fa_capture::codes;
+
+/// The bytes of an item of BATCH_FORGET (`struct fuse_forget_one`).
+const ITEM: usize = 16;
+/// The most bytes that a file may have.
+pub const MAX_FILE_BYTES: u64 = 16_777_216;
+
+/// The body of a request with this opcode. The error is the code of the first check that fails.
+pub(crate) fn request_body(opcode: u32, body: &[u8]) -> Result<RequestBody<'_>, u16>
+    ensures found { IfOk result (λ b. IsRequestBody opcode body.now (body_shown b)) }
+    ensures limit { IfOk result (λ b. IsWithinLimit (body_shown b)) }
+    ensures fault { IfErr result
+        (λ code. FirstFailure (body_checks (λ Such. Such opcode body.now)) code) }
+{
+    if !is_operation(opcode) {
+        return Err(codes::OPERATION);
+    }
+    let body = body_of(opcode, body).ok_or(codes::REQUEST_BODY)?;
+    if !is_within_limit(&body) {
+        return Err(codes::PROFILE_LIMIT);
+    }
+    Ok(body)
+}
+
+/// Whether this is the number of an operation of the set.
+fn is_operation(opcode: u32) -> bool
+    ensures { IsTrue result ↔ IsOperation opcode }
+{
+    matches!(opcode, LOOKUP..=SYMLINK | MKNOD..=RELEASE | FSYNC..=POLL | BATCH_FORGET..=COPY_FILE_RANGE)
+}
+
+/// Whether this operation is read by its header alone and has no effect.
+fn is_bystander(opcode: u32) -> bool
+    ensures { IsTrue result ↔ IsOneOf bystanders opcode }
+{
+    matches!(
+        opcode,
+        STATFS
+            | FSYNC
+            | SETXATTR
+            | GETXATTR
+            | LISTXATTR
+            | REMOVEXATTR
+            | FSYNCDIR
+            | GETLK
+            | SETLK
+            | SETLKW
+            | ACCESS
+            | INTERRUPT
+            | BMAP
+            | DESTROY
+            | POLL
+            | LSEEK
+    )
+}
+
+/// Whether this operation is read by its header alone and changes files.
+fn is_changer(opcode: u32) -> bool
+    ensures { IsTrue result ↔ IsOneOf changers opcode }
+{
+    matches!(opcode, IOCTL | FALLOCATE | RENAME2 | COPY_FILE_RANGE)
+}
+
+/// The body of a request with this opcode, if the bytes are one.
+fn body_of(opcode: u32, body: &[u8]) -> Option<RequestBody<'_>>
+    ensures found { IfSome result (λ b. IsRequestBody opcode body.now (body_shown b)) }
+    ensures none { IfNone result ((b : PlainBody) → IsRequestBody opcode body.now b → ⊥) }
+{
+    match opcode {
+        LOOKUP => Some(RequestBody::Lookup {
+            name: whole_name(body)?,
+        }),
+        FORGET => forget(body),
+        GETATTR => Some(RequestBody::Getattr(whole(body)?)),
+        SETATTR => Some(RequestBody::Setattr(whole(body)?)),
+        READLINK => readlink(body),
+        SYMLINK => symlink(body),
+        MKNOD => mknod(body),
+        MKDIR => mkdir(body),
+        UNLINK => Some(RequestBody::Unlink {
+            name: whole_name(body)?,
+        }),
+        RMDIR => Some(RequestBody::Rmdir {
+            name: whole_name(body)?,
+        }),
+        RENAME => rename(body),
+        LINK => link(body),
+        OPEN => Some(RequestBody::Open(whole(body)?)),
+        READ => Some(RequestBody::Read(whole(body)?)),
+        WRITE => write(body),
+        RELEASE => Some(RequestBody::Release(whole(body)?)),
+        FLUSH => Some(RequestBody::Flush(whole(body)?)),
+        INIT => init(body),
+        OPENDIR => Some(RequestBody::Opendir(whole(body)?)),
+        READDIR => Some(RequestBody::Readdir(whole(body)?)),
+        RELEASEDIR => Some(RequestBody::Releasedir(whole(body)?)),
+        CREATE => create(body),
+        BATCH_FORGET => batch_forget(body),
+        READDIRPLUS => Some(RequestBody::Readdirplus(whole(body)?)),
+        _ if is_bystander(opcode) || is_changer(opcode) => Some(RequestBody::Passed),
+        _ => None,
+    }
+}
+
+/// A struct of `fuse.h`, and a name behind it that ends the bytes.
+fn named<B: Block>(bytes: &[u8]) -> Option<(B, &[u8])>
+    ensures found { IfSome result (λ r. IsSpelled bytes.now (B.fields r.0 ++ Name r.1.now ∷ [])) }
+    ensures none { IfNone result
+        ((block : B) (name : List ℕ) → IsSpelled bytes.now (B.fields block ++ Name name ∷ []) → ⊥) }
+{
+    let (block, rest): (B, &[u8]) = front(bytes)?;
+    let name = whole_name(rest)?;
+    Some((block, name))
+}
+
+fn forget(body: &[u8]) -> Option<RequestBody<'_>>
+    ensures found { IfSome result (λ b. IsRequestBody FORGET body.now (body_shown b)) }
+    ensures none { IfNone result ((b : PlainBody) → IsRequestBody FORGET body.now b → ⊥) }
+{
+    let ForgetIn { nlookup } = whole(body)?;
+    Some(RequestBody::Forget { nlookup })
+}
+
+fn readlink(body: &[u8]) -> Option<RequestBody<'_>>
+    ensures found { IfSome result (λ b. IsRequestBody READLINK body.now (body_shown b)) }
+    ensures none { IfNone result ((b : PlainBody) → IsRequestBody READLINK body.now b → ⊥) }
+{
+    if !body.is_empty() {
+        return None;
+    }
+    Some(RequestBody::Readlink)
+}
+
+fn symlink(body: &[u8]) -> Option<RequestBody<'_>>
+    ensures found { IfSome result (λ b. IsRequestBody SYMLINK body.now (body_shown b)) }
+    ensures none { IfNone result ((b : PlainBody) → IsRequestBody SYMLINK body.now b → ⊥) }
+{
+    let (name, rest) = name_at(body)?;
+    let target = whole_target(rest)?;
+    Some(RequestBody::Symlink { name, target })
+}
+
+fn mknod(body: &[u8]) -> Option<RequestBody<'_>>
+    ensures found { IfSome result (λ b. IsRequestBody MKNOD body.now (body_shown b)) }
+    ensures none { IfNone result ((b : PlainBody) → IsRequestBody MKNOD body.now b → ⊥) }
+{
+    let (MknodIn { mode, rdev, umask }, name) = named(body)?;
+    if !mode.is_node() {
+        return None;
+    }
+    Some(RequestBody::Mknod {
+        mode,
+        rdev,
+        umask,
+        name,
+    })
+}
+
+fn mkdir(body: &[u8]) -> Option<RequestBody<'_>>
+    ensures found { IfSome result (λ b. IsRequestBody MKDIR body.now (body_shown b)) }
+    ensures none { IfNone result ((b : PlainBody) → IsRequestBody MKDIR body.now b → ⊥) }
+{
+    let (MkdirIn { mode, umask }, name) = named(body)?;
+    Some(RequestBody::Mkdir { mode, umask, name })
+}
+
+fn rename(body: &[u8]) -> Option<RequestBody<'_>>
+    ensures found { IfSome result (λ b. IsRequestBody RENAME body.now (body_shown b)) }
+    ensures none { IfNone result ((b : PlainBody) → IsRequestBody RENAME body.now b → ⊥) }
+{
+    let (RenameIn { newdir }, rest) = front(body)?;
+    let (old_name, rest) = name_at(rest)?;
+    let new_name = whole_name(rest)?;
+    Some(RequestBody::Rename {
+        newdir,
+        old_name,
+        new_name,
+    })
+}
+
+fn link(body: &[u8]) -> Option<RequestBody<'_>>
+    ensures found { IfSome result (λ b. IsRequestBody LINK body.now (body_shown b)) }
+    ensures none { IfNone result ((b : PlainBody) → IsRequestBody LINK body.now b → ⊥) }
+{
+    let (LinkIn { oldnodeid }, new_name) = named(body)?;
+    Some(RequestBody::Link {
+        oldnodeid,
+        new_name,
+    })
+}
+
+fn write(body: &[u8]) -> Option<RequestBody<'_>>
+    ensures found { IfSome result (λ b. IsRequestBody WRITE body.now (body_shown b)) }
+    ensures none { IfNone result ((b : PlainBody) → IsRequestBody WRITE body.now b → ⊥) }
+{
+    let (write, payload): (WriteIn, &[u8]) = front(body)?;
+    if write.size as usize != payload.len() {
+        return None;
+    }
+    Some(RequestBody::Write {
+        fh: write.fh,
+        offset: write.offset,
+        size: write.size,
+        write_flags: write.write_flags,
+        lock_owner: write.lock_owner,
+        flags: write.flags,
+        payload,
+    })
+}
+
+fn init(body: &[u8]) -> Option<RequestBody<'_>>
+    ensures found { IfSome result (λ b. IsRequestBody INIT body.now (body_shown b)) }
+    ensures none { IfNone result ((b : PlainBody) → IsRequestBody INIT body.now b → ⊥) }
+{
+    let (init, _newer) = front(body)?;
+    Some(RequestBody::Init(init))
+}
+
+fn create(body: &[u8]) -> Option<RequestBody<'_>>
+    ensures found { IfSome result (λ b. IsRequestBody CREATE body.now (body_shown b)) }
+    ensures none { IfNone result ((b : PlainBody) → IsRequestBody CREATE body.now b → ⊥) }
+{
+    let (CreateIn { flags, mode, umask }, name) = named(body)?;
+    Some(RequestBody::Create {
+        flags,
+        mode,
+        umask,
+        name,
+    })
+}
+
+fn batch_forget(body: &[u8]) -> Option<RequestBody<'_>>
+    ensures found { IfSome result (λ b. IsRequestBody BATCH_FORGET body.now (body_shown b)) }
+    ensures none { IfNone result ((b : PlainBody) → IsRequestBody BATCH_FORGET body.now b → ⊥) }
+{
+    let (BatchForgetIn { count }, items) = front(body)?;
+    if items.len() != ITEM * count as usize {
+        return None;
+    }
+    Some(RequestBody::BatchForget { count, items })
+}
+
+/// Whether a request stays within the file limit.
+fn is_within_limit(body: &RequestBody<'_>) -> bool
+    ensures { IsTrue result ↔ IsWithinLimit (body_shown body.now) }
+{
+    match body {
+        RequestBody::Write { offset, size, .. } => {
+            *offset <= MAX_FILE_BYTES && u64::from(*size) <= MAX_FILE_BYTES - *offset
+        }
+        RequestBody::Setattr(setattr) => {
+            !setattr.valid.contains(FattrFlags::SIZE) || setattr.size <= MAX_FILE_BYTES
+        }
+        _ => true,
+    }
+}
