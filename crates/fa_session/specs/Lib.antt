@@ -1,0 +1,12 @@
+pub use Rattle.fa_capture.specs.Checks
+pub use Rattle.fa_capture.specs.Message
+pub mod Answers
+pub mod Rules
+pub mod Allowed
+pub mod Events
+pub mod Plain
+pub mod Shows
+pub mod Refusals
+pub mod Laws
+pub mod Steps
+pub mod View

@@ -1,0 +1,113 @@
+//! The rules of a session that look at one request, or at a request and the reply to it.
+
+ghost use Rattle.std.specs.Prelude.{◌≡◌, ◌↔◌, IsTrue, OnOk, IfErr};
+ghost use Rattle.fa_capture.specs.Checks.{AllHold, FirstFailure};
+ghost use Rattle.fa_bodies.specs.Flags.{HasFlag, init_bits};
+ghost use Rattle.fa_bodies.specs.Requests.{IsOneOf, changers, MayBeAnswered, body_shown, request_shown};
+ghost use Rattle.fa_bodies.specs.Replies.{reply_shown};
+ghost use Rattle.fa_session.specs.Rules.{IsInit, IsInterrupt};
+ghost use Rattle.fa_session.specs.Steps.{init_checked, reply_checked, flags_of};
+
+use bitflags::Flags;
+use fa_bodies::{InitFlags, InitIn, Negotiated, Reply, Request, RequestBody, opcodes};
+use fa_capture::codes;
+
+/// The major that both sides speak (`FUSE_KERNEL_VERSION` of `fuse.h`).
+const MAJOR: u32 = 7;
+/// The least of the minors of both sides (`FUSE_KERNEL_MINOR_VERSION` of `fuse.h` 7.31).
+const MINOR: u32 = 31;
+/// ENOSYS of errno.h, as a reply has it.
+const NOT_IMPLEMENTED: i32 = -38;
+
+/// Whether a request is INIT.
+pub(crate) fn is_init(body: &RequestBody<'_>) -> bool
+    ensures { IsTrue result ↔ IsInit (body_shown body.now) }
+{
+    matches!(body, RequestBody::Init(_))
+}
+
+/// Whether a request is INTERRUPT.
+fn is_interrupt(request: &Request<'_>) -> bool
+    ensures { IsTrue result ↔ IsInterrupt (request_shown request.now) }
+{
+    request.opcode == opcodes::INTERRUPT
+}
+
+/// Whether a request may take the place of an outstanding one with its unique: both are INTERRUPT.
+pub(crate) fn may_replace(waiting: &Request<'_>, request: &Request<'_>) -> bool
+    ensures { IsTrue result ↔ (IsInterrupt (request_shown request.now) × IsInterrupt (request_shown waiting.now)) }
+{
+    is_interrupt(request) && is_interrupt(waiting)
+}
+
+/// Whether a request may be answered: all but those that only forget.
+pub(crate) fn may_be_answered(body: &RequestBody<'_>) -> bool
+    ensures { IsTrue result ↔ MayBeAnswered (body_shown body.now) }
+{
+    !matches!(
+        body,
+        RequestBody::Forget { .. } | RequestBody::BatchForget { .. }
+    )
+}
+
+/// Whether an operation changes files in ways that are not judged here.
+fn is_changer(opcode: u32) -> bool
+    ensures { IsTrue result ↔ IsOneOf changers opcode }
+{
+    matches!(
+        opcode,
+        opcodes::IOCTL | opcodes::FALLOCATE | opcodes::RENAME2 | opcodes::COPY_FILE_RANGE
+    )
+}
+
+/// Whether both sides set the flag.
+fn is_agreed(init: &InitIn, answer: &Negotiated, flag: InitFlags) -> bool
+    ensures { IsTrue result ↔ (HasFlag (init_bits init.now.flags) (init_bits flag) × HasFlag (init_bits answer.now.flags) (init_bits flag)) }
+{
+    init.flags.contains(flag) && answer.flags.contains(flag)
+}
+
+/// Looks whether a success of INIT keeps the rules. The error is the code of the first rule that it breaks.
+fn check_init_answer(init: &InitIn, answer: &Negotiated) -> Result<(), u16>
+    ensures ok { OnOk result (AllHold (init_checked init.now answer.now)) }
+    ensures fault { IfErr result (FirstFailure (init_checked init.now answer.now)) }
+{
+    if init.major != MAJOR || answer.major != MAJOR || init.minor.min(answer.minor) != MINOR {
+        return Err(codes::VERSION);
+    }
+    if is_agreed(init, answer, InitFlags::WRITEBACK_CACHE)
+        || is_agreed(init, answer, InitFlags::POSIX_ACL)
+    {
+        return Err(codes::NEGOTIATED_FLAGS);
+    }
+    Ok(())
+}
+
+/// Looks whether what a reply says to a request keeps the rules. The error is the code of the first rule that it
+/// breaks.
+pub(crate) fn check_reply(asked: &Request<'_>, reply: &Reply<'_>) -> Result<(), u16>
+    ensures ok { OnOk result (AllHold (reply_checked (request_shown asked.now) (reply_shown reply.now))) }
+    ensures fault { IfErr result (FirstFailure (reply_checked (request_shown asked.now) (reply_shown reply.now))) }
+{
+    match (&asked.body, reply) {
+        (RequestBody::Init(_), Reply::Refused(_)) => Err(codes::INIT_REFUSED),
+        (RequestBody::Init(init), Reply::Negotiated(answer)) => check_init_answer(init, answer),
+        (_, Reply::Skipped) if is_changer(asked.opcode) => Err(codes::LEFT_OUT_SUCCEEDED),
+        (RequestBody::Open(_) | RequestBody::Opendir(_), Reply::Refused(NOT_IMPLEMENTED)) => {
+            Err(codes::OPEN_WITHOUT_HANDLE)
+        }
+        _ => Ok(()),
+    }
+}
+
+/// The flags that both sides set, where a reply answers INIT.
+pub(crate) fn agreed_flags(asked: &RequestBody<'_>, reply: &Reply<'_>) -> Option<u32>
+    ensures { result ≡ flags_of (body_shown asked.now) (reply_shown reply.now) }
+{
+    match (asked, reply) {
+        (RequestBody::Init(init), Reply::Negotiated(answer)) => {
+            Some(init.flags.bits() & answer.flags.bits())
+        }
+        _ => None,
+    }
+}

@@ -1,0 +1,234 @@
+//! A session, message by message.
+
+ghost use Rattle.std.specs.Prelude.{◌≡◌, ◌↔◌, ◌<◌, ◌∷◌, ◌++◌, List, [], OnOk, OnErr, IfOk, IfErr, IfSome, IsTrue, option_map, None};
+ghost use Rattle.fa_capture.specs.Checks.{AllHold, FirstFailure};
+ghost use Rattle.fa_capture.specs.Message.{Message, message};
+ghost use Rattle.fa_capture.specs.declared.limits.TheConstants.{MAX_MESSAGES};
+ghost use Rattle.fa_bodies.specs.Requests.{request_shown, MayBeAnswered};
+ghost use Rattle.fa_session.specs.declared.error.SessionError.TheVariants.{Memory};
+ghost use Rattle.fa_session.specs.Allowed.{IsAllowed};
+ghost use Rattle.fa_session.specs.Events.{event_shown, IsEvent};
+ghost use Rattle.fa_session.specs.Refusals.{IsRefusal};
+ghost use Rattle.fa_session.specs.Shows.{Shows};
+ghost use Rattle.fa_session.specs.Steps.{request_checked, waiting_for, IsAsked, IsAnswered, noticed};
+ghost use Rattle.fa_session.specs.View.{waiting_shown};
+
+use crate::error::SessionError;
+use crate::event::Event;
+use crate::rules::{agreed_flags, check_reply, is_init, may_be_answered, may_replace};
+use crate::waiting::Waiting;
+use fa_bodies::{Request, reply_body, reply_head, request};
+use fa_capture::{Direction, Packet, codes};
+use indexmap::IndexMap;
+use std::alloc::Global;
+use std::marker::Model;
+
+#[cfg(test)]
+mod tests;
+
+/// What the messages of a capture leave open, one after the other: how many came, whether INIT was answered, and the
+/// requests that are outstanding.
+#[derive(Drop)]
+pub struct Session<'a> {
+    messages: u32,
+    negotiated: Option<u32>,
+    /// The outstanding requests by their uniques.
+    waiting: IndexMap<u64, Waiting<'a>>,
+}
+
+impl<'a> Model for Session<'a> {
+    ghost use Rattle.fa_session.specs.Plain.{PlainSession};
+
+    ghost Value = { PlainSession };
+
+    ghost use Rattle.fa_session.specs.View.{session_shown, AreByUnique};
+
+    ghost view = { session_shown };
+
+    ghost invariant = { AreByUnique };
+}
+
+impl<'a> Session<'a> {
+    /// A session of no messages. Its table takes memory from `alloc` later.
+    ///
+    /// Takes no memory, in constant time.
+    pub fn new(alloc: Global) -> Self
+        ensures { Shows [] result }
+    {
+        Session {
+            messages: 0,
+            negotiated: None,
+            waiting: IndexMap::new(alloc),
+        }
+    }
+
+    /// The flags that both sides set at INIT (`flags` of `struct fuse_init_in` and of `struct fuse_init_out`), or None
+    /// until INIT is answered.
+    ///
+    /// Takes no memory, in constant time.
+    pub fn negotiated(&self) -> Option<u32>
+        ensures { result ≡ self.now.negotiated }
+    {
+        self.negotiated
+    }
+
+    /// Takes the next message, if it is allowed after the messages so far: what it is.
+    ///
+    /// The direction alone says how the message is read (`struct fuse_in_header` and `struct fuse_out_header` of
+    /// `fuse.h` 7.31). A reply answers the last request before it with its unique, where that request may be answered
+    /// and no reply came between. A request that may be answered is outstanding from its record to its answer. FORGET
+    /// and BATCH_FORGET have no answer, and a notification, whose unique is 0, answers nothing. An INTERRUPT may repeat
+    /// the unique of an outstanding INTERRUPT and takes its place.
+    ///
+    /// The message's number is that of the messages accepted before it. Fewer than 16,777,216 were.
+    ///
+    /// # Errors
+    ///
+    /// The session is as it was after each of them.
+    ///
+    /// - [`SessionError::Refused`] where the message is not allowed, with the code of the first check that it fails, one
+    ///   of [`fa_capture::codes`]. For a message to the server these are the codes of [`fa_bodies::request`],
+    ///   `UNIQUE_ZERO` for the unique 0, `FIRST_NOT_INIT` for a first message that is not INIT, `SECOND_INIT` for INIT
+    ///   at any other place, `BEFORE_INIT_ANSWERED` for another request before INIT's answer, and `UNIQUE_IN_USE` for
+    ///   the unique of an outstanding request. For a message from the server these are the codes of
+    ///   [`fa_bodies::reply_head`], `FIRST_NOT_INIT` for the first message, `NO_REQUEST_WAITS` for a reply that answers
+    ///   no request, and then for the reply to a request `REPLY_BODY` as [`fa_bodies::reply_body`] tells it,
+    ///   `INIT_REFUSED` for an error to INIT, `VERSION` where a major is not 7 or the least of the minors is not 31,
+    ///   `NEGOTIATED_FLAGS` where both sides set WRITEBACK_CACHE or POSIX_ACL, `LEFT_OUT_SUCCEEDED` for a success of
+    ///   IOCTL, FALLOCATE, RENAME2 or COPY_FILE_RANGE, and `OPEN_WITHOUT_HANDLE` for ENOSYS to OPEN or OPENDIR.
+    /// - [`SessionError::Memory`] where memory for one more outstanding request was refused. The message is allowed, and
+    ///   may be handed in again.
+    ///
+    /// # Cost
+    ///
+    /// Expected constant time, as of a hash table, but for the bytes of names and of listings, which are read once. The
+    /// table keeps a number and a [`Request`] an outstanding request, and grows by doubling. No message bytes are
+    /// copied.
+    pub fn accept(&mut self, packet: &Packet<'a>) -> Result<Event<'a>, SessionError>
+        requires { self.old.messages < MAX_MESSAGES }
+        ensures passes { OnOk result ((c : List Message) → Shows c self.old → IsAllowed c (message packet.now)) }
+        ensures shows { OnOk result ((c : List Message) → Shows c self.old → Shows (c ++ message packet.now ∷ []) self.new) }
+        ensures event { IfOk result (λ event. (c : List Message) → Shows c self.old → IsEvent c (message packet.now) (event_shown event)) }
+        ensures refused { IfErr result (λ error. (c : List Message) → Shows c self.old → IsRefusal c (message packet.now) error) }
+        ensures unchanged { OnErr result (self.new ≡ self.old) }
+    {
+        match packet.direction {
+            Direction::ToServer => {
+                let request = request(packet)?;
+                self.check_request(&request)?;
+                let at = self.note_request(&request)?;
+                Ok(Event::Asked { at, request })
+            }
+            Direction::FromServer => {
+                let head = reply_head(packet)?;
+                if self.is_empty() {
+                    return Err(SessionError::Refused(codes::FIRST_NOT_INIT));
+                }
+                if head.unique == 0 {
+                    let at = self.next_number();
+                    return Ok(Event::Notice { at });
+                }
+                let Some(asked) = self.waiting_for(head.unique) else {
+                    return Err(SessionError::Refused(codes::NO_REQUEST_WAITS));
+                };
+                let reply = reply_body(&asked.request, packet)?;
+                check_reply(&asked.request, &reply)?;
+                let flags = agreed_flags(&asked.request.body, &reply);
+                let at = self.note_reply(head.unique, flags);
+                Ok(Event::Answered {
+                    at,
+                    asked: asked.at,
+                    request: asked.request,
+                    reply,
+                })
+            }
+        }
+    }
+
+    /// Whether no message came.
+    fn is_empty(&self) -> bool
+        ensures { IsTrue result ↔ (self.now.messages ≡ 0) }
+    {
+        self.messages == 0
+    }
+
+    /// The outstanding request with this unique.
+    fn waiting_for(&self, unique: u64) -> Option<Waiting<'a>>
+        ensures found { option_map waiting_shown result ≡ waiting_for self.now unique }
+        ensures unique { IfSome result (λ waiting. waiting.request.unique ≡ unique) }
+    {
+        self.waiting.get(&unique).copied()
+    }
+
+    /// Looks whether a request keeps the rules after the messages so far. The error is the code of the first rule that
+    /// it breaks.
+    fn check_request(&self, request: &Request<'_>) -> Result<(), u16>
+        ensures ok { OnOk result ((c : List Message) → Shows c self.now → AllHold (request_checked c (request_shown request.now))) }
+        ensures fault { IfErr result (λ code. (c : List Message) → Shows c self.now → FirstFailure (request_checked c (request_shown request.now)) code) }
+    {
+        if request.unique == 0 {
+            return Err(codes::UNIQUE_ZERO);
+        }
+        if is_init(&request.body) {
+            if !self.is_empty() {
+                return Err(codes::SECOND_INIT);
+            }
+            return Ok(());
+        }
+        if self.is_empty() {
+            return Err(codes::FIRST_NOT_INIT);
+        }
+        if self.negotiated().is_none() {
+            return Err(codes::BEFORE_INIT_ANSWERED);
+        }
+        let Some(waiting) = self.waiting_for(request.unique) else {
+            return Ok(());
+        };
+        if !may_replace(&waiting.request, request) {
+            return Err(codes::UNIQUE_IN_USE);
+        }
+        Ok(())
+    }
+
+    /// Gives the next message its number, and counts it.
+    fn next_number(&mut self) -> u32
+        requires { self.old.messages < MAX_MESSAGES }
+        ensures at { result ≡ self.old.messages }
+        ensures counted { self.new ≡ noticed self.old }
+    {
+        let at = self.messages;
+        self.messages += 1;
+        at
+    }
+
+    /// Notes a request, which is outstanding from now on if it may be answered: the number of its message.
+    fn note_request(&mut self, request: &Request<'a>) -> Result<u32, SessionError>
+        requires { self.old.messages < MAX_MESSAGES }
+        ensures at { IfOk result (λ at. at ≡ self.old.messages) }
+        ensures noted { OnOk result (IsAsked self.old (request_shown request.now) self.new) }
+        ensures memory { IfErr result (λ error. (error ≡ Memory) × MayBeAnswered (request_shown request.now).body × (waiting_for self.old request.now.unique ≡ None)) }
+        ensures unchanged { OnErr result (self.new ≡ self.old) }
+    {
+        if !may_be_answered(&request.body) {
+            return Ok(self.next_number());
+        }
+        let waiting = Waiting {
+            at: self.messages,
+            request: *request,
+        };
+        self.waiting.insert(request.unique, waiting)?;
+        Ok(self.next_number())
+    }
+
+    /// Notes the reply to the request with this unique, and the flags that it settles if the request is INIT: the
+    /// number of its message.
+    fn note_reply(&mut self, unique: u64, flags: Option<u32>) -> u32
+        requires { self.old.messages < MAX_MESSAGES }
+        ensures at { result ≡ self.old.messages }
+        ensures noted { IsAnswered self.old unique flags self.new }
+    {
+        self.waiting.swap_remove(&unique);
+        self.negotiated = flags.or(self.negotiated);
+        self.next_number()
+    }
+}
