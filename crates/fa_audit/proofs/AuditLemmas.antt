@@ -6,6 +6,7 @@ use Rattle.fa_capture.specs.declared.fault.CaptureFault.{CaptureFault}
 use Rattle.fa_capture.specs.Message.{Message, message, messages}
 use Rattle.fa_capture.specs.Reading.{IsReading}
 use Rattle.std.proofs.lemmas.List.{length-map, length-append}
+use Rattle.std.proofs.lemmas.Option.{slice_get_within}
 use Rattle.fa_audit.specs.declared.calls.Call.{Call}
 use Rattle.fa_audit.specs.declared.order.Entry.{Entry}
 use Rattle.fa_audit.specs.declared.order.TextError.{TextError}
@@ -21,6 +22,7 @@ use Rattle.fa_audit.specs.Calls.{AreCalls}
 use Rattle.fa_audit.specs.Placed.{AreReplayed, IsExplained}
 use Rattle.fa_audit.specs.Errors.{audit_error}
 use Rattle.fa_audit.specs.Verdict.{IsLegal, IsAnswer, Tells, Exactly, OneAnswer}
+use Rattle.fa_audit.proofs.OneAnswerLists.{rising_within}
 use Rattle.fa_audit.proofs.OrderLines.{entries_fit}
 
 messages_length : (packets : List Packet) → length (messages packets) ≡ length packets
@@ -59,7 +61,7 @@ good_capture bytes packets given framing read same passes none = record {
 }
 
 -- what the calls of a good capture are
-pub replayed : (packets given : List Packet) (calls : List Call) (unanswered : Option ℕ) → given ≡ packets → EachPasses (messages given) (length given) → AreCalls (messages given) calls unanswered → AreReplayed (messages packets) calls unanswered
+pub replayed : (packets given : List Packet) (calls : List Call) (unanswered : List ℕ) → given ≡ packets → EachPasses (messages given) (length given) → AreCalls (messages given) calls unanswered → AreReplayed (messages packets) calls unanswered
 replayed packets given calls unanswered same passes are = record {
   all = subst (λ (ps : List Packet). AreCalls (messages ps) calls unanswered) same are;
   passes = all_pass packets given same passes;
@@ -77,6 +79,13 @@ few_entries order es is limit =
     let whole : length order ≡ length (opening es) + length end_line = ap length is.spelled ∙ length-append (opening es) end_line in
     let front : length (opening es) ≡ length first_line + length (flat_map entry_line es) = length-append first_line (flat_map entry_line es) in
     omega (arith, entries_fit es)
+
+-- unanswered requests are messages, of which there are fewer than a number of 32 bits counts
+pub few_unanswered : (c : List Message) (calls : List Call) (unanswered : List ℕ) → AreCalls c calls unanswered → length c ≤ 16777216 → length unanswered < 2 ^ 32
+few_unanswered c calls unanswered are limit =
+    let within : length unanswered ≤ length c = rising_within unanswered (length c) are.rising
+    (λ p has. let asked = (are.left p has).0.1 in slice_get_within c p asked.0 asked.1) in
+    omega (arith, within, limit)
 
 -- a legal order
 pub legal : (bytes order : List ℕ) (packets : List Packet) (es : List Entry) (messages_count placed left : ℕ) → IsGoodCapture bytes (messages packets) → IsOrderText order es → IsExplained (messages packets) es left

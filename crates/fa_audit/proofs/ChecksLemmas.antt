@@ -1,7 +1,6 @@
--- Lists of checks one after the other, and lists whose checks say the same.
+-- Lists of checks one after the other.
 use Rattle.std.proofs.Common.{◌≡◌, ℕ, List, [], ◌∷◌, ◌++◌, inl, inr, sym, ◌∙◌}
 use Rattle.fa_capture.specs.Checks.{FirstFailure, AllHold}
-use Rattle.fa_audit.specs.Faults.{checks_of}
 
 -- a failure among the first checks
 pub fails_first : (checks later : List (ℕ × Type 0)) (code : ℕ) → FirstFailure checks code → FirstFailure (checks ++ later) code
@@ -14,51 +13,15 @@ pub fails_behind : (checks later : List (ℕ × Type 0)) (code : ℕ) → AllHol
 fails_behind [] later code hold fails = fails
 fails_behind (c ∷ checks) later code hold fails = inr (hold.0, fails_behind checks later code hold.1 fails)
 
--- checks that hold, and more that hold
-pub hold_both : (checks later : List (ℕ × Type 0)) → AllHold checks → AllHold later → AllHold (checks ++ later)
-hold_both [] later hold more = more
-hold_both (c ∷ checks) later hold more = (hold.0, hold_both checks later hold.1 more)
-
 -- of checks that hold, those behind the first
 pub hold_later : (checks later : List (ℕ × Type 0)) → AllHold (checks ++ later) → AllHold later
 hold_later [] later hold = hold
 hold_later (c ∷ checks) later hold = hold_later checks later hold.1
 
--- the same codes, and checks that say the same
-abbrev pub SameChecks : List (ℕ × Type 0) → List (ℕ × Type 0) → Type 0
-SameChecks [] [] = Unit {0}
-SameChecks [] (d ∷ others) = ⊥
-SameChecks (c ∷ checks) [] = ⊥
-SameChecks (c ∷ checks) (d ∷ others) = (c.0 ≡ d.0) × (c.1 → d.1) × (d.1 → c.1) × SameChecks checks others
-
-pub same_failure : (checks others : List (ℕ × Type 0)) (code : ℕ) → SameChecks checks others → FirstFailure checks code → FirstFailure others code
-same_failure [] [] code same fails = fails
-same_failure [] (d ∷ others) code same fails = absurd fails
-same_failure (c ∷ checks) [] code same fails = absurd same
-same_failure (c ∷ checks) (d ∷ others) code same fails =
-    elim fails [
-      | inl here ↦ inl ((λ holds. here.0 (same.2 holds)), here.1 ∙ same.0)
-      | inr past ↦ inr (same.1 past.0, same_failure checks others code same.3 past.1)
-    ]
-
-pub same_hold : (checks others : List (ℕ × Type 0)) → SameChecks checks others → AllHold checks → AllHold others
-same_hold [] [] same hold = tt
-same_hold [] (d ∷ others) same hold = absurd same
-same_hold (c ∷ checks) [] same hold = absurd same
-same_hold (c ∷ checks) (d ∷ others) same hold = (same.1 hold.0, same_hold checks others same.3 hold.1)
-
--- rules that say the same, lifted in two ways
-pub lifted_failure : {S : Type 1} (f g : S → Type 0) → ((x : S) → (f x → g x) × (g x → f x)) → (rules : List (ℕ × S)) (code : ℕ) → FirstFailure (checks_of f rules) code → FirstFailure (checks_of g rules) code
-lifted_failure f g each [] code fails = fails
-lifted_failure f g each (rule ∷ rules) code fails =
-    elim fails [
-      | inl here ↦ inl ((λ holds. here.0 ((each rule.1).1 holds)), here.1)
-      | inr past ↦ inr ((each rule.1).0 past.0, lifted_failure f g each rules code past.1)
-    ]
-
-pub lifted_hold : {S : Type 1} (f g : S → Type 0) → ((x : S) → (f x → g x) × (g x → f x)) → (rules : List (ℕ × S)) → AllHold (checks_of f rules) → AllHold (checks_of g rules)
-lifted_hold f g each [] hold = hold
-lifted_hold f g each (rule ∷ rules) hold = ((each rule.1).0 hold.0, lifted_hold f g each rules hold.1)
+-- of checks that hold, those at the front
+pub hold_front : (checks later : List (ℕ × Type 0)) → AllHold (checks ++ later) → AllHold checks
+hold_front [] later hold = tt
+hold_front (c ∷ checks) later hold = (hold.0, hold_front checks later hold.1)
 
 pub no_failure : (checks : List (ℕ × Type 0)) (code : ℕ) → AllHold checks → FirstFailure checks code → ⊥
 no_failure [] code hold fails = fails

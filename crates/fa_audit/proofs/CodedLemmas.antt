@@ -1,5 +1,5 @@
 -- Each code that the audit tells has a text.
-use Rattle.std.proofs.Common.{◌≡◌, ℕ, List, [], ◌∷◌, Option, Some, Result, Ok, Err, Bool, true, false, is_some, length, take, refl, sym, subst, inl, inr}
+use Rattle.std.proofs.Common.{◌≡◌, ℕ, List, [], ◌∷◌, ◌++◌, Option, Some, Result, Ok, Err, Bool, true, false, is_some, length, take, refl, sym, subst, inl, inr}
 use Rattle.std.specs.Prelude.{IfOk, IsSome}
 use Rattle.fa_capture.specs.declared.packet.Direction.{Direction}
 use Rattle.fa_capture.specs.declared.packet.Direction.TheVariants.{ToServer, FromServer}
@@ -13,7 +13,10 @@ use Rattle.fa_capture.specs.declared.fault.CaptureFault.{CaptureFault}
 use Rattle.fa_audit.specs.declared.verdict.Verdict.{Verdict}
 use Rattle.fa_audit.specs.declared.verdict.Verdict.TheVariants.{Legal, Fault, NotShown}
 use Rattle.fa_audit.specs.declared.verdict.AuditError.{AuditError}
-use Rattle.fa_audit.specs.Faults.{checks_by, message_checks, IsFirstFault}
+use Rattle.fa_session.specs.Allowed.{checks_by}
+use Rattle.fa_audit.specs.Operations.{operation_checks}
+use Rattle.fa_audit.specs.Nodes.{node_checks_by}
+use Rattle.fa_audit.specs.Faults.{message_checks, IsFirstFault}
 use Rattle.fa_audit.specs.Tree.{Tree, empty_root, step_checks}
 use Rattle.fa_audit.specs.Replay.{order_checks, EntryFails, IsOrderAtFault}
 use Rattle.fa_audit.specs.declared.order.Entry.{Entry}
@@ -33,9 +36,10 @@ coded_failure (c ∷ checks) code coded fails =
       | inr past ↦ coded_failure checks code coded.1 past.1
     ]
 
-message_coded : (d : Direction) (before : List Message) (m : Message) → AllCoded (checks_by d before m)
+-- the checks of a message by its direction
+message_coded : (d : Direction) (before : List Message) (m : Message) → AllCoded (operation_checks m ++ checks_by d before m ++ node_checks_by d before m)
 message_coded ToServer before m = (refl, (refl, (refl, (refl, (refl, (refl, (refl, (refl, (refl, (refl, (refl, (refl, tt))))))))))))
-message_coded FromServer before m = (refl, (refl, (refl, (refl, (refl, (refl, (refl, (refl, (refl, (refl, (refl, (refl, tt))))))))))))
+message_coded FromServer before m = (refl, (refl, (refl, (refl, (refl, (refl, (refl, (refl, (refl, (refl, (refl, (refl, (refl, (refl, tt))))))))))))))
 
 record_coded : (before offset : ℕ) (left : List ℕ) → AllCoded (record_checks before offset left)
 record_coded before offset left = (refl, (refl, (refl, (refl, (refl, (refl, tt))))))

@@ -1,5 +1,4 @@
 pub mod ChecksLemmas
-pub mod SessionLemmas
 pub mod GrowthLemmas
 pub mod MessageLemmas
 pub mod CallsLemmas
@@ -10,6 +9,7 @@ pub mod StepLemmas
 pub mod OneAnswerLists
 pub mod OneAnswerRuns
 pub mod OneAnswer
+pub mod PlaceLemmas
 pub mod ReplayLemmas
 pub mod AuditLemmas
 pub mod RunLemmas

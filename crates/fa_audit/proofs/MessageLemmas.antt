@@ -1,163 +1,106 @@
--- What the checks of a message say once it has been read.
-use Rattle.std.proofs.Common.{◌≡◌, ◌≢◌, ℕ, List, [], ◌∷◌, ◌++◌, refl, sym, ap, subst, ◌∙◌, inl, inr}
-use Rattle.fa_capture.specs.declared.codes.TheConstants.{NOTIFICATION, FIRST_NOT_INIT, NO_REQUEST_WAITS, REPLY_BODY}
+-- What the checks of a message say once the session has told what it is.
+use Rattle.std.proofs.Common.{◌≡◌, ℕ, List, ◌++◌, refl, sym, ap, subst, ◌∙◌, inl}
+use Rattle.fa_capture.specs.declared.codes.TheConstants.{FORGOTTEN_NODE, NODE_ID_NOT_ALLOWED}
 use Rattle.fa_capture.specs.declared.packet.Direction.{Direction}
 use Rattle.fa_capture.specs.declared.packet.Direction.TheVariants.{ToServer, FromServer}
 use Rattle.fa_capture.specs.Checks.{FirstFailure, AllHold}
 use Rattle.fa_capture.specs.Message.{Message}
 use Rattle.fa_bodies.specs.declared.replies.ReplyHead.{ReplyHead}
-use Rattle.fa_bodies.specs.Requests.{PlainRequest, PlainBody, IsRequest, request_checks}
-use Rattle.fa_bodies.specs.Replies.{PlainReply, IsReplyHead, IsReply, reply_head_checks, reply_checks}
-use Rattle.fa_audit.specs.Answers.{Answers}
-use Rattle.fa_audit.specs.Session.{ForHead, ForRequest, ForReply, ForAnswered}
-use Rattle.fa_audit.specs.Faults.{checks_of, request_rules, reply_rules, checks_by, message_checks}
-use Rattle.fa_audit.specs.Progress.{request_checked, head_checked, reply_checked}
-use Rattle.fa_audit.proofs.ChecksLemmas.{SameChecks, fails_first, fails_behind, hold_both, same_failure, same_hold, lifted_failure, lifted_hold}
+use Rattle.fa_bodies.specs.Laws.{RequestIsOne, RequestPassesChecks, ReplyIsOne, ReplyHeadIsOne}
+use Rattle.fa_bodies.specs.Requests.{PlainRequest, IsRequest, request_checks}
+use Rattle.fa_bodies.specs.Replies.{PlainReply, IsReply}
+use Rattle.fa_session.specs.declared.error.SessionError.{SessionError}
+use Rattle.fa_session.specs.declared.error.SessionError.TheVariants as session
+use Rattle.fa_session.specs.Answers.{IsRequestMessage, IsReplyMessage, IsNotificationMessage, Answers}
+use Rattle.fa_session.specs.Allowed.{ForRequest, checks_of, request_rules, checks_by, session_checks}
+use Rattle.fa_session.specs.Laws.{AnswersOne}
+use Rattle.fa_session.specs.Refusals.{IsRefusal}
+use Rattle.fa_session.specs.Rules.{IsUniqueFree}
+use Rattle.fa_audit.specs.Operations.{IsAdmitted, operation_checks}
+use Rattle.fa_audit.specs.Nodes.{NamesKnown, GivesAllowed, node_checks_by, node_checks}
+use Rattle.fa_audit.specs.Faults.{Passes, message_checks}
+use Rattle.fa_audit.specs.Refusal.{IsMessageRefusal}
+use Rattle.fa_audit.proofs.ChecksLemmas.{fails_first, fails_behind, hold_front, hold_later, no_failure}
 
--- the checks of a message by the direction that it has
-pub by_direction : (P : List (ℕ × Type 0) → Type 0) (before : List Message) (m : Message) (d : Direction) → m.direction ≡ d → P (checks_by d before m) → P (message_checks before m)
-by_direction P before m d is here = subst (λ (x : Direction). P (checks_by x before m)) (sym is) here
+-- ---- the operation
 
--- ---- requests
+-- what is read as one request has the operation of that request
+pub operation_admitted : (m : Message) (r : PlainRequest) → ((other : PlainRequest) → IsRequest m.bytes other → other ≡ r) → IsAdmitted r.opcode → AllHold (operation_checks m)
+operation_admitted m r only admitted = ((λ other is. subst (λ (x : PlainRequest). IsAdmitted x.opcode) (sym (only other is.1)) admitted), tt)
 
--- the request that the message is, and no other
-pub record IsOnlyRequest (m : Message) (r : PlainRequest) : Type 0 where
-  pub found : IsRequest m.bytes r
-  pub only : (other : PlainRequest) → IsRequest m.bytes other → other ≡ r
-  pub checks : AllHold (request_checks m.bytes)
+-- what fails a check of a request is none
+pub operation_unread : RequestPassesChecks → (m : Message) (code : ℕ) → FirstFailure (request_checks m.bytes) code → AllHold (operation_checks m)
+operation_unread passes m code fails = ((λ r is. absurd (no_failure (request_checks m.bytes) code ((passes m.bytes).1 (r, is.1)) fails)), tt)
 
--- what holds of the only request that a message is
-for_request : (m : Message) (r : PlainRequest) → IsOnlyRequest m r → m.direction ≡ ToServer → (Such : PlainRequest → Type 0) → (Such r → ForRequest m Such) × (ForRequest m Such → Such r)
-for_request m r is to_server Such = ((λ such other found. subst Such (sym (is.only other found.1)) such), λ every. every r (to_server, is.found))
+-- ---- the nodes
 
--- the checks behind those of the grammar
-abbrev behind_request : List Message → Message → List (ℕ × Type 0)
-behind_request before m = checks_of (ForRequest m) (request_rules before)
+-- the check of the nodes by the direction that a message has
+nodes_by : (P : List (ℕ × Type 0) → Type 0) (c : List Message) (m : Message) (d : Direction) → m.direction ≡ d → P (node_checks_by d c m) → P (node_checks c m)
+nodes_by P c m d is here = subst (λ (x : Direction). P (node_checks_by x c m)) (sym is) here
 
--- a message from the kernel that is no request
-pub unread_request : (before : List Message) (m : Message) (code : ℕ) → m.direction ≡ ToServer → FirstFailure (request_checks m.bytes) code → FirstFailure (message_checks before m) code
-unread_request before m code to_server fails =
-    by_direction (λ checks. FirstFailure checks code) before m ToServer to_server (fails_first (request_checks m.bytes) (behind_request before m) code fails)
+pub asked_known : RequestIsOne → (c : List Message) (m : Message) (r : PlainRequest) → IsRequestMessage m r → NamesKnown c r.body r.node → AllHold (node_checks c m)
+asked_known one c m r is known =
+    nodes_by AllHold c m ToServer is.0
+    ((λ other found. subst (λ (x : PlainRequest). NamesKnown c x.body x.node) (one m.bytes r other is.1 found.1) known), tt)
 
--- a request that breaks a rule
-pub request_fails : (before : List Message) (m : Message) (r : PlainRequest) (code : ℕ) → m.direction ≡ ToServer → IsOnlyRequest m r → FirstFailure (request_checked before r) code → FirstFailure (message_checks before m) code
-request_fails before m r code to_server is fails =
-    by_direction (λ checks. FirstFailure checks code) before m ToServer to_server
-    (fails_behind (request_checks m.bytes) (behind_request before m) code is.checks
-    (lifted_failure (λ (Such : PlainRequest → Type 0). Such r) (ForRequest m) (for_request m r is to_server) (request_rules before) code fails))
+pub asked_unknown : (c : List Message) (m : Message) (r : PlainRequest) → IsRequestMessage m r → (NamesKnown c r.body r.node → ⊥) → FirstFailure (node_checks c m) FORGOTTEN_NODE
+asked_unknown c m r is unknown =
+    nodes_by (λ checks. FirstFailure checks FORGOTTEN_NODE) c m ToServer is.0 (inl ((λ every. unknown (every r is)), refl))
 
--- a request that keeps the rules
-pub request_passes : (before : List Message) (m : Message) (r : PlainRequest) → m.direction ≡ ToServer → IsOnlyRequest m r → AllHold (request_checked before r) → AllHold (message_checks before m)
-request_passes before m r to_server is hold =
-    by_direction AllHold before m ToServer to_server
-    (hold_both (request_checks m.bytes) (behind_request before m) is.checks
-    (lifted_hold (λ (Such : PlainRequest → Type 0). Such r) (ForRequest m) (for_request m r is to_server) (request_rules before) hold))
-
--- ---- replies
-
--- the head that the message begins with, and no other
-pub record IsOnlyHead (m : Message) (head : ReplyHead) : Type 0 where
-  pub found : IsReplyHead m.bytes head
-  pub only : (other : ReplyHead) → IsReplyHead m.bytes other → other ≡ head
-  pub checks : AllHold (reply_head_checks m.bytes)
-
--- the request that the message answers, and no other
-pub record IsOnlyAnswer (before : List Message) (m : Message) (p : ℕ) (r : PlainRequest) : Type 0 where
-  pub answers : Answers before m p r
-  pub only : (q : ℕ) (other : PlainRequest) → Answers before m q other → (q ≡ p) × (other ≡ r)
-
--- what the message says to the request that it answers, and nothing else
-pub record IsOnlyReply (m : Message) (r : PlainRequest) (reply : PlainReply) : Type 0 where
-  pub found : IsReply r m.bytes reply
-  pub only : (other : PlainReply) → IsReply r m.bytes other → other ≡ reply
-
--- the checks of which request the message answers
-abbrev head_checks : List Message → Message → List (ℕ × Type 0)
-head_checks before m =
-    (NOTIFICATION, ForHead m (λ head. head.unique ≢ 0))
-    ∷ (FIRST_NOT_INIT, before ≢ [])
-    ∷ (NO_REQUEST_WAITS, (p : ℕ) × (r : PlainRequest) × Answers before m p r)
-    ∷ []
-
--- the checks of what it says
-abbrev said_checks : List Message → Message → List (ℕ × Type 0)
-said_checks before m = checks_of (ForReply before m) reply_rules
-
--- the check of its body, and those of what it says
-abbrev body_and_said : List Message → Message → List (ℕ × Type 0)
-body_and_said before m = (REPLY_BODY, ForAnswered before m (λ r. (reply : PlainReply) × IsReply r m.bytes reply)) ∷ said_checks before m
-
-from_server : (P : List (ℕ × Type 0) → Type 0) (before : List Message) (m : Message) → m.direction ≡ FromServer
-    → P (reply_head_checks m.bytes ++ (head_checks before m ++ body_and_said before m)) → P (message_checks before m)
-from_server P before m is here = by_direction P before m FromServer is here
-
-same_head : (before : List Message) (m : Message) (head : ReplyHead) → m.direction ≡ FromServer → IsOnlyHead m head → SameChecks (head_checked before head.unique) (head_checks before m)
-same_head before m head is only = (
-  refl,
-  (λ reply other found zero. reply (sym (ap (λ (h : ReplyHead). h.unique) (only.only other found.1)) ∙ zero)),
-  (λ every. every head (is, only.found)),
-  (
-    refl,
-    (λ here. here),
-    (λ here. here),
-    (
-      refl,
-      (λ found. (found.0, found.1, record { head = head; reply = (is, only.found); unique = found.3; outstanding = found.2 })),
-      (λ found. (found.0, found.1, found.2.outstanding, sym (ap (λ (h : ReplyHead). h.unique) (only.only found.2.head found.2.reply.1)) ∙ found.2.unique)),
+pub answered_allowed : AnswersOne → ReplyIsOne → (c : List Message) (m : Message) (p : ℕ) (r : PlainRequest) (reply : PlainReply) → Answers c m p r → IsReply r m.bytes reply → GivesAllowed reply → AllHold (node_checks c m)
+answered_allowed one one_reply c m p r reply answers says allowed =
+    nodes_by AllHold c m FromServer answers.reply.1.0 (
+      (λ q other said too found.
+          let same : r ≡ other = (one c m p q r other answers too).1 in
+          let like : reply ≡ said = one_reply other m.bytes reply said (subst (λ (x : PlainRequest). IsReply x m.bytes reply) same says) found in
+          subst GivesAllowed like allowed),
       tt,
-    ),
-  ),
-)
+    )
 
-for_reply : (before : List Message) (m : Message) (p : ℕ) (r : PlainRequest) (reply : PlainReply) → IsOnlyAnswer before m p r → IsOnlyReply m r reply
-    → (Such : PlainBody → PlainReply → Type 0) → (Such r.body reply → ForReply before m Such) × (ForReply before m Such → Such r.body reply)
-for_reply before m p r reply answered said Such = (
-  (λ such q other what answers found.
-      let same : other ≡ r = (answered.only q other answers).1 in
-      let says : what ≡ reply = said.only what (subst (λ (x : PlainRequest). IsReply x m.bytes what) same found) in
-      subst (λ (x : PlainRequest). Such x.body what) (sym same) (subst (Such r.body) (sym says) such)),
-  λ every. every p r reply answered.answers said.found,
-)
+pub answered_not_allowed : (c : List Message) (m : Message) (p : ℕ) (r : PlainRequest) (reply : PlainReply) → Answers c m p r → IsReply r m.bytes reply → (GivesAllowed reply → ⊥) → FirstFailure (node_checks c m) NODE_ID_NOT_ALLOWED
+answered_not_allowed c m p r reply answers says not_allowed =
+    nodes_by (λ checks. FirstFailure checks NODE_ID_NOT_ALLOWED) c m FromServer answers.reply.1.0
+    (inl ((λ every. not_allowed (every p r reply answers says)), refl))
 
--- the message has a body that the answered request allows
-for_body : (before : List Message) (m : Message) (p : ℕ) (r : PlainRequest) (reply : PlainReply) → IsOnlyAnswer before m p r → IsReply r m.bytes reply → ForAnswered before m (λ r. (reply : PlainReply) × IsReply r m.bytes reply)
-for_body before m p r reply answered found q other answers = subst (λ (x : PlainRequest). (y : PlainReply) × IsReply x m.bytes y) (sym (answered.only q other answers).1) (reply, found)
+-- a notification is no reply
+pub notice_is_no_reply : ReplyHeadIsOne → (m : Message) (unique : ℕ) → IsNotificationMessage m → IsReplyMessage m unique → ⊥
+notice_is_no_reply one m unique notice reply =
+    let same : notice.0 ≡ reply.0 = one m.bytes notice.0 reply.0 notice.1.1 reply.1.1 in
+    reply.3 (sym reply.2 ∙ ap (λ (h : ReplyHead). h.unique) (sym same) ∙ notice.2)
 
--- a message from the server that begins as no reply does
-pub unread_head : (before : List Message) (m : Message) (code : ℕ) → m.direction ≡ FromServer → FirstFailure (reply_head_checks m.bytes) code → FirstFailure (message_checks before m) code
-unread_head before m code is fails =
-    from_server (λ checks. FirstFailure checks code) before m is (fails_first (reply_head_checks m.bytes) (head_checks before m ++ body_and_said before m) code fails)
+pub notice_allowed : ReplyHeadIsOne → (c : List Message) (m : Message) → IsNotificationMessage m → AllHold (node_checks c m)
+notice_allowed one c m notice =
+    nodes_by AllHold c m FromServer notice.1.0
+    ((λ p r reply answers says. absurd (notice_is_no_reply one m r.unique notice answers.reply)), tt)
 
--- a head that fails a check
-pub head_fails : (before : List Message) (m : Message) (head : ReplyHead) (code : ℕ) → m.direction ≡ FromServer → IsOnlyHead m head → FirstFailure (head_checked before head.unique) code → FirstFailure (message_checks before m) code
-head_fails before m head code is only fails =
-    from_server (λ checks. FirstFailure checks code) before m is (fails_behind (reply_head_checks m.bytes) (head_checks before m ++ body_and_said before m) code only.checks
-    (fails_first (head_checks before m) (body_and_said before m) code (same_failure (head_checked before head.unique) (head_checks before m) code (same_head before m head is only) fails)))
+-- ---- the checks of a message
 
--- a failure behind the checks of the head
-behind_head : (before : List Message) (m : Message) (head : ReplyHead) (code : ℕ) → m.direction ≡ FromServer → IsOnlyHead m head → AllHold (head_checked before head.unique) → FirstFailure (body_and_said before m) code → FirstFailure (message_checks before m) code
-behind_head before m head code is only hold fails =
-    from_server (λ checks. FirstFailure checks code) before m is (fails_behind (reply_head_checks m.bytes) (head_checks before m ++ body_and_said before m) code only.checks
-    (fails_behind (head_checks before m) (body_and_said before m) code (same_hold (head_checked before head.unique) (head_checks before m) (same_head before m head is only) hold) fails))
+session_fails : (c : List Message) (m : Message) (code : ℕ) → AllHold (operation_checks m) → FirstFailure (session_checks c m) code → FirstFailure (message_checks c m) code
+session_fails c m code operation fails =
+    fails_behind (operation_checks m) (session_checks c m ++ node_checks c m) code operation (fails_first (session_checks c m) (node_checks c m) code fails)
 
--- a body that the answered request does not allow
-pub body_fails : (before : List Message) (m : Message) (head : ReplyHead) (p : ℕ) (r : PlainRequest) (code : ℕ) → m.direction ≡ FromServer → IsOnlyHead m head → AllHold (head_checked before head.unique)
-    → Answers before m p r → FirstFailure (reply_checks r m.bytes) code → FirstFailure (message_checks before m) code
-body_fails before m head p r code is only hold answers fails =
-    behind_head before m head code is only hold
-    (elim fails [ inl here ↦ inl ((λ every. here.0 (every p r answers)), here.1) | inr past ↦ absurd past.1 ])
+-- what the session refuses
+pub session_refuses : (c : List Message) (m : Message) (error : SessionError) → AllHold (operation_checks m) → IsRefusal c m error → IsMessageRefusal c m error
+session_refuses c m (session.Refused code) operation refusal = session_fails c m code operation refusal
+session_refuses c m session.Memory operation refusal = tt
 
--- a reply that fails a check
-pub reply_fails : (before : List Message) (m : Message) (head : ReplyHead) (p : ℕ) (r : PlainRequest) (reply : PlainReply) (code : ℕ) → m.direction ≡ FromServer → IsOnlyHead m head → AllHold (head_checked before head.unique)
-    → IsOnlyAnswer before m p r → IsOnlyReply m r reply → FirstFailure (reply_checked r.body reply) code → FirstFailure (message_checks before m) code
-reply_fails before m head p r reply code is only hold answered said fails =
-    behind_head before m head code is only hold
-    (inr (for_body before m p r reply answered said.found, lifted_failure (λ (Such : PlainBody → PlainReply → Type 0). Such r.body reply) (ForReply before m) (for_reply before m p r reply answered said) reply_rules code fails))
+-- ---- what a message that passes keeps
 
--- a reply that passes
-pub reply_passes : (before : List Message) (m : Message) (head : ReplyHead) (p : ℕ) (r : PlainRequest) (reply : PlainReply) → m.direction ≡ FromServer → IsOnlyHead m head → AllHold (head_checked before head.unique)
-    → IsOnlyAnswer before m p r → IsOnlyReply m r reply → AllHold (reply_checked r.body reply) → AllHold (message_checks before m)
-reply_passes before m head p r reply is only hold answered said holds =
-    from_server AllHold before m is (hold_both (reply_head_checks m.bytes) (head_checks before m ++ body_and_said before m) only.checks
-    (hold_both (head_checks before m) (body_and_said before m) (same_hold (head_checked before head.unique) (head_checks before m) (same_head before m head is only) hold)
-    (for_body before m p r reply answered said.found, lifted_hold (λ (Such : PlainBody → PlainReply → Type 0). Such r.body reply) (ForReply before m) (for_reply before m p r reply answered said) reply_rules holds)))
+-- the session allows it
+passes_allowed : (c : List Message) (m : Message) → Passes c m → AllHold (session_checks c m)
+passes_allowed c m passes =
+    hold_front (session_checks c m) (node_checks c m) (hold_later (operation_checks m) (session_checks c m ++ node_checks c m) passes)
+
+-- a request has a free unique
+pub passes_free : (c : List Message) (m : Message) (r : PlainRequest) → Passes c m → IsRequestMessage m r → IsUniqueFree c r
+passes_free c m r passes is =
+    let hold : AllHold (checks_by ToServer c m) = subst (λ (d : Direction). AllHold (checks_by d c m)) is.0 (passes_allowed c m passes) in
+    let rules : AllHold (checks_of (ForRequest m) (request_rules c)) = hold_later (request_checks m.bytes) (checks_of (ForRequest m) (request_rules c)) hold in
+    rules.1.1.1.1.0 r is
+
+-- and its node is known
+pub passes_known : (c : List Message) (m : Message) (r : PlainRequest) → Passes c m → IsRequestMessage m r → NamesKnown c r.body r.node
+passes_known c m r passes is =
+    let nodes : AllHold (node_checks c m) = hold_later (session_checks c m) (node_checks c m) (hold_later (operation_checks m) (session_checks c m ++ node_checks c m) passes) in
+    let known : AllHold (node_checks_by ToServer c m) = subst (λ (d : Direction). AllHold (node_checks_by d c m)) is.0 nodes in
+    known.0 r is

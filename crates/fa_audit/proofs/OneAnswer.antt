@@ -7,7 +7,6 @@ use Rattle.fa_capture.specs.declared.fault.CaptureFault.{CaptureFault}
 use Rattle.fa_capture.specs.Checks.{FirstFailure}
 use Rattle.fa_capture.specs.Message.{Message}
 use Rattle.fa_capture.specs.Reading.{OneReading}
-use Rattle.fa_bodies.specs.Laws.{RequestIsOne, ReplyIsOne}
 use Rattle.fa_audit.specs.declared.order.Entry.{Entry}
 use Rattle.fa_audit.specs.declared.verdict.Verdict.{Verdict}
 use Rattle.fa_audit.specs.declared.verdict.Verdict.TheVariants.{Legal, Fault, NotShown}
@@ -20,7 +19,7 @@ use Rattle.fa_audit.specs.Replay.{IsUnansweredUnplaced, Counts, IsOrderAtFault}
 use Rattle.fa_audit.specs.Verdict.{IsLegal, IsNotShown, OneAnswer}
 use Rattle.fa_audit.proofs.ChecksLemmas.{no_failure, one_failure}
 use Rattle.fa_audit.proofs.OneAnswerLists.{rising_same}
-use Rattle.fa_audit.proofs.OneAnswerRuns.{one_order_at_fault, valid_no_fault}
+use Rattle.fa_audit.proofs.OneAnswerRuns.{RepliedOnce, one_order_at_fault, valid_no_fault}
 
 -- ---- captures
 
@@ -121,19 +120,19 @@ one_legal one one_text capture order messages placed left others entries rest a 
     )
 
 -- it has no fault
-pub legal_no_fault : OneReading → RequestIsOne → ReplyIsOne → OneOrderText → (capture order : List ℕ) (messages placed left entry at code : ℕ) → IsLegal capture order messages placed left → IsNotShown capture order entry at code → ⊥
-legal_no_fault one one_request one_reply one_text capture order messages placed left entry at code a b =
+pub legal_no_fault : OneReading → RepliedOnce → OneOrderText → (capture order : List ℕ) (messages placed left entry at code : ℕ) → IsLegal capture order messages placed left → IsNotShown capture order entry at code → ⊥
+legal_no_fault one once one_text capture order messages placed left entry at code a b =
     let same : b.c ≡ a.c = one_good_capture one capture b.c a.c b.good a.good in
     let text : b.entries ≡ a.entries = one_text order b.entries a.entries b.text a.text in
-    valid_no_fault one_request one_reply a.c empty_root a.last a.entries entry at code a.valid a.run (order_fault_moved b.c a.c b.entries a.entries entry at code same text b.fault)
+    valid_no_fault once a.c empty_root a.last a.entries entry at code a.valid a.run (order_fault_moved b.c a.c b.entries a.entries entry at code same text b.fault)
 
 -- an order that does not explain a capture has one first fault
-pub one_not_shown : OneReading → RequestIsOne → ReplyIsOne → OneOrderText → (capture order : List ℕ) (entry at code other place told : ℕ) → IsNotShown capture order entry at code → IsNotShown capture order other place told
+pub one_not_shown : OneReading → RepliedOnce → OneOrderText → (capture order : List ℕ) (entry at code other place told : ℕ) → IsNotShown capture order entry at code → IsNotShown capture order other place told
     → (entry ≡ other) × (at ≡ place) × (code ≡ told)
-one_not_shown one one_request one_reply one_text capture order entry at code other place told a b =
+one_not_shown one once one_text capture order entry at code other place told a b =
     let same : a.c ≡ b.c = one_good_capture one capture a.c b.c a.good b.good in
     let text : a.entries ≡ b.entries = one_text order a.entries b.entries a.text b.text in
-    one_order_at_fault one_request one_reply b.c empty_root b.entries entry at code other place told (order_fault_moved a.c b.c a.entries b.entries entry at code same text a.fault) b.fault
+    one_order_at_fault once b.c empty_root b.entries entry at code other place told (order_fault_moved a.c b.c a.entries b.entries entry at code same text a.fault) b.fault
 
 -- ---- answers
 
@@ -162,39 +161,39 @@ not_shown_same entry at code other place told same =
     let third : code ≡ told = same.2 in
     cc
 
--- A capture and an order have one answer at most. It takes the laws that bytes have one reading as a capture, a request, a reply and an order text.
-pub one_answer_lem : OneReading → RequestIsOne → ReplyIsOne → OneOrderText → OneOrderFault → TextHasNoFault → OneAnswer
-one_answer_lem one one_request one_reply one_text one_fault or_fault capture order (Ok (Legal messages placed left)) (Ok (Legal others entries rest)) a b =
+-- A capture and an order have one answer at most. It takes the laws that bytes have one reading as a capture and as an order text, and that an answered request has one reply.
+pub one_answer_lem : OneReading → RepliedOnce → OneOrderText → OneOrderFault → TextHasNoFault → OneAnswer
+one_answer_lem one once one_text one_fault or_fault capture order (Ok (Legal messages placed left)) (Ok (Legal others entries rest)) a b =
     legal_same messages placed left others entries rest (one_legal one one_text capture order messages placed left others entries rest a b)
-one_answer_lem one one_request one_reply one_text one_fault or_fault capture order (Ok (Legal messages placed left)) (Ok (Fault at code)) a b =
+one_answer_lem one once one_text one_fault or_fault capture order (Ok (Legal messages placed left)) (Ok (Fault at code)) a b =
     absurd (good_no_fault one capture a.c at code a.good b)
-one_answer_lem one one_request one_reply one_text one_fault or_fault capture order (Ok (Legal messages placed left)) (Ok (NotShown entry at code)) a b =
-    absurd (legal_no_fault one one_request one_reply one_text capture order messages placed left entry at code a b)
-one_answer_lem one one_request one_reply one_text one_fault or_fault capture order (Ok (Legal messages placed left)) (Err (OrderText line)) a b =
+one_answer_lem one once one_text one_fault or_fault capture order (Ok (Legal messages placed left)) (Ok (NotShown entry at code)) a b =
+    absurd (legal_no_fault one once one_text capture order messages placed left entry at code a b)
+one_answer_lem one once one_text one_fault or_fault capture order (Ok (Legal messages placed left)) (Err (OrderText line)) a b =
     absurd (or_fault order a.entries line a.text b.text)
-one_answer_lem one one_request one_reply one_text one_fault or_fault capture order (Ok (Fault at code)) (Ok (Legal messages placed left)) a b =
+one_answer_lem one once one_text one_fault or_fault capture order (Ok (Fault at code)) (Ok (Legal messages placed left)) a b =
     absurd (good_no_fault one capture b.c at code b.good a)
-one_answer_lem one one_request one_reply one_text one_fault or_fault capture order (Ok (Fault at code)) (Ok (Fault place told)) a b =
+one_answer_lem one once one_text one_fault or_fault capture order (Ok (Fault at code)) (Ok (Fault place told)) a b =
     fault_same at code place told (one_first_fault one capture at code place told a b)
-one_answer_lem one one_request one_reply one_text one_fault or_fault capture order (Ok (Fault at code)) (Ok (NotShown entry place told)) a b =
+one_answer_lem one once one_text one_fault or_fault capture order (Ok (Fault at code)) (Ok (NotShown entry place told)) a b =
     absurd (good_no_fault one capture b.c at code b.good a)
-one_answer_lem one one_request one_reply one_text one_fault or_fault capture order (Ok (Fault at code)) (Err (OrderText line)) a b =
+one_answer_lem one once one_text one_fault or_fault capture order (Ok (Fault at code)) (Err (OrderText line)) a b =
     absurd (good_no_fault one capture b.c at code b.good a)
-one_answer_lem one one_request one_reply one_text one_fault or_fault capture order (Ok (NotShown entry at code)) (Ok (Legal messages placed left)) a b =
-    absurd (legal_no_fault one one_request one_reply one_text capture order messages placed left entry at code b a)
-one_answer_lem one one_request one_reply one_text one_fault or_fault capture order (Ok (NotShown entry at code)) (Ok (Fault place told)) a b =
+one_answer_lem one once one_text one_fault or_fault capture order (Ok (NotShown entry at code)) (Ok (Legal messages placed left)) a b =
+    absurd (legal_no_fault one once one_text capture order messages placed left entry at code b a)
+one_answer_lem one once one_text one_fault or_fault capture order (Ok (NotShown entry at code)) (Ok (Fault place told)) a b =
     absurd (good_no_fault one capture a.c place told a.good b)
-one_answer_lem one one_request one_reply one_text one_fault or_fault capture order (Ok (NotShown entry at code)) (Ok (NotShown other place told)) a b =
-    not_shown_same entry at code other place told (one_not_shown one one_request one_reply one_text capture order entry at code other place told a b)
-one_answer_lem one one_request one_reply one_text one_fault or_fault capture order (Ok (NotShown entry at code)) (Err (OrderText line)) a b =
+one_answer_lem one once one_text one_fault or_fault capture order (Ok (NotShown entry at code)) (Ok (NotShown other place told)) a b =
+    not_shown_same entry at code other place told (one_not_shown one once one_text capture order entry at code other place told a b)
+one_answer_lem one once one_text one_fault or_fault capture order (Ok (NotShown entry at code)) (Err (OrderText line)) a b =
     absurd (or_fault order a.entries line a.text b.text)
-one_answer_lem one one_request one_reply one_text one_fault or_fault capture order (Err (OrderText line)) (Ok (Legal messages placed left)) a b =
+one_answer_lem one once one_text one_fault or_fault capture order (Err (OrderText line)) (Ok (Legal messages placed left)) a b =
     absurd (or_fault order b.entries line b.text a.text)
-one_answer_lem one one_request one_reply one_text one_fault or_fault capture order (Err (OrderText line)) (Ok (Fault at code)) a b =
+one_answer_lem one once one_text one_fault or_fault capture order (Err (OrderText line)) (Ok (Fault at code)) a b =
     absurd (good_no_fault one capture a.c at code a.good b)
-one_answer_lem one one_request one_reply one_text one_fault or_fault capture order (Err (OrderText line)) (Ok (NotShown entry at code)) a b =
+one_answer_lem one once one_text one_fault or_fault capture order (Err (OrderText line)) (Ok (NotShown entry at code)) a b =
     absurd (or_fault order b.entries line b.text a.text)
-one_answer_lem one one_request one_reply one_text one_fault or_fault capture order (Err (OrderText line)) (Err (OrderText other)) a b =
+one_answer_lem one once one_text one_fault or_fault capture order (Err (OrderText line)) (Err (OrderText other)) a b =
     ap (λ (n : ℕ). Err (OrderText n)) (one_fault order line other a.text b.text)
-one_answer_lem one one_request one_reply one_text one_fault or_fault capture order (Err Memory) b a _ = absurd a
-one_answer_lem one one_request one_reply one_text one_fault or_fault capture order a (Err Memory) _ b = absurd b
+one_answer_lem one once one_text one_fault or_fault capture order (Err Memory) b a _ = absurd a
+one_answer_lem one once one_text one_fault or_fault capture order a (Err Memory) _ b = absurd b

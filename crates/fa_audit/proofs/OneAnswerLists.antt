@@ -148,6 +148,23 @@ same_length (x ∷ xs) (y ∷ ys) rise rises to from =
 pub rising_same : (xs ys : List ℕ) → IsStrictlyIncreasing xs → IsStrictlyIncreasing ys → ((z : ℕ) → Contains xs z → Contains ys z) → ((z : ℕ) → Contains ys z → Contains xs z) → length xs ≡ length ys
 rising_same xs ys rise rises to from = same_length xs ys (AllPairs-from_increasing xs rise) (AllPairs-from_increasing ys rises) to from
 
+-- such a list from one number up to another is no longer than what lies between
+room : (xs : List ℕ) (low high : ℕ) → low ≤ high → AllPairs (λ a b. a < b) xs → ((z : ℕ) → Contains xs z → (low ≤ z) × (z < high)) → length xs + low ≤ high
+room [] low high ordered pairs between = omega (arith, ordered)
+room (x ∷ xs) low high ordered pairs between =
+    let here : (low ≤ x) × (x < high) = between x (contains_first x xs) in
+    let behind : length xs + suc low ≤ high = room xs (suc low) high (omega (arith, here.0, here.1)) (tail_pairs x xs pairs)
+    (λ z has.
+    let above : x < z = first_least x xs z pairs has in
+    (omega (arith, here.0, above), (between z (contains_behind x xs z has)).1)) in
+    omega (arith, behind)
+
+-- rising numbers below a limit are no more than it
+pub rising_within : (xs : List ℕ) (limit : ℕ) → IsStrictlyIncreasing xs → ((z : ℕ) → Contains xs z → z < limit) → length xs ≤ limit
+rising_within xs limit rise below =
+    let all : length xs + 0 ≤ limit = room xs 0 limit (omega arith) (AllPairs-from_increasing xs rise) (λ z has. (omega arith, below z has)) in
+    omega (arith, all)
+
 -- ---- whether a number is in a list
 
 -- it is, or it is not

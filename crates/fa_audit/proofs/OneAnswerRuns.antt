@@ -11,12 +11,13 @@ use Rattle.fa_capture.specs.Message.{Message}
 use Rattle.fa_bodies.specs.Laws.{RequestIsOne, ReplyIsOne}
 use Rattle.fa_bodies.specs.Requests.{PlainRequest}
 use Rattle.fa_bodies.specs.Replies.{PlainReply, IsReply}
+use Rattle.fa_session.specs.Answers.{IsRequestMessage, IsRequestAt, AnswersAt}
+use Rattle.fa_session.specs.Laws.{AnsweredOnce}
 use Rattle.fa_audit.specs.declared.order.Entry.{Entry}
-use Rattle.fa_audit.specs.Answers.{IsRequestMessage, IsRequestAt, AnswersAt}
 use Rattle.fa_audit.specs.Tree.{Tree, Step, step_checks}
 use Rattle.fa_audit.specs.Replay.{EntryFails, IsTreeRequestAt, IsAnsweredBy, IsRepliedTo, numbers, IsChoice, IsValidOrder, EntryStep, Run, order_checks, EachPlaced, IsEntryAtFault, IsAnsweredUnplaced, LeavesOut, IsOrderAtFault}
 use Rattle.fa_audit.proofs.ChecksLemmas.{no_failure, one_failure}
-use Rattle.fa_audit.proofs.OneAnswerLists.{get_from_take, get_in_take, same_parts, longer_front, contains_cases, contains_first, contains_behind, contains_longer, contains_front, contains_decided, parts_at, all_middle, pairs_before, pairs_behind}
+use Rattle.fa_audit.proofs.OneAnswerLists.{get_from_take, same_parts, longer_front, contains_cases, contains_first, contains_behind, contains_longer, contains_front, contains_decided, parts_at, all_middle, pairs_before, pairs_behind}
 
 -- ---- answers
 
@@ -39,35 +40,23 @@ answer_after c q p r at =
     let below : p < length (take q c) = slice_get_within (take q c) p asked.0 asked.1 in
     omega (arith, below, length-take q c)
 
--- a request that was answered does not wait for a later message
-answered_earlier : RequestIsOne → (c : List Message) (q later p : ℕ) (r other : PlainRequest) → AnswersAt c q p r → AnswersAt c later p other → q < later → ⊥
-answered_earlier one c q later p r other at too before =
-    let same : r ≡ other = one_request_at one c p r other (answered_asked c q p r at) (answered_asked c later p other too) in
-    too.2.outstanding.silent q at.0 (answer_after c q p r at) (get_in_take later c q at.0 before at.1)
-    (inr (at.2.head, at.2.reply, at.2.unique ∙ ap (λ (x : PlainRequest). x.unique) same))
-
--- a request is answered by one message at most
-pub answered_once : RequestIsOne → (c : List Message) (q second p : ℕ) (r other : PlainRequest) → AnswersAt c q p r → AnswersAt c second p other → q ≡ second
-answered_once one c q second p r other at too =
-    elim (cases_lt q second) [
-      | inl before ↦ absurd (answered_earlier one c q second p r other at too before)
-      | inr behind ↦ elim (cases_lt second q) [
-        | inl before ↦ absurd (answered_earlier one c second q p other r too at before)
-        | inr too_far ↦ omega (arith, behind, too_far)
-      ]
-    ]
-
 -- a request that was answered has one reply
-pub replied_once : RequestIsOne → ReplyIsOne → (c : List Message) (p : ℕ) (r other : PlainRequest) (reply said : PlainReply) → IsRepliedTo c p r reply → IsRepliedTo c p other said → (r ≡ other) × (reply ≡ said)
-replied_once one_request one_reply c p r other reply said at too =
-    let first : AnswersAt c at.0 p r = (at.1, at.2, at.3) in
-    let second : AnswersAt c too.0 p other = (too.1, too.2, too.3) in
-    let place : at.0 ≡ too.0 = answered_once one_request c at.0 too.0 p r other first second in
+abbrev pub RepliedOnce : Type 0
+RepliedOnce =
+    (c : List Message) (p : ℕ) (r other : PlainRequest) (reply said : PlainReply) → IsRepliedTo c p r reply → IsRepliedTo c p other said
+    → (r ≡ other) × (reply ≡ said)
+
+-- since one message answers it, which is one reply to it
+pub replied_once : RequestIsOne → ReplyIsOne → AnsweredOnce → RepliedOnce
+replied_once one_request one_reply once c p r other reply said at too =
+    let first : AnswersAt c at.0 p r = (at.1.0, at.1.1, at.1.2) in
+    let second : AnswersAt c too.0 p other = (too.1.0, too.1.1, too.1.2) in
+    let place : at.0 ≡ too.0 = once c at.0 too.0 p r other first second in
     let same : r ≡ other = one_request_at one_request c p r other (answered_asked c at.0 p r first) (answered_asked c too.0 p other second) in
-    let here : slice_get c too.0 ≡ Some at.1 = subst (λ (k : ℕ). slice_get c k ≡ Some at.1) place at.2 in
-    let there : slice_get c too.0 ≡ Some too.1 = too.2 in
-    let message : at.1 ≡ too.1 = cc in
-    (same, one_reply other too.1.bytes reply said (subst (λ (m : Message). IsReply other m.bytes reply) message (subst (λ (x : PlainRequest). IsReply x at.1.bytes reply) same at.4)) too.4)
+    let here : slice_get c too.0 ≡ Some at.1.0 = subst (λ (k : ℕ). slice_get c k ≡ Some at.1.0) place at.1.1 in
+    let there : slice_get c too.0 ≡ Some too.1.0 = too.1.1 in
+    let message : at.1.0 ≡ too.1.0 = cc in
+    (same, one_reply other too.1.0.bytes reply said (subst (λ (m : Message). IsReply other m.bytes reply) message (subst (λ (x : PlainRequest). IsReply x at.1.0.bytes reply) same at.1.3)) too.1.3)
 
 -- ---- runs
 
@@ -181,20 +170,20 @@ pub step_holds : (tree new : Tree) (r : PlainRequest) (reply : PlainReply) → S
 step_holds tree new r reply step = (step.known, (step.success, (step.cause, tt)))
 
 -- an entry that is placed and has its step is at no fault
-pub no_entry_failure : RequestIsOne → ReplyIsOne → (c : List Message) (tree new : Tree) (earlier : List Entry) (e : Entry) (code : ℕ) → AllHold (order_checks c earlier e) → EntryStep c tree e new → EntryFails c tree earlier e code → ⊥
-no_entry_failure one_request one_reply c tree new earlier e code placed stepped fails =
+pub no_entry_failure : RepliedOnce → (c : List Message) (tree new : Tree) (earlier : List Entry) (e : Entry) (code : ℕ) → AllHold (order_checks c earlier e) → EntryStep c tree e new → EntryFails c tree earlier e code → ⊥
+no_entry_failure once c tree new earlier e code placed stepped fails =
     elim fails [
       | inl here ↦ no_failure (order_checks c earlier e) code placed here
       | inr step ↦
-          let same : (stepped.0 ≡ step.1) × (stepped.1 ≡ step.2) = replied_once one_request one_reply c e.at stepped.0 step.1 stepped.1 step.2 stepped.2 step.3 in
+          let same : (stepped.0 ≡ step.1) × (stepped.1 ≡ step.2) = once c e.at stepped.0 step.1 stepped.1 step.2 stepped.2 step.3 in
           let hold : AllHold (step_checks tree stepped.0 stepped.1) = step_holds tree new stepped.0 stepped.1 stepped.3 in
           no_failure (step_checks tree step.1 step.2) code
           (subst (λ (x : PlainReply). AllHold (step_checks tree step.1 x)) same.1 (subst (λ (x : PlainRequest). AllHold (step_checks tree x stepped.1)) same.0 hold)) step.4
     ]
 
 -- an entry at fault fails one check first
-pub one_entry_failure : RequestIsOne → ReplyIsOne → (c : List Message) (tree : Tree) (earlier : List Entry) (e : Entry) (a b : ℕ) → EntryFails c tree earlier e a → EntryFails c tree earlier e b → a ≡ b
-one_entry_failure one_request one_reply c tree earlier e a b fails others =
+pub one_entry_failure : RepliedOnce → (c : List Message) (tree : Tree) (earlier : List Entry) (e : Entry) (a b : ℕ) → EntryFails c tree earlier e a → EntryFails c tree earlier e b → a ≡ b
+one_entry_failure once c tree earlier e a b fails others =
     elim fails [
       | inl here ↦ elim others [
         | inl too ↦ one_failure (order_checks c earlier e) a b here too
@@ -203,7 +192,7 @@ one_entry_failure one_request one_reply c tree earlier e a b fails others =
       | inr step ↦ elim others [
         | inl here ↦ absurd (no_failure (order_checks c earlier e) b step.0 here)
         | inr too ↦
-            let same : (step.1 ≡ too.1) × (step.2 ≡ too.2) = replied_once one_request one_reply c e.at step.1 too.1 step.2 too.2 step.3 too.3 in
+            let same : (step.1 ≡ too.1) × (step.2 ≡ too.2) = once c e.at step.1 too.1 step.2 too.2 step.3 too.3 in
             one_failure (step_checks tree too.1 too.2) a b
             (subst (λ (x : PlainReply). FirstFailure (step_checks tree too.1 x) a) same.1 (subst (λ (x : PlainRequest). FirstFailure (step_checks tree x step.2) a) same.0 step.4)) too.4
       ]
@@ -214,15 +203,15 @@ fails_first_tree : (c : List Message) (first : Tree) (es : List Entry) (entry at
 fails_first_tree c first es entry at code f = subst (λ (t : Tree). EntryFails c t f.earlier f.e code) (run_same c first f.tree f.earlier f.run) f.fails
 
 -- entries that are all placed and are a run have none at fault
-pub placed_no_fault : RequestIsOne → ReplyIsOne → (c : List Message) (first last : Tree) (es : List Entry) (entry at code : ℕ) → EachPlaced c es → Run c first es last → IsEntryAtFault c first es entry at code → ⊥
-placed_no_fault one_request one_reply c first last es entry at code placed run f =
+pub placed_no_fault : RepliedOnce → (c : List Message) (first last : Tree) (es : List Entry) (entry at code : ℕ) → EachPlaced c es → Run c first es last → IsEntryAtFault c first es entry at code → ⊥
+placed_no_fault once c first last es entry at code placed run f =
     let stepped : (new : Tree) × EntryStep c first f.e new = run_step c first last f.earlier f.later f.e (subst (λ (xs : List Entry). Run c first xs last) f.parts run) in
-    no_entry_failure one_request one_reply c first stepped.0 f.earlier f.e code (placed f.earlier f.later f.e f.parts) stepped.1 (fails_first_tree c first es entry at code f)
+    no_entry_failure once c first stepped.0 f.earlier f.e code (placed f.earlier f.later f.e f.parts) stepped.1 (fails_first_tree c first es entry at code f)
 
 -- an entry at fault does not stand before another
-earlier_fault : RequestIsOne → ReplyIsOne → (c : List Message) (first : Tree) (es : List Entry) (entry at code other place told : ℕ)
+earlier_fault : RepliedOnce → (c : List Message) (first : Tree) (es : List Entry) (entry at code other place told : ℕ)
     → (f : IsEntryAtFault c first es entry at code) (g : IsEntryAtFault c first es other place told) → length f.earlier < length g.earlier → ⊥
-earlier_fault one_request one_reply c first es entry at code other place told f g before =
+earlier_fault once c first es entry at code other place told f g before =
     let mid : (mid : List Entry) × (g.earlier ≡ f.earlier ++ f.e ∷ mid) = longer_front f.earlier g.earlier f.later g.later f.e g.e (sym f.parts ∙ g.parts) before in
     let fault : IsEntryAtFault c first g.earlier entry at code = record {
       earlier = f.earlier;
@@ -236,16 +225,16 @@ earlier_fault one_request one_reply c first es entry at code other place told f 
       run = f.run;
       fails = f.fails;
     } in
-    placed_no_fault one_request one_reply c first g.tree g.earlier entry at code g.placed g.run fault
+    placed_no_fault once c first g.tree g.earlier entry at code g.placed g.run fault
 
 -- the first entry at fault, its message and its code are one
-pub one_entry_at_fault : RequestIsOne → ReplyIsOne → (c : List Message) (first : Tree) (es : List Entry) (entry at code other place told : ℕ)
+pub one_entry_at_fault : RepliedOnce → (c : List Message) (first : Tree) (es : List Entry) (entry at code other place told : ℕ)
     → IsEntryAtFault c first es entry at code → IsEntryAtFault c first es other place told → (entry ≡ other) × (at ≡ place) × (code ≡ told)
-one_entry_at_fault one_request one_reply c first es entry at code other place told f g =
+one_entry_at_fault once c first es entry at code other place told f g =
     elim (cases_lt (length f.earlier) (length g.earlier)) [
-      | inl before ↦ absurd (earlier_fault one_request one_reply c first es entry at code other place told f g before)
+      | inl before ↦ absurd (earlier_fault once c first es entry at code other place told f g before)
       | inr far ↦ elim (cases_lt (length g.earlier) (length f.earlier)) [
-        | inl before ↦ absurd (earlier_fault one_request one_reply c first es other place told entry at code g f before)
+        | inl before ↦ absurd (earlier_fault once c first es other place told entry at code g f before)
         | inr near ↦
             let long : length f.earlier ≡ length g.earlier = omega (arith, far, near) in
             let same : (f.earlier ≡ g.earlier) × (f.e ≡ g.e) = same_parts f.earlier g.earlier f.later g.later f.e g.e (sym f.parts ∙ g.parts) long in
@@ -253,7 +242,7 @@ one_entry_at_fault one_request one_reply c first es entry at code other place to
             let too : EntryFails c first g.earlier g.e told = fails_first_tree c first es other place told g in (
               f.number ∙ long ∙ sym g.number,
               f.message ∙ ap (λ (x : Entry). x.at) same.1 ∙ sym g.message,
-              one_entry_failure one_request one_reply c first g.earlier g.e code told
+              one_entry_failure once c first g.earlier g.e code told
                   (subst (λ (x : Entry). EntryFails c first g.earlier x code) same.1 (subst (λ (xs : List Entry). EntryFails c first xs f.e code) same.0 fails)) too,
             )
       ]
@@ -268,24 +257,24 @@ one_left_out c first es entry at code other place told l k =
     (l.number ∙ sym k.number, omega (arith, low, high), l.told ∙ sym k.told)
 
 -- an order has one fault at most
-pub one_order_at_fault : RequestIsOne → ReplyIsOne → (c : List Message) (first : Tree) (es : List Entry) (entry at code other place told : ℕ)
+pub one_order_at_fault : RepliedOnce → (c : List Message) (first : Tree) (es : List Entry) (entry at code other place told : ℕ)
     → IsOrderAtFault c first es entry at code → IsOrderAtFault c first es other place told → (entry ≡ other) × (at ≡ place) × (code ≡ told)
-one_order_at_fault one_request one_reply c first es entry at code other place told fault too =
+one_order_at_fault once c first es entry at code other place told fault too =
     elim fault [
       | inl f ↦ elim too [
-        | inl g ↦ one_entry_at_fault one_request one_reply c first es entry at code other place told f g
-        | inr k ↦ absurd (placed_no_fault one_request one_reply c first k.tree es entry at code k.placed k.run f)
+        | inl g ↦ one_entry_at_fault once c first es entry at code other place told f g
+        | inr k ↦ absurd (placed_no_fault once c first k.tree es entry at code k.placed k.run f)
       ]
       | inr l ↦ elim too [
-        | inl g ↦ absurd (placed_no_fault one_request one_reply c first l.tree es other place told l.placed l.run g)
+        | inl g ↦ absurd (placed_no_fault once c first l.tree es other place told l.placed l.run g)
         | inr k ↦ one_left_out c first es entry at code other place told l k
       ]
     ]
 
 -- a valid order that is a run has none
-pub valid_no_fault : RequestIsOne → ReplyIsOne → (c : List Message) (first last : Tree) (es : List Entry) (entry at code : ℕ) → IsValidOrder c es → Run c first es last → IsOrderAtFault c first es entry at code → ⊥
-valid_no_fault one_request one_reply c first last es entry at code valid run fault =
+pub valid_no_fault : RepliedOnce → (c : List Message) (first last : Tree) (es : List Entry) (entry at code : ℕ) → IsValidOrder c es → Run c first es last → IsOrderAtFault c first es entry at code → ⊥
+valid_no_fault once c first last es entry at code valid run fault =
     elim fault [
-      | inl f ↦ placed_no_fault one_request one_reply c first last es entry at code (valid_placed c es valid) run f
+      | inl f ↦ placed_no_fault once c first last es entry at code (valid_placed c es valid) run f
       | inr l ↦ l.left_out.2 (valid.complete at l.left_out.1.0 l.left_out.0 l.left_out.1.1)
     ]

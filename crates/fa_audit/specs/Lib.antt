@@ -1,5 +1,4 @@
-pub mod Answers
-pub mod Session
+pub mod Operations
 pub mod Nodes
 pub mod Faults
 pub mod Order
@@ -7,7 +6,6 @@ pub mod Tree
 pub mod Replay
 pub mod Errors
 pub mod Verdict
-pub mod Progress
 pub mod Calls
 pub mod Refusal
 pub mod Placed

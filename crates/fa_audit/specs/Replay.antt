@@ -1,14 +1,14 @@
 -- Which orders are valid, which are runs of the tree machine, and the first entry at fault of those that are not.
-use Rattle.std.specs.Prelude.{◌≡◌, ◌≢◌, ℕ, ◌≤◌, ◌<◌, ◌⊎◌, List, [], ◌∷◌, ◌++◌, length, map, All, AllPairs, Contains, slice_get, take, Option, Some, None}
+use Rattle.std.specs.Prelude.{◌≡◌, ◌≢◌, ℕ, ◌≤◌, ◌<◌, ◌⊎◌, List, [], ◌∷◌, ◌++◌, length, map, All, AllPairs, Contains, Option, None}
 use Rattle.std.specs.List.Sorted.{IsStrictlyIncreasing}
 use Rattle.fa_capture.specs.declared.codes.TheConstants.{NO_TREE_REQUEST, PLACED_TWICE, EARLIER_NOT_PLACED, ANSWERED_LEFT_OUT, CHOICE_NOT_ALLOWED}
 use Rattle.fa_capture.specs.Checks.{FirstFailure, AllHold}
 use Rattle.fa_capture.specs.Message.{Message}
 use Rattle.fa_bodies.specs.Requests.{PlainRequest, PlainBody}
 use Rattle.fa_bodies.specs.Requests.PlainBody.{Lookup}
-use Rattle.fa_bodies.specs.Replies.{PlainReply, IsReply}
+use Rattle.fa_bodies.specs.Replies.{PlainReply}
+use Rattle.fa_session.specs.Answers.{IsRequestAt, AnswersAt, IsRepliedAt}
 use Rattle.fa_audit.specs.declared.order.Entry.{Entry}
-use Rattle.fa_audit.specs.Answers.{IsRequestAt, Answers, AnswersAt}
 use Rattle.fa_audit.specs.Tree.{Tree, Step, step_checks}
 
 -- a request that acts on the tree: a LOOKUP, and none of another operation yet
@@ -28,10 +28,13 @@ IsAnsweredBy c p q = (r : PlainRequest) × AnswersAt c q p r
 abbrev pub IsUnanswered : List Message → ℕ → Type 0
 IsUnanswered c p = (q : ℕ) → IsAnsweredBy c p q → ⊥
 
+-- message q answers the request at p, and says this
+abbrev pub IsRepliedBy : List Message → ℕ → ℕ → PlainRequest → PlainReply → Type 0
+IsRepliedBy c q p r reply = IsRepliedAt c q p r reply
+
 -- the request at p was answered, and its reply says this
 abbrev pub IsRepliedTo : List Message → ℕ → PlainRequest → PlainReply → Type 0
-IsRepliedTo c p r reply =
-    (q : ℕ) × (m : Message) × (slice_get c q ≡ Some m) × Answers (take q c) m p r × IsReply r m.bytes reply
+IsRepliedTo c p r reply = (q : ℕ) × IsRepliedBy c q p r reply
 
 -- the message numbers of the entries
 abbrev pub numbers : List Entry → List ℕ

@@ -1,35 +1,39 @@
 //! The tree requests of a capture, each with its answer.
 
-ghost use Rattle.std.specs.Prelude.{◌≡◌, ◌↔◌, ◌≤◌, length, vec_len, IsTrue, IfOk, MatchResult};
-ghost use Rattle.fa_capture.specs.Message.{messages};
+ghost use Rattle.std.specs.Prelude.{◌≡◌, ◌↔◌, ◌≤◌, ◌==◌, not, filter, ◌∷◌, ◌++◌, List, [], length, IsTrue, IfOk, IfErr, OnOk};
+ghost use Rattle.fa_capture.specs.Message.{Message, messages};
 ghost use Rattle.fa_capture.specs.declared.limits.TheConstants.{MAX_MESSAGES};
 ghost use Rattle.fa_bodies.specs.Requests.{body_shown};
-ghost use Rattle.fa_audit.specs.Faults.{EachPasses};
+ghost use Rattle.fa_session.specs.Events.{IsEvent, event_shown};
+ghost use Rattle.fa_audit.specs.declared.calls.Refusal.TheVariants.{Memory};
+ghost use Rattle.fa_audit.specs.Faults.{Passes, EachPasses};
 ghost use Rattle.fa_audit.specs.Replay.{IsTreeBody};
-ghost use Rattle.fa_audit.specs.Progress.{UnansweredIn};
-ghost use Rattle.fa_audit.specs.Calls.{AreCalls};
-ghost use Rattle.fa_audit.specs.Refusal.{CallIn, IsRefusal};
+ghost use Rattle.fa_audit.specs.Calls.{AreSoFar, AreCalls};
+ghost use Rattle.fa_audit.specs.Refusal.{IsRefusal};
 
-use crate::session::{Event, Session};
+use crate::messages::accept;
 use fa_bodies::{Reply, RequestBody};
 use fa_capture::Packet;
-use std::alloc::{AllocError, AllocFailed, Global};
+use fa_session::{Event, Session, SessionError};
+use std::alloc::{AllocFailed, Global};
 
 /// A tree request that was answered.
 #[derive(Clone, Copy, Debug)]
 pub struct Call<'a> {
     /// The number of its message.
     pub at: u32,
+    /// The number of the reply's message.
+    pub answered: u32,
     pub reply: Reply<'a>,
 }
 
 /// The tree requests of a capture.
 #[derive(Debug, Drop)]
 pub struct Calls<'a> {
-    /// Those that were answered, in the order of their messages. Each was answered before the next was asked.
+    /// Those that were answered, in the order of their answers.
     pub answered: Vec<Call<'a>>,
-    /// The number of the one that was not, if there is one.
-    pub unanswered: Option<u32>,
+    /// The numbers of those that were not, which rise.
+    pub unanswered: Vec<u32>,
 }
 
 /// Why a capture's messages have no calls.
@@ -42,9 +46,6 @@ pub enum Refusal {
 }
 
 impl<T: Drop> From<AllocFailed<T>> for Refusal {
-    ghost use Rattle.std.specs.Prelude.{◌≡◌};
-    ghost use Rattle.fa_audit.specs.declared.calls.Refusal.TheVariants.{Memory};
-
     ghost from_gives = { λ _ e. e ≡ Memory };
 
     fn from(_: AllocFailed<T>) -> Refusal {
@@ -54,34 +55,38 @@ impl<T: Drop> From<AllocFailed<T>> for Refusal {
 
 /// The tree requests of messages that all pass.
 ///
+/// # Errors
+///
+/// - [`Refusal::Fault`] at the first message that does not pass.
+/// - [`Refusal::Memory`] where memory was refused.
+///
 /// # Cost
 ///
-/// One pass, in time linear in the messages and the bytes of their names. Memory for one [`Call`] an answered tree
-/// request, which grows by doubling.
+/// One pass. At each message time linear in its bytes, and at an answer also in the tree requests that wait. Memory for
+/// the outstanding requests, for one [`Call`] an answered tree request and for the number of one that waits, which
+/// grows by doubling.
 pub fn calls_of<'a>(alloc: Global, packets: &[Packet<'a>]) -> Result<Calls<'a>, Refusal>
     requires { length packets.now ≤ MAX_MESSAGES }
-    ensures passes { IfOk result (λ calls. EachPasses (messages packets.now) (length packets.now)) }
-    ensures calls { IfOk result (λ calls. AreCalls (messages packets.now) calls.answered.items calls.unanswered) }
+    ensures passes { OnOk result (EachPasses (messages packets.now) (length packets.now)) }
+    ensures calls { IfOk result (λ calls. AreCalls (messages packets.now) calls.answered.items calls.unanswered.items) }
     ensures fault { IsRefusal (messages packets.now) result }
 {
-    let mut session = Session::new();
-    let mut answered = Vec::new(alloc);
-    for packet in packets {
-        let event = match session.accept(packet) {
+    // A message is one request at most, so one that waits was not answered.
+    fa_bodies::laws::request_is_one();
+    let mut session = Session::new(alloc);
+    let mut calls = Calls::new(alloc);
+    for (at, packet) in packets.iter().enumerate() {
+        let event = match accept(&mut session, packet) {
             Ok(event) => event,
-            Err(code) => {
-                let at = session.messages;
+            Err(SessionError::Refused(code)) => {
+                let at = at as u32;
                 return Err(Refusal::Fault { at, code });
             }
+            Err(SessionError::Memory) => return Err(Refusal::Memory),
         };
-        if let Some(call) = call_in(&event) {
-            answered.push(call)?;
-        }
+        calls.take(&event)?;
     }
-    Ok(Calls {
-        answered,
-        unanswered: unanswered_in(&session),
-    })
+    Ok(calls)
 }
 
 /// Whether a request acts on the tree: a LOOKUP, and none of another operation yet.
@@ -91,25 +96,57 @@ fn acts_on_tree(body: &RequestBody<'_>) -> bool
     matches!(body, RequestBody::Lookup { .. })
 }
 
-/// The call that an event ends, if it is the answer of a tree request.
-fn call_in<'a>(event: &Event<'a>) -> Option<Call<'a>>
-    ensures { CallIn event.now result }
+/// Removes a number.
+fn remove(numbers: &mut Vec<u32>, gone: u32)
+    ensures { numbers.new.items ≡ filter (λ n. not (n == gone)) numbers.old.items }
 {
-    match event {
-        Event::Answered { asked, reply } if acts_on_tree(&asked.request.body) => Some(Call {
-            at: asked.at,
-            reply: *reply,
-        }),
-        _ => None,
-    }
+    numbers.retain(|n| *n != gone);
 }
 
-/// The number of the tree request that waits for its answer.
-fn unanswered_in(session: &Session<'_>) -> Option<u32>
-    ensures { UnansweredIn session.now result }
-{
-    match session.waiting {
-        Some(waiting) if acts_on_tree(&waiting.request.body) => Some(waiting.at),
-        _ => None,
+impl<'a> Calls<'a> {
+    /// Those of no messages.
+    fn new(alloc: Global) -> Self
+        ensures { AreSoFar [] result.answered.items result.unanswered.items }
+    {
+        Calls {
+            answered: Vec::new(alloc),
+            unanswered: Vec::new(alloc),
+        }
+    }
+
+    /// Takes what the next message is: a tree request waits, until its answer makes it a call.
+    fn take(&mut self, event: &Event<'a>) -> Result<(), Refusal>
+        ensures taken { OnOk result ((c : List Message) (m : Message) → AreSoFar c self.old.answered.items self.old.unanswered.items → Passes c m → IsEvent c m (event_shown event.now) → AreSoFar (c ++ m ∷ []) self.new.answered.items self.new.unanswered.items) }
+        ensures memory { IfErr result (λ refusal. refusal ≡ Memory) }
+    {
+        // What a message is, and which request it answers, is one.
+        fa_bodies::laws::request_is_one();
+        fa_bodies::laws::reply_head_is_one();
+        fa_session::laws::answers_one();
+        fa_session::laws::answered_once();
+        match event {
+            Event::Asked { at, request } => {
+                if acts_on_tree(&request.body) {
+                    self.unanswered.push(*at)?;
+                }
+            }
+            Event::Answered {
+                at,
+                asked,
+                request,
+                reply,
+            } => {
+                if acts_on_tree(&request.body) {
+                    self.answered.push(Call {
+                        at: *asked,
+                        answered: *at,
+                        reply: *reply,
+                    })?;
+                    remove(&mut self.unanswered, *asked);
+                }
+            }
+            Event::Notice { .. } => {}
+        }
+        Ok(())
     }
 }

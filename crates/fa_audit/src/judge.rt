@@ -9,7 +9,7 @@ ghost use Rattle.fa_audit.specs.declared.order.TheConstants.{MAX_TEXT_BYTES};
 use crate::calls::{Refusal, calls_of};
 use crate::laws;
 use crate::order::read_order;
-use crate::replay::{EntryFault, replay};
+use crate::replay::{EntryFault, ReplayError, replay};
 use crate::verdict::{AuditError, Verdict};
 use fa_capture::read_capture;
 use std::alloc::Global;
@@ -34,13 +34,16 @@ mod tests;
 /// # Errors
 ///
 /// - [`AuditError::OrderText`] exactly where the capture is good and the order text is not in its grammar.
-/// - [`AuditError::Memory`] where memory for the lists of messages, of tree requests or of entries was refused.
+/// - [`AuditError::Memory`] where memory was refused: for the lists of messages, of tree requests or of entries, for the
+///   requests that wait, or for which calls are placed.
 ///
 /// # Cost
 ///
-/// Time linear in the bytes of the capture and of the order, with three passes: over the bytes of the capture, over its
-/// messages, and over the order. Memory for a packet a message, a call an answered tree
-/// request and an entry a line; message bytes are not copied.
+/// Time linear in the bytes of the capture and of the order, and in two products that are small in what a kernel and a
+/// server send: the answers with the tree requests that wait at each, and the entries with the answered tree requests
+/// that lie between an entry's place in the order and that of its answer. The last is at most the entries with all
+/// answered tree requests. Memory for a packet a message, for each outstanding request, for a call and a byte an
+/// answered tree request, for a number an unanswered one and for an entry a line; message bytes are not copied.
 pub fn audit(
     alloc: Global,
     capture: &[u8],
@@ -87,12 +90,15 @@ fn answer(alloc: Global, capture: &[u8], order: &[u8]) -> Result<Verdict, AuditE
         });
     }
     let entries = read_order(alloc, order)?;
-    match replay(&calls, &entries) {
+    match replay(alloc, &calls, &entries) {
         Ok(left) => Ok(Verdict::Legal {
             messages: capture.packets.len() as u32,
             placed: entries.len() as u32,
             left,
         }),
-        Err(EntryFault { entry, at, code }) => Ok(Verdict::NotShown { entry, at, code }),
+        Err(ReplayError::AtFault(EntryFault { entry, at, code })) => {
+            Ok(Verdict::NotShown { entry, at, code })
+        }
+        Err(ReplayError::Memory) => Err(AuditError::Memory),
     }
 }

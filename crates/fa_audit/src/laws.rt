@@ -28,6 +28,7 @@ pub fn one_answer()
     fa_capture::laws::one_reading();
     fa_bodies::laws::request_is_one();
     fa_bodies::laws::reply_is_one();
+    fa_session::laws::answered_once();
 }
 
 /// The limits of a text and of an input, as numbers.

@@ -15,10 +15,10 @@ mod failure;
 mod judge;
 pub mod laws;
 mod line;
+mod messages;
 mod order;
 mod replay;
 mod run;
-mod session;
 mod verdict;
 
 use crate::command_line::CheckPaths;

@@ -1,19 +1,16 @@
 //! The replay: whether an order explains each recorded reply.
 
-ghost use Rattle.std.specs.Prelude.{◌≡◌, ℕ, ◌≤◌, ◌<◌, ◌^◌, List, length, slice_get, vec_len, Option, Some, IfOk, IfErr, OnOk, IsTrue, ◌↔◌, Any};
-ghost use Rattle.fa_capture.specs.Checks.{AllHold, FirstFailure};
+ghost use Rattle.std.specs.Prelude.{◌≡◌, ◌<◌, ◌≤◌, ◌^◌, ◌==◌, ◌↔◌, true, not, ℕ, List, length, position, set, Contains, IsTrue, IfOk, IfErr, IfSome, IfNone, OnOk};
 ghost use Rattle.fa_capture.specs.Message.{Message};
 ghost use Rattle.fa_bodies.specs.Replies.{reply_shown};
-ghost use Rattle.fa_audit.specs.Faults.{EachPasses};
-ghost use Rattle.fa_audit.specs.Tree.{empty_root};
-ghost use Rattle.fa_audit.specs.Replay.{IsOrderAtFault};
 ghost use Rattle.fa_audit.specs.Calls.{asked_at};
-ghost use Rattle.fa_audit.specs.Placed.{IsUncaused, StepAllows, StepRefuses, AreReplayed, FailsAfter, IsNext, IsPlaced, IsExplained};
+ghost use Rattle.fa_audit.specs.Placed.{IsUncaused, StepAllows, StepRefuses, IsFront, IsNonePlaced, AreReplayed, IsCallAt, IsEarly, FailsAfter, IsNext, IsLesser, IsLeastLeft, IsExplained, IsUnexplained};
 
 use crate::calls::{Call, Calls};
 use crate::order::Entry;
 use fa_bodies::Reply;
 use fa_capture::codes;
+use std::alloc::{AllocError, Global};
 
 #[cfg(test)]
 mod tests;
@@ -37,6 +34,26 @@ pub struct EntryFault {
     pub code: u16,
 }
 
+/// Why an order does not explain the replies.
+#[derive(Clone, Copy, Debug, PartialEq, Eq)]
+pub enum ReplayError {
+    /// An entry is at fault, or an answered request is left out.
+    AtFault(EntryFault),
+    /// Memory was refused.
+    Memory,
+}
+
+impl From<AllocError> for ReplayError {
+    ghost use Rattle.std.specs.Prelude.{◌≡◌};
+    ghost use Rattle.fa_audit.specs.declared.replay.ReplayError.TheVariants.{Memory};
+
+    ghost from_gives = { λ _ e. e ≡ Memory };
+
+    fn from(_: AllocError) -> ReplayError {
+        ReplayError::Memory
+    }
+}
+
 /// Whether an error needs a cause that an empty root does not give to a LOOKUP on it. ENOENT has its cause there: no
 /// name is there.
 fn lacks_cause(error: i32) -> bool
@@ -58,96 +75,203 @@ fn check_step(reply: &Reply<'_>) -> Result<(), u16>
     }
 }
 
-/// Whether one of the calls has this message number.
-fn is_among(calls: &[Call<'_>], at: u32) -> bool
-    ensures { IsTrue result ↔ Any (λ call. call.at ≡ at) calls.now }
-{
-    calls.iter().any(|call| call.at == at)
-}
-
-/// The answered call at this place.
-fn call_at<'a>(calls: &Calls<'a>, place: usize) -> Option<Call<'a>>
-    ensures { result ≡ slice_get calls.now.answered.items place }
-{
-    calls.answered.get(place).copied()
-}
-
-/// Whether the request that was not answered has this message number.
+/// Whether a tree request has this message number that was not answered.
 fn is_unanswered(calls: &Calls<'_>, at: u32) -> bool
-    ensures { IsTrue result ↔ (calls.now.unanswered ≡ Some at) }
+    ensures { IsTrue result ↔ Contains calls.now.unanswered.items at }
 {
-    calls.unanswered == Some(at)
+    calls.unanswered.contains(&at)
 }
 
-/// The code of an entry that is not the next call, after the first `count` calls were placed.
-fn misplaced(calls: &Calls<'_>, count: usize, entry: Entry) -> u16
-    requires within { count ≤ vec_len calls.now.answered }
-    requires apart { IsNext calls.now.answered.items count entry.at → ⊥ }
-    ensures { FailsAfter calls.now.answered.items calls.now.unanswered count entry result }
+/// The place of the first of the calls that has this message number.
+fn first_place(calls: &[Call<'_>], at: u32) -> Option<usize>
+    ensures { result ≡ position (λ call. call.at == at) calls.now }
 {
-    let (placed, left) = calls.answered.split_at(count);
-    if is_among(placed, entry.at) {
-        return codes::PLACED_TWICE;
-    }
-    if is_among(left, entry.at) {
-        return codes::EARLIER_NOT_PLACED;
-    }
-    if !is_unanswered(calls, entry.at) {
-        return codes::NO_TREE_REQUEST;
-    }
-    if left.is_empty() {
-        codes::CHOICE_NOT_ALLOWED
-    } else {
-        codes::EARLIER_NOT_PLACED
+    calls.iter().position(|call| call.at == at)
+}
+
+/// The place of the call that has this message number, which is looked for from `front` on first.
+fn place_of(calls: &[Call<'_>], front: usize, at: u32) -> Option<usize>
+    requires { front ≤ length calls.now }
+    ensures found { IfSome result (λ place. IsCallAt calls.now place at) }
+    ensures none { IfNone result (Contains (asked_at calls.now) at → ⊥) }
+{
+    let (placed, rest) = calls.split_at(front);
+    match first_place(rest, at) {
+        Some(place) => Some(front + place),
+        None => first_place(placed, at),
     }
 }
 
-/// Looks whether an entry may come after the first `count` calls. The error is the code of the first check that it
-/// fails.
-fn check_entry(calls: &Calls<'_>, count: usize, entry: Entry) -> Result<(), u16>
-    requires { count ≤ vec_len calls.now.answered }
-    ensures placed { OnOk result (IsPlaced calls.now.answered.items count entry) }
-    ensures fault { IfErr result (FailsAfter calls.now.answered.items calls.now.unanswered count entry) }
+/// The place of the first call that is not placed.
+fn first_open(placed: &[bool]) -> Option<usize>
+    ensures { result ≡ position not placed.now }
 {
-    match call_at(calls, count) {
-        Some(call) if call.at == entry.at => {
-            if entry.wrote.is_some() {
-                return Err(codes::CHOICE_NOT_ALLOWED);
-            }
-            check_step(&call.reply)
+    placed.iter().position(|is_placed| !*is_placed)
+}
+
+/// How many calls at the beginning are all placed.
+fn front_of(placed: &[bool]) -> usize
+    ensures { IsFront placed.now result }
+{
+    match first_open(placed) {
+        Some(place) => place,
+        None => placed.len(),
+    }
+}
+
+/// The least message number of a call that is not placed.
+fn least_left(calls: &[Call<'_>], placed: &[bool]) -> Option<u32>
+    requires { length placed.now ≡ length calls.now }
+    ensures { IsLeastLeft calls.now placed.now result }
+{
+    let mut least = None;
+    for (place, call) in calls.iter().enumerate() {
+        if !placed[place] {
+            least = Some(lesser(least, call.at));
         }
-        _ => Err(misplaced(calls, count, entry)),
+    }
+    least
+}
+
+/// The lesser of a number, if there is one, and another.
+fn lesser(least: Option<u32>, at: u32) -> u32
+    ensures { IsLesser least at result }
+{
+    match least {
+        Some(other) => other.min(at),
+        None => at,
+    }
+}
+
+/// Which of the answered calls are placed.
+#[derive(Debug, Drop)]
+struct Placed {
+    /// For each call whether it is placed.
+    calls: Vec<bool>,
+    /// How many calls at the beginning are all placed.
+    front: usize,
+}
+
+impl Placed {
+    /// None of so many calls.
+    fn none(alloc: Global, count: usize) -> Result<Self, AllocError>
+        ensures none { IfOk result (λ placed. IsNonePlaced count placed.calls.items) }
+        ensures front { IfOk result (λ placed. placed.front ≡ 0) }
+    {
+        Ok(Placed {
+            calls: vec![in alloc; false; count]?,
+            front: 0,
+        })
+    }
+
+    /// Whether a call that is not placed was answered before this message: the first of them was, if any.
+    fn leaves_earlier(&self, calls: &Calls<'_>, at: u32) -> bool
+        ensures { IsTrue result ↔ IsEarly calls.now.answered.items self.now.front at }
+    {
+        match calls.answered.get(self.front) {
+            Some(call) => call.answered < at,
+            None => false,
+        }
+    }
+
+    /// The code of an entry for a message that is no answered tree request. One that is not answered only reads, so it
+    /// can't be placed.
+    fn unanswered_code(&self, calls: &Calls<'_>, entry: Entry) -> u16
+        requires front { IsFront self.now.calls.items self.now.front }
+        requires not_answered { Contains (asked_at calls.now.answered.items) entry.at → ⊥ }
+        ensures { FailsAfter calls.now.answered.items calls.now.unanswered.items self.now.calls.items entry result }
+    {
+        // A request is answered by one message at most.
+        fa_session::laws::answered_once();
+        if !is_unanswered(calls, entry.at) {
+            codes::NO_TREE_REQUEST
+        } else if self.leaves_earlier(calls, entry.at) {
+            codes::EARLIER_NOT_PLACED
+        } else {
+            codes::CHOICE_NOT_ALLOWED
+        }
+    }
+
+    /// The place of the call that an entry places next. The error is the code of the first check that the entry fails.
+    fn check(&self, calls: &Calls<'_>, entry: Entry) -> Result<usize, u16>
+        requires sized { length self.now.calls.items ≡ length calls.now.answered.items }
+        requires front { IsFront self.now.calls.items self.now.front }
+        ensures next { IfOk result (IsNext calls.now.answered.items self.now.calls.items self.now.front entry) }
+        ensures fault { IfErr result (FailsAfter calls.now.answered.items calls.now.unanswered.items self.now.calls.items entry) }
+    {
+        // A request is answered by one message at most.
+        fa_session::laws::answered_once();
+        let Some(place) = place_of(&calls.answered, self.front, entry.at) else {
+            return Err(self.unanswered_code(calls, entry));
+        };
+        if self.calls[place] {
+            return Err(codes::PLACED_TWICE);
+        }
+        if self.leaves_earlier(calls, entry.at) {
+            return Err(codes::EARLIER_NOT_PLACED);
+        }
+        if entry.wrote.is_some() {
+            return Err(codes::CHOICE_NOT_ALLOWED);
+        }
+        check_step(&calls.answered[place].reply)?;
+        Ok(place)
+    }
+
+    /// Notes that the call at this place is placed.
+    fn note(&mut self, place: usize)
+        requires within { place < length self.old.calls.items }
+        requires front { IsFront self.old.calls.items self.old.front }
+        ensures noted { self.new.calls.items ≡ set self.old.calls.items place true }
+        ensures front { IsFront self.new.calls.items self.new.front }
+    {
+        self.calls[place] = true;
+        let (_, rest) = self.calls.split_at(self.front);
+        self.front += front_of(rest);
     }
 }
 
 /// Replays an order over the calls of messages that all pass, on a tree that is an empty root: the number of tree
-/// requests that were neither answered nor placed, or the first entry at fault.
+/// requests that were neither answered nor placed.
 ///
-/// One request waits at a time, so an answered request comes next exactly where all those before it were placed.
+/// An answered request may be placed where each one that was answered before it was sent is placed.
+///
+/// # Errors
+///
+/// - [`ReplayError::AtFault`] with the first entry at fault, or after all entries with the least answered request that
+///   they leave out.
+/// - [`ReplayError::Memory`] where memory was refused.
 ///
 /// # Cost
 ///
-/// Takes no memory. One pass over the entries, and at an entry at fault one over the calls.
-pub fn replay(calls: &Calls<'_>, entries: &[Entry]) -> Result<u32, EntryFault>
-    requires { length entries.now < 2 ^ 32 }
-    ensures explained { IfOk result (λ left. (c : List Message) → AreReplayed c calls.now.answered.items calls.now.unanswered → IsExplained c entries.now left) }
-    ensures fault { IfErr result (λ f. (c : List Message) → AreReplayed c calls.now.answered.items calls.now.unanswered → IsOrderAtFault c empty_root entries.now f.entry f.at f.code) }
+/// Memory for a byte a call. Time linear in the calls and the entries where the order is near the order of the answers,
+/// and at most linear in their product.
+pub fn replay(alloc: Global, calls: &Calls<'_>, entries: &[Entry]) -> Result<u32, ReplayError>
+    requires entries { length entries.now < 2 ^ 32 }
+    requires unanswered { length calls.now.unanswered.items < 2 ^ 32 }
+    ensures explained { IfOk result (λ left. (c : List Message) → AreReplayed c calls.now.answered.items calls.now.unanswered.items → IsExplained c entries.now left) }
+    ensures fault { IfErr result (λ error. (c : List Message) → AreReplayed c calls.now.answered.items calls.now.unanswered.items → IsUnexplained c entries.now error) }
 {
+    // A request is answered by one message at most.
+    fa_session::laws::answered_once();
+    let mut placed = Placed::none(alloc, calls.answered.len())?;
     for (count, entry) in entries.iter().enumerate() {
-        if let Err(code) = check_entry(calls, count, *entry) {
-            return Err(EntryFault {
-                entry: count as u32,
-                at: entry.at,
-                code,
-            });
+        match placed.check(calls, *entry) {
+            Ok(place) => placed.note(place),
+            Err(code) => {
+                return Err(ReplayError::AtFault(EntryFault {
+                    entry: count as u32,
+                    at: entry.at,
+                    code,
+                }));
+            }
         }
     }
-    match call_at(calls, entries.len()) {
-        Some(call) => Err(EntryFault {
+    match least_left(&calls.answered, &placed.calls) {
+        Some(at) => Err(ReplayError::AtFault(EntryFault {
             entry: entries.len() as u32,
-            at: call.at,
+            at,
             code: codes::ANSWERED_LEFT_OUT,
-        }),
-        None => Ok(u32::from(calls.unanswered.is_some())),
+        })),
+        None => Ok(calls.unanswered.len() as u32),
     }
 }

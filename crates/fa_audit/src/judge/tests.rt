@@ -15,6 +15,8 @@ use std::alloc::AllocError;
 use std::process::Abort;
 use std::test::Fail;
 
+mod overlaps;
+
 // Error numbers of errno.h, as replies have them.
 
 /// ENOENT.
@@ -544,8 +546,8 @@ fn the_operation_comes_before_the_place_in_the_session(rt: HostRuntime) -> Resul
         .init(2)?
         .request(2, opcodes::GETATTR, ROOT, &body)?;
     assert_eq!(rt; judged(&rt, alloc, sample, b""), fault(1, codes::OPERATION));
-    // Another request waits, and the node is not known.
-    let sample = asked(alloc)?.request(6, opcodes::GETATTR, 9, &body)?;
+    // A request with the same unique waits, and the node is not known.
+    let sample = asked(alloc)?.request(4, opcodes::GETATTR, 9, &body)?;
     assert_eq!(rt; judged(&rt, alloc, sample, b""), fault(3, codes::OPERATION));
     Ok(())
 }
@@ -694,7 +696,7 @@ fn a_request_with_unique_0(rt: HostRuntime) -> Result<(), Fail> {
         judged(&rt, alloc, sample, b""),
         fault(1, codes::UNIQUE_ZERO)
     );
-    // .. and before another request is seen to wait and the node to be unknown.
+    // .. and before the node is seen to be unknown.
     let sample = asked(alloc)?.lookup(0, 9, b"b")?;
     assert_eq!(rt;
         judged(&rt, alloc, sample, b""),
@@ -728,13 +730,19 @@ fn a_session_begins_with_init(rt: HostRuntime) -> Result<(), Fail> {
         judged(&rt, alloc, sample, b""),
         fault(0, codes::FIRST_NOT_INIT)
     );
-    // An error out of range and a notification are refused before.
+    // A notification is no first message either.
+    let sample = Sample::new(alloc)?.error(0, 2)?;
+    assert_eq!(rt;
+        judged(&rt, alloc, sample, b""),
+        fault(0, codes::FIRST_NOT_INIT)
+    );
+    // An error out of range and the number of no notification are refused before.
     let sample = Sample::new(alloc)?.error(2, -1000)?;
     assert_eq!(rt;
         judged(&rt, alloc, sample, b""),
         fault(0, codes::ERROR_VALUE)
     );
-    let sample = Sample::new(alloc)?.error(0, 2)?;
+    let sample = Sample::new(alloc)?.error(0, 5)?;
     assert_eq!(rt;
         judged(&rt, alloc, sample, b""),
         fault(0, codes::NOTIFICATION)
@@ -786,33 +794,32 @@ fn no_request_comes_before_init_was_answered(rt: HostRuntime) -> Result<(), Fail
 }
 
 #[test]
-fn a_request_while_another_waits(rt: HostRuntime) -> Result<(), Fail> {
+fn a_unique_that_waits_is_in_use(rt: HostRuntime) -> Result<(), Fail> {
     let alloc = rt.alloc();
-    for unique in [4, 6] {
-        // An unknown node is told later.
-        for node in [ROOT, 9] {
-            let sample = asked(alloc)?.lookup(unique, node, b"b")?;
-            assert_eq!(rt;
-                judged(&rt, alloc, sample, b""),
-                fault(3, codes::UNIQUE_IN_USE)
-            );
-        }
+    // An unknown node is told later.
+    for node in [ROOT, 9] {
+        let sample = asked(alloc)?.lookup(4, node, b"b")?;
+        assert_eq!(rt;
+            judged(&rt, alloc, sample, b""),
+            fault(3, codes::UNIQUE_IN_USE)
+        );
     }
     // The replies that follow do not make up for it.
     let sample = asked(alloc)?
-        .lookup(6, ROOT, b"b")?
-        .error(6, NO_SUCH_NAME)?
+        .lookup(4, ROOT, b"b")?
+        .error(4, NO_SUCH_NAME)?
         .error(4, NO_SUCH_NAME)?;
     assert_eq!(rt;
         judged(&rt, alloc, sample, b"2\n3\n"),
         fault(3, codes::UNIQUE_IN_USE)
     );
-    // The request before it was answered.
-    let sample = refused(alloc, NO_SUCH_NAME)?
+    // Another request was answered since.
+    let sample = asked(alloc)?
         .lookup(6, ROOT, b"b")?
-        .lookup(8, ROOT, b"c")?;
+        .error(6, NO_SUCH_NAME)?
+        .lookup(4, ROOT, b"c")?;
     assert_eq!(rt;
-        judged(&rt, alloc, sample, b"2\n"),
+        judged(&rt, alloc, sample, b"3\n"),
         fault(5, codes::UNIQUE_IN_USE)
     );
     Ok(())
@@ -901,10 +908,42 @@ fn an_error_value_out_of_range(rt: HostRuntime) -> Result<(), Fail> {
 }
 
 #[test]
-fn a_notification_is_a_fault(rt: HostRuntime) -> Result<(), Fail> {
+fn notifications(rt: HostRuntime) -> Result<(), Fail> {
     let alloc = rt.alloc();
-    // Whatever its number is, among them numbers that are no error of a reply.
-    for number in [0, 1, 2, 5, 6, -2, -1000, i32::MAX] {
+    // They answer nothing, so the request at 2 still waits.
+    for number in [1, 2, 3, 4, 6] {
+        let sample = opened(alloc)?.error(0, number)?;
+        assert_eq!(rt;
+            judged(&rt, alloc, sample, b""),
+            legal(3, 0, 0),
+            "notification {number}"
+        );
+        let sample = asked(alloc)?
+            .reply(0, number, b"x")?
+            .error(4, NO_SUCH_NAME)?;
+        assert_eq!(rt;
+            judged(&rt, alloc, sample, b"2\n"),
+            legal(5, 1, 0),
+            "notification {number}"
+        );
+    }
+    // Before INIT was answered.
+    let sample = Sample::new(alloc)?.init(2)?.error(0, 2)?;
+    assert_eq!(rt; judged(&rt, alloc, sample, b""), legal(2, 0, 0));
+    // No entry names one.
+    let sample = opened(alloc)?.error(0, 2)?;
+    assert_eq!(rt;
+        judged(&rt, alloc, sample, b"2\n"),
+        not_shown(0, 2, codes::NO_TREE_REQUEST)
+    );
+    Ok(())
+}
+
+#[test]
+fn a_number_of_no_notification(rt: HostRuntime) -> Result<(), Fail> {
+    let alloc = rt.alloc();
+    // RETRIEVE is 5 and left out here; the others are none of fuse.h, though some are errors of a reply.
+    for number in [0, 5, 7, -2, -1000, i32::MAX] {
         let sample = opened(alloc)?.error(0, number)?;
         assert_eq!(rt;
             judged(&rt, alloc, sample, b""),
@@ -919,12 +958,6 @@ fn a_notification_is_a_fault(rt: HostRuntime) -> Result<(), Fail> {
             "notification {number}"
         );
     }
-    // Before INIT was answered.
-    let sample = Sample::new(alloc)?.init(2)?.error(0, 2)?;
-    assert_eq!(rt;
-        judged(&rt, alloc, sample, b""),
-        fault(1, codes::NOTIFICATION)
-    );
     // A message shorter than its header is no notification.
     let sample = opened(alloc)?.raw(Direction::FromServer, &[0; 15])?;
     assert_eq!(rt;
