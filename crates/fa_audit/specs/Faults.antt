@@ -9,8 +9,8 @@ use Rattle.fa_audit.specs.Operations.{operation_checks}
 use Rattle.fa_audit.specs.Nodes.{node_checks}
 
 -- The checks of a message after these messages, in their order: that of its operation, those of the message grammar and
--- of the session, and that of its nodes. The check of the operation speaks only of a message that is read as a request,
--- so it comes behind those of a request's grammar. The direction alone says how a message is read.
+-- of the session, and that of its nodes. The first holds of whatever is not read as a request, so a request's grammar is
+-- told before it, and it before all rules of a session. The direction alone says how a message is read.
 abbrev pub message_checks : List Message → Message → List (ℕ × Type 0)
 message_checks before m = operation_checks m ++ session_checks before m ++ node_checks before m
 

@@ -62,7 +62,8 @@ impl<T: Drop> From<AllocFailed<T>> for Refusal {
 ///
 /// # Cost
 ///
-/// One pass. At each message time linear in its bytes, and at an answer also in the tree requests that wait. Memory for
+/// One pass. At each message expected time linear in its bytes, as of [`Session::accept`], and at an answer also in the
+/// tree requests that wait. Memory for
 /// the outstanding requests, for one [`Call`] an answered tree request and for the number of one that waits, which
 /// grows by doubling.
 pub fn calls_of<'a>(alloc: Global, packets: &[Packet<'a>]) -> Result<Calls<'a>, Refusal>
@@ -114,7 +115,8 @@ impl<'a> Calls<'a> {
         }
     }
 
-    /// Takes what the next message is: a tree request waits, until its answer makes it a call.
+    /// Takes what the next message is: a tree request waits, until its answer makes it a call. After want of memory the
+    /// calls are of no use any more.
     fn take(&mut self, event: &Event<'a>) -> Result<(), Refusal>
         ensures taken { OnOk result ((c : List Message) (m : Message) → AreSoFar c self.old.answered.items self.old.unanswered.items → Passes c m → IsEvent c m (event_shown event.now) → AreSoFar (c ++ m ∷ []) self.new.answered.items self.new.unanswered.items) }
         ensures memory { IfErr result (λ refusal. refusal ≡ Memory) }

@@ -19,14 +19,14 @@ mod tests;
 
 /// Judges a capture and an order.
 ///
-/// The capture is judged message by message, by the message grammar of fuse.h 7.31 and this profile's rules of a session
-/// and of node ids. Then the order text is read, in this profile's format, and its entries are replayed on a tree that
+/// The capture is judged message by message, by the message grammar of fuse.h 7.31, the operations that are judged so
+/// far, and this profile's rules of a session and of node ids. Then the order text is read, in this profile's format, and its entries are replayed on a tree that
 /// is an empty root with the permission bits 755 (octal), by steps modelled on POSIX.1-2017. No tree text can be handed
 /// in yet: `tree` is None. The order text has at most 268,435,456 bytes.
 ///
 /// - [`Verdict::Fault`] exactly where the capture is not good: at the least number of a message that does not pass or
 ///   of the framing fault, with the first check that it fails, as one of [`codes`](fa_capture::codes).
-/// - [`Verdict::NotShown`] where the capture is good and the order text is in its grammar, at the first entry that fails
+/// - [`Verdict::NotShown`] exactly where the capture is good and the order text is in its grammar, at the first entry that fails
 ///   a check, with the first such check, or after all entries at the least answered request that they leave out.
 /// - [`Verdict::Legal`] exactly where the capture is good, the order text is in its grammar and its entries are a valid
 ///   order and a run of the tree machine that gives each recorded reply.
@@ -39,10 +39,9 @@ mod tests;
 ///
 /// # Cost
 ///
-/// Time linear in the bytes of the capture and of the order, and in two products that are small in what a kernel and a
-/// server send: the answers with the tree requests that wait at each, and the entries with the answered tree requests
-/// that lie between an entry's place in the order and that of its answer. The last is at most the entries with all
-/// answered tree requests. Memory for a packet a message, for each outstanding request, for a call and a byte an
+/// Expected time, as of [`Session::accept`](fa_session::Session::accept), linear in the bytes of the capture and of the
+/// order, and in two sums: of the tree requests that wait at each answer, and of the answers that come while each
+/// entry's request waits. Where many requests wait at once these are quadratic at most. Memory for a packet a message, for each outstanding request, for a call and a byte an
 /// answered tree request, for a number an unanswered one and for an entry a line; message bytes are not copied.
 pub fn audit(
     alloc: Global,

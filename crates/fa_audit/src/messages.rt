@@ -1,4 +1,4 @@
-//! The messages of a capture, one after the other: the session's rules, and those that stand beside it.
+//! The messages of a capture, one after the other: the session's rules, and those of operations and of nodes.
 
 ghost use Rattle.std.specs.Prelude.{◌≡◌, ◌<◌, ◌∷◌, ◌++◌, List, [], OnOk, IfOk, IfErr, IsTrue, ◌↔◌};
 ghost use Rattle.fa_capture.specs.Checks.{AllHold, FirstFailure};
@@ -21,6 +21,8 @@ use fa_session::{Event, Session, SessionError};
 const ROOT_NODE: u64 = 1;
 
 /// Takes the next message into the session, if it passes: what it is.
+///
+/// After an error the session may have taken the message, and is of no use any more.
 ///
 /// # Errors
 ///

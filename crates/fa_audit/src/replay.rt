@@ -243,8 +243,8 @@ impl Placed {
 ///
 /// # Cost
 ///
-/// Memory for a byte a call. Time linear in the calls and the entries where the order is near the order of the answers,
-/// and at most linear in their product.
+/// Memory for a byte a call. Time linear in the calls and the entries, and in the calls that are answered while each
+/// entry's request waits: so at most in the product of entries and calls, where many requests wait at once.
 pub fn replay(alloc: Global, calls: &Calls<'_>, entries: &[Entry]) -> Result<u32, ReplayError>
     requires entries { length entries.now < 2 ^ 32 }
     requires unanswered { length calls.now.unanswered.items < 2 ^ 32 }
