@@ -1,6 +1,7 @@
 //! Captures for tests, from short calls. No part of the product rests on this module.
 //!
-//! Each call of a [`Sample`] adds one message. Whatever a call does not name is 0, but for these:
+//! Each call of a [`Sample`] adds one message. Memory that is refused to a call is told by
+//! [`Sample::capture`] at the end. Whatever a call does not name is 0, but for these:
 //! the lengths of records and headers, the size of a WRITE, the count of a BATCH_FORGET and the
 //! length of a name in a listing are those of what is written; INIT has version 7.31 in both
 //! messages, and its answer has 64 bytes of body; CREATE has the flags 0x42, which are O_RDWR and
@@ -8,12 +9,12 @@
 //! and the umask 022. The capture of one LOOKUP that is refused with ENOENT, 222 bytes:
 //!
 //! ```
-//! let bytes = Sample::new(alloc)?
-//!     .init(2)?
-//!     .init_answer(2)?
-//!     .lookup(4, 1, b"a")?
-//!     .error(4, -2)?
-//!     .capture();
+//! let bytes = Sample::new(alloc)
+//!     .init(2)
+//!     .init_answer(2)
+//!     .lookup(4, 1, b"a")
+//!     .error(4, -2)
+//!     .capture()?;
 //! ```
 //!
 //! The first line of a call's comment spells its message in short: `>` is a request and `<` a reply,
@@ -70,115 +71,122 @@ pub struct Listed<'a> {
 #[derive(Drop)]
 pub struct Sample {
     alloc: Global,
-    bytes: Vec<u8>,
+    /// The bytes so far, unless memory was refused to a call.
+    bytes: Result<Vec<u8>, AllocError>,
 }
 
 impl Sample {
     /// A capture with no message.
-    pub fn new(alloc: Global) -> Result<Sample, AllocError> {
-        Ok(Sample {
+    pub fn new(alloc: Global) -> Sample {
+        Sample {
             alloc,
-            bytes: Vec::from_slice(alloc, b"FUSECAP1")?,
-        })
+            bytes: Vec::from_slice(alloc, b"FUSECAP1"),
+        }
     }
 
     /// The bytes of the capture.
-    pub fn capture(self) -> Vec<u8> {
+    ///
+    /// # Errors
+    ///
+    /// [`AllocError`] where memory was refused to any call of this sample.
+    pub fn capture(self) -> Result<Vec<u8>, AllocError> {
         self.bytes
     }
 
     /// Adds a message with these bytes.
-    pub fn raw(mut self, direction: Direction, message: &[u8]) -> Result<Sample, AllocError> {
-        self.bytes.push(match direction {
-            Direction::ToServer => 0,
-            Direction::FromServer => 1,
-        })?;
-        put(&mut self.bytes, &[U32(len_of(message)), Bytes(message)])?;
-        Ok(self)
+    pub fn raw(mut self, direction: Direction, message: &[u8]) -> Sample {
+        self.bytes = self
+            .bytes
+            .and_then(|bytes| with_record(bytes, direction, message));
+        self
+    }
+
+    /// Adds a message, where there was memory for it.
+    fn message(mut self, direction: Direction, message: Result<Vec<u8>, AllocError>) -> Sample {
+        self.bytes = self
+            .bytes
+            .and_then(|bytes| with_record(bytes, direction, &message?));
+        self
     }
 
     /// Adds a request: `> uU OPCODE N` with this body.
-    pub fn request(
+    pub fn request(self, unique: u64, opcode: u32, node: u64, body: &[u8]) -> Sample {
+        let message = request_bytes(self.alloc, unique, opcode, node, body);
+        self.message(Direction::ToServer, message)
+    }
+
+    /// Adds a request with this body, where there was memory for it.
+    fn request_with(
         self,
         unique: u64,
         opcode: u32,
         node: u64,
-        body: &[u8],
-    ) -> Result<Sample, AllocError> {
-        let message = request_bytes(self.alloc, unique, opcode, node, body)?;
-        self.raw(Direction::ToServer, &message)
+        body: Result<Vec<u8>, AllocError>,
+    ) -> Sample {
+        let alloc = self.alloc;
+        let message = body.and_then(|body| request_bytes(alloc, unique, opcode, node, &body));
+        self.message(Direction::ToServer, message)
     }
 
     /// Adds a request: `> uU OPCODE N` with a body of these fields.
-    pub fn request_of(
-        self,
-        unique: u64,
-        opcode: u32,
-        node: u64,
-        fields: &[Field<'_>],
-    ) -> Result<Sample, AllocError> {
-        let body = spelled(self.alloc, fields)?;
-        self.request(unique, opcode, node, &body)
+    pub fn request_of(self, unique: u64, opcode: u32, node: u64, fields: &[Field<'_>]) -> Sample {
+        let body = spelled(self.alloc, fields);
+        self.request_with(unique, opcode, node, body)
     }
 
     /// Adds a message from the server: `< uU` with this error and body.
-    pub fn reply(self, unique: u64, error: i32, body: &[u8]) -> Result<Sample, AllocError> {
-        let message = reply_bytes(self.alloc, unique, error, body)?;
-        self.raw(Direction::FromServer, &message)
+    pub fn reply(self, unique: u64, error: i32, body: &[u8]) -> Sample {
+        let message = reply_bytes(self.alloc, unique, error, body);
+        self.message(Direction::FromServer, message)
+    }
+
+    /// Adds a success with this body, where there was memory for it.
+    fn success_with(self, unique: u64, body: Result<Vec<u8>, AllocError>) -> Sample {
+        let alloc = self.alloc;
+        let message = body.and_then(|body| reply_bytes(alloc, unique, 0, &body));
+        self.message(Direction::FromServer, message)
     }
 
     /// Adds a success: `< uU` with a body of these fields.
-    pub fn success_of(self, unique: u64, fields: &[Field<'_>]) -> Result<Sample, AllocError> {
-        let body = spelled(self.alloc, fields)?;
-        self.reply(unique, 0, &body)
+    pub fn success_of(self, unique: u64, fields: &[Field<'_>]) -> Sample {
+        let body = spelled(self.alloc, fields);
+        self.success_with(unique, body)
     }
 
     /// `> uU INIT` of version 7.31 without flags.
-    pub fn init(self, unique: u64) -> Result<Sample, AllocError> {
+    pub fn init(self, unique: u64) -> Sample {
         self.init_with(unique, 7, 31, InitFlags::empty())
     }
 
     /// `> uU INIT major J minor M flags F`
-    pub fn init_with(
-        self,
-        unique: u64,
-        major: u32,
-        minor: u32,
-        flags: InitFlags,
-    ) -> Result<Sample, AllocError> {
-        let body = init_bytes(self.alloc, major, minor, flags, 16)?;
-        self.request(unique, opcodes::INIT, 0, &body)
+    pub fn init_with(self, unique: u64, major: u32, minor: u32, flags: InitFlags) -> Sample {
+        let body = init_bytes(self.alloc, major, minor, flags, 16);
+        self.request_with(unique, opcodes::INIT, 0, body)
     }
 
     /// `> uU LOOKUP N name`
-    pub fn lookup(self, unique: u64, node: u64, name: &[u8]) -> Result<Sample, AllocError> {
+    pub fn lookup(self, unique: u64, node: u64, name: &[u8]) -> Sample {
         self.request_of(unique, opcodes::LOOKUP, node, &[Name(name)])
     }
 
     /// `> uU FORGET N nlookup L`
-    pub fn forget(self, unique: u64, node: u64, nlookup: u64) -> Result<Sample, AllocError> {
+    pub fn forget(self, unique: u64, node: u64, nlookup: u64) -> Sample {
         self.request_of(unique, opcodes::FORGET, node, &[U64(nlookup)])
     }
 
     /// `> uU BATCH_FORGET 0` with these items, each a node id and how many lookups it loses.
-    pub fn batch_forget(self, unique: u64, items: &[(u64, u64)]) -> Result<Sample, AllocError> {
-        let body = batch_forget_bytes(self.alloc, items)?;
-        self.request(unique, opcodes::BATCH_FORGET, 0, &body)
+    pub fn batch_forget(self, unique: u64, items: &[(u64, u64)]) -> Sample {
+        let body = batch_forget_bytes(self.alloc, items);
+        self.request_with(unique, opcodes::BATCH_FORGET, 0, body)
     }
 
     /// `> uU GETATTR N`
-    pub fn getattr(self, unique: u64, node: u64) -> Result<Sample, AllocError> {
+    pub fn getattr(self, unique: u64, node: u64) -> Sample {
         self.getattr_with(unique, node, GetattrFlags::empty(), 0)
     }
 
     /// `> uU GETATTR N flags F fh H`
-    pub fn getattr_with(
-        self,
-        unique: u64,
-        node: u64,
-        flags: GetattrFlags,
-        fh: u64,
-    ) -> Result<Sample, AllocError> {
+    pub fn getattr_with(self, unique: u64, node: u64, flags: GetattrFlags, fh: u64) -> Sample {
         self.request_of(
             unique,
             opcodes::GETATTR,
@@ -188,7 +196,7 @@ impl Sample {
     }
 
     /// `> uU SETATTR N size S`, of which the size alone counts.
-    pub fn setattr_size(self, unique: u64, node: u64, size: u64) -> Result<Sample, AllocError> {
+    pub fn setattr_size(self, unique: u64, node: u64, size: u64) -> Sample {
         let wanted = SetattrIn {
             valid: FattrFlags::SIZE,
             size,
@@ -198,35 +206,23 @@ impl Sample {
     }
 
     /// `> uU SETATTR N` with these attributes.
-    pub fn setattr(self, unique: u64, node: u64, wanted: &SetattrIn) -> Result<Sample, AllocError> {
-        let body = setattr_bytes(self.alloc, wanted)?;
-        self.request(unique, opcodes::SETATTR, node, &body)
+    pub fn setattr(self, unique: u64, node: u64, wanted: &SetattrIn) -> Sample {
+        let body = setattr_bytes(self.alloc, wanted);
+        self.request_with(unique, opcodes::SETATTR, node, body)
     }
 
     /// `> uU READLINK N`
-    pub fn readlink(self, unique: u64, node: u64) -> Result<Sample, AllocError> {
+    pub fn readlink(self, unique: u64, node: u64) -> Sample {
         self.request(unique, opcodes::READLINK, node, &[])
     }
 
     /// `> uU SYMLINK N name target`
-    pub fn symlink(
-        self,
-        unique: u64,
-        node: u64,
-        name: &[u8],
-        target: &[u8],
-    ) -> Result<Sample, AllocError> {
+    pub fn symlink(self, unique: u64, node: u64, name: &[u8], target: &[u8]) -> Sample {
         self.request_of(unique, opcodes::SYMLINK, node, &[Name(name), Name(target)])
     }
 
     /// `> uU MKNOD N name T B`. `mode` is the type and the bits, as `FIFO | 0o644`.
-    pub fn mknod(
-        self,
-        unique: u64,
-        node: u64,
-        mode: u32,
-        name: &[u8],
-    ) -> Result<Sample, AllocError> {
+    pub fn mknod(self, unique: u64, node: u64, mode: u32, name: &[u8]) -> Sample {
         self.request_of(
             unique,
             opcodes::MKNOD,
@@ -236,7 +232,7 @@ impl Sample {
     }
 
     /// `> uU MKDIR N name`
-    pub fn mkdir(self, unique: u64, node: u64, name: &[u8]) -> Result<Sample, AllocError> {
+    pub fn mkdir(self, unique: u64, node: u64, name: &[u8]) -> Sample {
         self.request_of(
             unique,
             opcodes::MKDIR,
@@ -246,7 +242,7 @@ impl Sample {
     }
 
     /// `> uU CREATE N name`
-    pub fn create(self, unique: u64, node: u64, name: &[u8]) -> Result<Sample, AllocError> {
+    pub fn create(self, unique: u64, node: u64, name: &[u8]) -> Sample {
         let flags = OpenFlags::from_bits_retain(0x42);
         self.create_with(unique, node, flags, REG | 0o644, name)
     }
@@ -259,7 +255,7 @@ impl Sample {
         flags: OpenFlags,
         mode: u32,
         name: &[u8],
-    ) -> Result<Sample, AllocError> {
+    ) -> Sample {
         self.request_of(
             unique,
             opcodes::CREATE,
@@ -275,12 +271,12 @@ impl Sample {
     }
 
     /// `> uU UNLINK N name`
-    pub fn unlink(self, unique: u64, node: u64, name: &[u8]) -> Result<Sample, AllocError> {
+    pub fn unlink(self, unique: u64, node: u64, name: &[u8]) -> Sample {
         self.request_of(unique, opcodes::UNLINK, node, &[Name(name)])
     }
 
     /// `> uU RMDIR N name`
-    pub fn rmdir(self, unique: u64, node: u64, name: &[u8]) -> Result<Sample, AllocError> {
+    pub fn rmdir(self, unique: u64, node: u64, name: &[u8]) -> Sample {
         self.request_of(unique, opcodes::RMDIR, node, &[Name(name)])
     }
 
@@ -292,7 +288,7 @@ impl Sample {
         old_name: &'a [u8],
         newdir: u64,
         new_name: &'a [u8],
-    ) -> Result<Sample, AllocError> {
+    ) -> Sample {
         self.request_of(
             unique,
             opcodes::RENAME,
@@ -302,13 +298,7 @@ impl Sample {
     }
 
     /// `> uU LINK N name oldnodeid M`: the file of M gets this name in the directory N.
-    pub fn link(
-        self,
-        unique: u64,
-        node: u64,
-        new_name: &[u8],
-        oldnodeid: u64,
-    ) -> Result<Sample, AllocError> {
+    pub fn link(self, unique: u64, node: u64, new_name: &[u8], oldnodeid: u64) -> Sample {
         self.request_of(
             unique,
             opcodes::LINK,
@@ -318,53 +308,32 @@ impl Sample {
     }
 
     /// `> uU OPEN N`
-    pub fn open(self, unique: u64, node: u64) -> Result<Sample, AllocError> {
+    pub fn open(self, unique: u64, node: u64) -> Sample {
         self.open_with(unique, node, OpenFlags::empty())
     }
 
     /// `> uU OPEN N flags F`
-    pub fn open_with(self, unique: u64, node: u64, flags: OpenFlags) -> Result<Sample, AllocError> {
+    pub fn open_with(self, unique: u64, node: u64, flags: OpenFlags) -> Sample {
         self.request_of(unique, opcodes::OPEN, node, &[U32(flags.bits()), Zeros(4)])
     }
 
     /// `> uU OPENDIR N`
-    pub fn opendir(self, unique: u64, node: u64) -> Result<Sample, AllocError> {
+    pub fn opendir(self, unique: u64, node: u64) -> Sample {
         self.request_of(unique, opcodes::OPENDIR, node, &[Zeros(8)])
     }
 
     /// `> uU READ N fh H off O size S`
-    pub fn read(
-        self,
-        unique: u64,
-        node: u64,
-        fh: u64,
-        offset: u64,
-        size: u32,
-    ) -> Result<Sample, AllocError> {
+    pub fn read(self, unique: u64, node: u64, fh: u64, offset: u64, size: u32) -> Sample {
         self.request_of(unique, opcodes::READ, node, &reading(fh, offset, size))
     }
 
     /// `> uU READDIR N fh H off O size S`
-    pub fn readdir(
-        self,
-        unique: u64,
-        node: u64,
-        fh: u64,
-        offset: u64,
-        size: u32,
-    ) -> Result<Sample, AllocError> {
+    pub fn readdir(self, unique: u64, node: u64, fh: u64, offset: u64, size: u32) -> Sample {
         self.request_of(unique, opcodes::READDIR, node, &reading(fh, offset, size))
     }
 
     /// `> uU READDIRPLUS N fh H off O size S`
-    pub fn readdirplus(
-        self,
-        unique: u64,
-        node: u64,
-        fh: u64,
-        offset: u64,
-        size: u32,
-    ) -> Result<Sample, AllocError> {
+    pub fn readdirplus(self, unique: u64, node: u64, fh: u64, offset: u64, size: u32) -> Sample {
         self.request_of(
             unique,
             opcodes::READDIRPLUS,
@@ -374,14 +343,7 @@ impl Sample {
     }
 
     /// `> uU WRITE N fh H off O "data"`
-    pub fn write(
-        self,
-        unique: u64,
-        node: u64,
-        fh: u64,
-        offset: u64,
-        data: &[u8],
-    ) -> Result<Sample, AllocError> {
+    pub fn write(self, unique: u64, node: u64, fh: u64, offset: u64, data: &[u8]) -> Sample {
         self.request_of(
             unique,
             opcodes::WRITE,
@@ -397,32 +359,32 @@ impl Sample {
     }
 
     /// `> uU RELEASE N fh H`
-    pub fn release(self, unique: u64, node: u64, fh: u64) -> Result<Sample, AllocError> {
+    pub fn release(self, unique: u64, node: u64, fh: u64) -> Sample {
         self.request_of(unique, opcodes::RELEASE, node, &closing(fh))
     }
 
     /// `> uU RELEASEDIR N fh H`
-    pub fn releasedir(self, unique: u64, node: u64, fh: u64) -> Result<Sample, AllocError> {
+    pub fn releasedir(self, unique: u64, node: u64, fh: u64) -> Sample {
         self.request_of(unique, opcodes::RELEASEDIR, node, &closing(fh))
     }
 
     /// `> uU FLUSH N fh H`
-    pub fn flush(self, unique: u64, node: u64, fh: u64) -> Result<Sample, AllocError> {
+    pub fn flush(self, unique: u64, node: u64, fh: u64) -> Sample {
         self.request_of(unique, opcodes::FLUSH, node, &closing(fh))
     }
 
     /// `< uU -E`, where the error is `-E`.
-    pub fn error(self, unique: u64, error: i32) -> Result<Sample, AllocError> {
+    pub fn error(self, unique: u64, error: i32) -> Sample {
         self.reply(unique, error, &[])
     }
 
     /// `< uU ok`
-    pub fn ok(self, unique: u64) -> Result<Sample, AllocError> {
+    pub fn ok(self, unique: u64) -> Sample {
         self.reply(unique, 0, &[])
     }
 
     /// `< uU init` of version 7.31 without flags.
-    pub fn init_answer(self, unique: u64) -> Result<Sample, AllocError> {
+    pub fn init_answer(self, unique: u64) -> Sample {
         self.init_answer_with(unique, 7, 31, InitFlags::empty(), 64)
     }
 
@@ -434,22 +396,15 @@ impl Sample {
         minor: u32,
         flags: InitFlags,
         body_len: usize,
-    ) -> Result<Sample, AllocError> {
-        let body = init_bytes(self.alloc, major, minor, flags, body_len)?;
-        self.reply(unique, 0, &body)
+    ) -> Sample {
+        let body = init_bytes(self.alloc, major, minor, flags, body_len);
+        self.success_with(unique, body)
     }
 
     /// `< uU entry X T B size S nlink L`. `mode` is the type and the bits, as `DIR | 0o755`.
-    pub fn entry(
-        self,
-        unique: u64,
-        nodeid: u64,
-        mode: u32,
-        size: u64,
-        nlink: u32,
-    ) -> Result<Sample, AllocError> {
-        let body = entry_bytes(self.alloc, &entry_out(nodeid, mode, size, nlink))?;
-        self.reply(unique, 0, &body)
+    pub fn entry(self, unique: u64, nodeid: u64, mode: u32, size: u64, nlink: u32) -> Sample {
+        let body = entry_bytes(self.alloc, &entry_out(nodeid, mode, size, nlink));
+        self.success_with(unique, body)
     }
 
     /// `< uU created X T B size S nlink L fh H`. `mode` is the type and the bits.
@@ -461,66 +416,63 @@ impl Sample {
         size: u64,
         nlink: u32,
         fh: u64,
-    ) -> Result<Sample, AllocError> {
-        let mut body = entry_bytes(self.alloc, &entry_out(nodeid, mode, size, nlink))?;
-        put(&mut body, &[U64(fh), Zeros(8)])?;
-        self.reply(unique, 0, &body)
+    ) -> Sample {
+        let entry = entry_out(nodeid, mode, size, nlink);
+        let body = created_bytes(self.alloc, &entry, fh);
+        self.success_with(unique, body)
     }
 
     /// `< uU attr T B size S nlink L`. `mode` is the type and the bits.
-    pub fn attr(self, unique: u64, mode: u32, size: u64, nlink: u32) -> Result<Sample, AllocError> {
-        let mut body = spelled(self.alloc, &[Zeros(16)])?;
-        put_attributes(&mut body, &attributes(mode, size, nlink))?;
-        self.reply(unique, 0, &body)
+    pub fn attr(self, unique: u64, mode: u32, size: u64, nlink: u32) -> Sample {
+        let body = attr_bytes(self.alloc, &attributes(mode, size, nlink));
+        self.success_with(unique, body)
     }
 
     /// `< uU opened fh H`
-    pub fn opened(self, unique: u64, fh: u64) -> Result<Sample, AllocError> {
+    pub fn opened(self, unique: u64, fh: u64) -> Sample {
         self.opened_with(unique, fh, FopenFlags::empty())
     }
 
     /// `< uU opened fh H flags F`
-    pub fn opened_with(
-        self,
-        unique: u64,
-        fh: u64,
-        flags: FopenFlags,
-    ) -> Result<Sample, AllocError> {
+    pub fn opened_with(self, unique: u64, fh: u64, flags: FopenFlags) -> Sample {
         self.success_of(unique, &[U64(fh), U32(flags.bits()), Zeros(4)])
     }
 
     /// `< uU written S`
-    pub fn written(self, unique: u64, size: u32) -> Result<Sample, AllocError> {
+    pub fn written(self, unique: u64, size: u32) -> Sample {
         self.success_of(unique, &[U32(size), Zeros(4)])
     }
 
     /// `< uU "data"`: what READ or READLINK gives.
-    pub fn data(self, unique: u64, data: &[u8]) -> Result<Sample, AllocError> {
+    pub fn data(self, unique: u64, data: &[u8]) -> Sample {
         self.reply(unique, 0, data)
     }
 
     /// `< uU [name off O type T, ..]`: what READDIR gives.
-    pub fn listing(self, unique: u64, entries: &[Listed<'_>]) -> Result<Sample, AllocError> {
-        let mut body = Vec::new(self.alloc);
-        for listed in entries {
-            put_listed(&mut body, listed)?;
-        }
-        self.reply(unique, 0, &body)
+    pub fn listing(self, unique: u64, entries: &[Listed<'_>]) -> Sample {
+        let body = listing_bytes(self.alloc, entries);
+        self.success_with(unique, body)
     }
 
     /// `< uU [entry X T B name off O type T, ..]`: what READDIRPLUS gives.
-    pub fn listing_plus(
-        self,
-        unique: u64,
-        entries: &[(EntryOut, Listed<'_>)],
-    ) -> Result<Sample, AllocError> {
-        let mut body = Vec::new(self.alloc);
-        for (entry, listed) in entries {
-            put_entry(&mut body, entry)?;
-            put_listed(&mut body, listed)?;
-        }
-        self.reply(unique, 0, &body)
+    pub fn listing_plus(self, unique: u64, entries: &[(EntryOut, Listed<'_>)]) -> Sample {
+        let body = listing_plus_bytes(self.alloc, entries);
+        self.success_with(unique, body)
     }
+}
+
+/// The bytes of a capture with one more record behind them.
+fn with_record(
+    mut bytes: Vec<u8>,
+    direction: Direction,
+    message: &[u8],
+) -> Result<Vec<u8>, AllocError> {
+    bytes.push(match direction {
+        Direction::ToServer => 0,
+        Direction::FromServer => 1,
+    })?;
+    put(&mut bytes, &[U32(len_of(message)), Bytes(message)])?;
+    Ok(bytes)
 }
 
 /// The fields one after the other.
@@ -580,13 +532,8 @@ pub fn init_bytes(
     Ok(body)
 }
 
-/// A name and the zero byte behind it.
-pub fn name_bytes(alloc: Global, name: &[u8]) -> Result<Vec<u8>, AllocError> {
-    spelled(alloc, &[Name(name)])
-}
-
 /// The body of a BATCH_FORGET.
-pub fn batch_forget_bytes(alloc: Global, items: &[(u64, u64)]) -> Result<Vec<u8>, AllocError> {
+fn batch_forget_bytes(alloc: Global, items: &[(u64, u64)]) -> Result<Vec<u8>, AllocError> {
     let count = u32::try_from(items.len()).unwrap_or(u32::MAX);
     let mut body = spelled(alloc, &[U32(count), Zeros(4)])?;
     for (nodeid, nlookup) in items {
@@ -596,7 +543,7 @@ pub fn batch_forget_bytes(alloc: Global, items: &[(u64, u64)]) -> Result<Vec<u8>
 }
 
 /// A SETATTR that changes nothing.
-pub fn no_attributes() -> SetattrIn {
+fn no_attributes() -> SetattrIn {
     SetattrIn {
         valid: FattrFlags::empty(),
         fh: 0,
@@ -615,7 +562,7 @@ pub fn no_attributes() -> SetattrIn {
 }
 
 /// The body of a SETATTR.
-pub fn setattr_bytes(alloc: Global, wanted: &SetattrIn) -> Result<Vec<u8>, AllocError> {
+fn setattr_bytes(alloc: Global, wanted: &SetattrIn) -> Result<Vec<u8>, AllocError> {
     let fields = [
         U32(wanted.valid.bits()),
         Zeros(4),
@@ -647,9 +594,45 @@ pub fn entry_out(nodeid: u64, mode: u32, size: u64, nlink: u32) -> EntryOut {
 }
 
 /// The bytes of an entry.
-pub fn entry_bytes(alloc: Global, entry: &EntryOut) -> Result<Vec<u8>, AllocError> {
+fn entry_bytes(alloc: Global, entry: &EntryOut) -> Result<Vec<u8>, AllocError> {
     let mut body = Vec::new(alloc);
     put_entry(&mut body, entry)?;
+    Ok(body)
+}
+
+/// The body of a success of CREATE.
+fn created_bytes(alloc: Global, entry: &EntryOut, fh: u64) -> Result<Vec<u8>, AllocError> {
+    let mut body = entry_bytes(alloc, entry)?;
+    put(&mut body, &[U64(fh), Zeros(8)])?;
+    Ok(body)
+}
+
+/// The body of a success of GETATTR or SETATTR.
+fn attr_bytes(alloc: Global, attr: &Attributes) -> Result<Vec<u8>, AllocError> {
+    let mut body = spelled(alloc, &[Zeros(16)])?;
+    put_attributes(&mut body, attr)?;
+    Ok(body)
+}
+
+/// What READDIR gives.
+fn listing_bytes(alloc: Global, entries: &[Listed<'_>]) -> Result<Vec<u8>, AllocError> {
+    let mut body = Vec::new(alloc);
+    for listed in entries {
+        put_listed(&mut body, listed)?;
+    }
+    Ok(body)
+}
+
+/// What READDIRPLUS gives.
+fn listing_plus_bytes(
+    alloc: Global,
+    entries: &[(EntryOut, Listed<'_>)],
+) -> Result<Vec<u8>, AllocError> {
+    let mut body = Vec::new(alloc);
+    for (entry, listed) in entries {
+        put_entry(&mut body, entry)?;
+        put_listed(&mut body, listed)?;
+    }
     Ok(body)
 }
 

@@ -116,12 +116,12 @@ fn asked_lookup() -> Request<'static> {
 
 #[test]
 fn sample_spells_the_first_capture(rt: HostRuntime) -> Result<(), Fail> {
-    let capture = Sample::new(rt.alloc())?
-        .init(2)?
-        .init_answer(2)?
-        .lookup(4, 1, b"a")?
-        .error(4, -2)?
-        .capture();
+    let capture = Sample::new(rt.alloc())
+        .init(2)
+        .init_answer(2)
+        .lookup(4, 1, b"a")
+        .error(4, -2)
+        .capture()?;
     assert_eq!(rt; capture.as_slice(), FIRST_CAPTURE.as_slice());
     Ok(())
 }
@@ -294,11 +294,11 @@ fn flags(rt: HostRuntime) -> Result<(), Fail> {
 
 #[test]
 fn sample_entry(rt: HostRuntime) -> Result<(), Fail> {
-    let capture = Sample::new(rt.alloc())?
-        .entry(4, 2, sample::DIR | 0o755, 5, 1)?
-        .ok(6)?
-        .raw(Direction::FromServer, b"x")?
-        .capture();
+    let capture = Sample::new(rt.alloc())
+        .entry(4, 2, sample::DIR | 0o755, 5, 1)
+        .ok(6)
+        .raw(Direction::FromServer, b"x")
+        .capture()?;
     assert_eq!(rt; capture.len(), 8 + (5 + 144) + (5 + 16) + (5 + 1));
     match reply(&rt, &asked_lookup(), &capture[13..157])? {
         Reply::Entry(e) => {

@@ -25,8 +25,8 @@ const ORDER: &[u8; 19] = b"fuse-order 1\n2\nend\n";
 
 /// INIT, its answer, LOOKUP of `a` on the root, and ENOENT: 222 bytes.
 fn first_capture(alloc: Global) -> Result<Vec<u8>, AllocError> {
-    let sample = Sample::new(alloc)?.init(2)?.init_answer(2)?;
-    Ok(sample.lookup(4, 1, b"a")?.error(4, -2)?.capture())
+    let sample = Sample::new(alloc).init(2).init_answer(2);
+    Ok(sample.lookup(4, 1, b"a").error(4, -2).capture()?)
 }
 
 /// A reader that gives a byte a call. Each third call is interrupted, and the `fails_at`th fails.

@@ -45,37 +45,37 @@ const LISTED: [u8; 32] = [
 #[test]
 fn requests_are_spelled(rt: HostRuntime) -> Result<(), Fail> {
     let alloc = rt.alloc();
-    let capture = Sample::new(alloc)?
-        .forget(4, 5, 2)?
-        .getattr(4, 5)?
-        .getattr_with(4, 5, GetattrFlags::FH, 6)?
-        .setattr_size(4, 5, 7)?
-        .readlink(4, 5)?
-        .symlink(4, 5, b"a", b"/b")?
-        .mknod(4, 5, sample::FIFO | 0o644, b"a")?
-        .mkdir(4, 5, b"a")?
-        .unlink(4, 5, b"a")?
-        .rmdir(4, 5, b"a")?
-        .rename(4, 5, b"a", 6, b"b")?
-        .link(4, 5, b"a", 6)?
-        .open(4, 5)?
-        .open_with(4, 5, OpenFlags::TRUNC)?
-        .read(4, 5, 6, 7, 8)?
-        .write(4, 5, 6, 7, b"abc")?
-        .release(4, 5, 6)?
-        .flush(4, 5, 6)?
-        .opendir(4, 5)?
-        .readdir(4, 5, 6, 7, 8)?
-        .releasedir(4, 5, 6)?
-        .create(4, 5, b"a")?
-        .create_with(4, 5, OpenFlags::EXCL, sample::DIR | 0o700, b"a")?
-        .readdirplus(4, 5, 6, 7, 8)?
-        .batch_forget(4, &[(2, 1), (3, 4)])?
-        .capture();
+    let capture = Sample::new(alloc)
+        .forget(4, 5, 2)
+        .getattr(4, 5)
+        .getattr_with(4, 5, GetattrFlags::FH, 6)
+        .setattr_size(4, 5, 7)
+        .readlink(4, 5)
+        .symlink(4, 5, b"a", b"/b")
+        .mknod(4, 5, sample::FIFO | 0o644, b"a")
+        .mkdir(4, 5, b"a")
+        .unlink(4, 5, b"a")
+        .rmdir(4, 5, b"a")
+        .rename(4, 5, b"a", 6, b"b")
+        .link(4, 5, b"a", 6)
+        .open(4, 5)
+        .open_with(4, 5, OpenFlags::TRUNC)
+        .read(4, 5, 6, 7, 8)
+        .write(4, 5, 6, 7, b"abc")
+        .release(4, 5, 6)
+        .flush(4, 5, 6)
+        .opendir(4, 5)
+        .readdir(4, 5, 6, 7, 8)
+        .releasedir(4, 5, 6)
+        .create(4, 5, b"a")
+        .create_with(4, 5, OpenFlags::EXCL, sample::DIR | 0o700, b"a")
+        .readdirplus(4, 5, 6, 7, 8)
+        .batch_forget(4, &[(2, 1), (3, 4)])
+        .capture()?;
     let mut size_seven = [0u8; 88];
     size_seven[0] = 8;
     size_seven[16] = 7;
-    let mut spelled = Sample::new(alloc)?;
+    let mut spelled = Sample::new(alloc);
     for (opcode, node, body) in [
         (2, 5, b"\x02\0\0\0\0\0\0\0".as_slice()),
         (3, 5, b"\0\0\0\0\0\0\0\0\0\0\0\0\0\0\0\0".as_slice()),
@@ -111,9 +111,9 @@ fn requests_are_spelled(rt: HostRuntime) -> Result<(), Fail> {
         (44, 5, READING.as_slice()),
         (42, 0, FORGETTING.as_slice()),
     ] {
-        spelled = spelled.request(4, opcode, node, body)?;
+        spelled = spelled.request(4, opcode, node, body);
     }
-    assert_same(&rt, alloc, &capture, &spelled.capture())
+    assert_same(&rt, alloc, &capture, &spelled.capture()?)
 }
 
 /// Each reply of a sample has the body that its call names.
@@ -132,19 +132,19 @@ fn replies_are_spelled(rt: HostRuntime) -> Result<(), Fail> {
         file_type: 0,
     };
     let found = sample::entry_out(2, regular, 5, 1);
-    let capture = Sample::new(alloc)?
-        .entry(4, 2, regular, 5, 1)?
-        .created(4, 2, regular, 5, 1, 9)?
-        .attr(4, sample::DIR | 0o755, 5, 2)?
-        .opened(4, 9)?
-        .opened_with(4, 9, FopenFlags::DIRECT_IO)?
-        .written(4, 3)?
-        .data(4, b"abc")?
-        .listing(4, &[])?
-        .listing(4, &[listed, long])?
-        .listing_plus(4, &[(found, listed)])?
-        .ok(4)?
-        .capture();
+    let capture = Sample::new(alloc)
+        .entry(4, 2, regular, 5, 1)
+        .created(4, 2, regular, 5, 1, 9)
+        .attr(4, sample::DIR | 0o755, 5, 2)
+        .opened(4, 9)
+        .opened_with(4, 9, FopenFlags::DIRECT_IO)
+        .written(4, 3)
+        .data(4, b"abc")
+        .listing(4, &[])
+        .listing(4, &[listed, long])
+        .listing_plus(4, &[(found, listed)])
+        .ok(4)
+        .capture()?;
     let mut entry = [0u8; 128];
     entry[0] = 2;
     entry[48] = 5;
@@ -157,7 +157,7 @@ fn replies_are_spelled(rt: HostRuntime) -> Result<(), Fail> {
     attr[77] = 0x41;
     attr[80] = 2;
     let long = b"\0\0\0\0\0\0\0\0\x02\x01\0\0\0\0\0\0\x08\0\0\0\0\0\0\012345678";
-    let mut spelled = Sample::new(alloc)?;
+    let mut spelled = Sample::new(alloc);
     for (front, behind) in [
         (entry.as_slice(), b"".as_slice()),
         (
@@ -182,9 +182,9 @@ fn replies_are_spelled(rt: HostRuntime) -> Result<(), Fail> {
     ] {
         let mut body = Vec::from_slice(alloc, front)?;
         body.extend_from_slice(behind)?;
-        spelled = spelled.reply(4, 0, &body)?;
+        spelled = spelled.reply(4, 0, &body);
     }
-    assert_same(&rt, alloc, &capture, &spelled.capture())
+    assert_same(&rt, alloc, &capture, &spelled.capture()?)
 }
 
 /// Looks whether two captures have the same messages.

@@ -2,6 +2,7 @@
 
 use super::*;
 use crate::laws;
+use Outcome::{Accepted, Refused};
 use bitflags::Flags;
 use fa_bodies::sample::{self, Sample};
 use fa_bodies::{InitFlags, Reply, RequestBody, opcodes};
@@ -25,17 +26,12 @@ const TRY_AGAIN: i32 = -11;
 /// ENOTTY.
 const NOT_A_TERMINAL: i32 = -25;
 /// ENOSYS.
-const NO_SUCH_CALL: i32 = -38;
+const NOT_IMPLEMENTED: i32 = -38;
 /// EPROTO.
 const PROTOCOL: i32 = -71;
 
 /// The node id of the root.
 const ROOT: u64 = 1;
-
-/// The code of a message that is accepted, in the cases.
-const ACCEPTED: u16 = 0;
-/// What stands for the code where memory was refused.
-const NO_CODE: u16 = u16::MAX;
 
 /// What a session tells of a message.
 #[derive(Clone, Copy, Debug, PartialEq, Eq)]
@@ -50,6 +46,26 @@ enum Told {
     Refused(u16),
     /// Memory was refused.
     Memory,
+}
+
+/// Whether a message is accepted, and why not.
+#[derive(Clone, Copy, Debug, PartialEq, Eq)]
+enum Outcome {
+    /// It is a request, a reply or a notification.
+    Accepted,
+    /// It is not allowed, with this code.
+    Refused(u16),
+    /// Memory was refused.
+    Memory,
+}
+
+/// The outcome of a message of which a session tells this.
+fn outcome_of(told: Told) -> Outcome {
+    match told {
+        Told::Asked(_) | Told::Answered(..) | Told::Notice(_) => Accepted,
+        Told::Refused(code) => Refused(code),
+        Told::Memory => Outcome::Memory,
+    }
 }
 
 /// What a session tells by this answer.
@@ -75,7 +91,7 @@ fn handed_in<'a>(
 
 /// What a session tells of each message of a capture. Those that are refused stand in it like the others.
 fn told_of_each(rt: &impl Abort, alloc: Global, sample: Sample) -> Result<Vec<Told>, AllocError> {
-    let bytes = sample.capture();
+    let bytes = sample.capture()?;
     let capture = read_capture(alloc, &bytes)?;
     assert!(rt; capture.fault.is_none());
     let mut session = Session::new(alloc);
@@ -92,10 +108,10 @@ fn expect_each(
     alloc: Global,
     messages: &[(Sent<'_>, Told)],
 ) -> Result<(), AllocError> {
-    let mut sample = Sample::new(alloc)?;
+    let mut sample = Sample::new(alloc);
     let mut expected = Vec::new(alloc);
     for (message, told) in messages {
-        sample = followed_by(sample, &[*message])?;
+        sample = followed_by(sample, &[*message]);
         expected.push(*told)?;
     }
     let found = told_of_each(rt, alloc, sample)?;
@@ -103,23 +119,19 @@ fn expect_each(
     Ok(())
 }
 
-/// The code of the last message of a capture, or 0 where it is accepted. Those before it are accepted.
-fn last_code(rt: &impl Abort, alloc: Global, sample: Sample) -> Result<u16, AllocError> {
-    let mut last = ACCEPTED;
+/// The outcome of the last message of a capture. Those before it are accepted.
+fn last_outcome(rt: &impl Abort, alloc: Global, sample: Sample) -> Result<Outcome, AllocError> {
+    let mut last = Accepted;
     for told in &told_of_each(rt, alloc, sample)? {
-        assert_eq!(rt; last, ACCEPTED, "before {told:?}");
-        last = match told {
-            Told::Refused(code) => *code,
-            Told::Memory => NO_CODE,
-            _ => ACCEPTED,
-        };
+        assert_eq!(rt; last, Accepted, "before {told:?}");
+        last = outcome_of(*told);
     }
     Ok(last)
 }
 
 /// INIT and its answer, both of version 7.31 without flags: the messages 0 and 1.
-fn opened(alloc: Global) -> Result<Sample, AllocError> {
-    Sample::new(alloc)?.init(2)?.init_answer(2)
+fn opened(alloc: Global) -> Sample {
+    Sample::new(alloc).init(2).init_answer(2)
 }
 
 // ---- messages in short
@@ -134,46 +146,28 @@ enum Sent<'a> {
 }
 
 /// A capture and these messages behind its last one.
-fn followed_by(mut sample: Sample, messages: &[Sent<'_>]) -> Result<Sample, AllocError> {
+fn followed_by(mut sample: Sample, messages: &[Sent<'_>]) -> Sample {
     for message in messages {
         sample = match *message {
-            Sent::Request(unique, opcode, body) => sample.request(unique, opcode, ROOT, body)?,
-            Sent::Reply(unique, error, body) => sample.reply(unique, error, body)?,
+            Sent::Request(unique, opcode, body) => sample.request(unique, opcode, ROOT, body),
+            Sent::Reply(unique, error, body) => sample.reply(unique, error, body),
         };
     }
-    Ok(sample)
+    sample
 }
 
-/// The code of the last of these messages in a session of them alone.
-fn code_from_start(
-    rt: &impl Abort,
-    alloc: Global,
-    messages: &[Sent<'_>],
-) -> Result<u16, AllocError> {
-    let sample = followed_by(Sample::new(alloc)?, messages)?;
-    last_code(rt, alloc, sample)
+/// Tests the outcome of the last of these messages in a session of them alone.
+fn from_start(rt: &impl Abort, alloc: Global, messages: &[Sent<'_>], outcome: Outcome) {
+    let sample = followed_by(Sample::new(alloc), messages);
+    let found = last_outcome(rt, alloc, sample).ok();
+    assert_eq!(rt; found, Some(outcome), "{messages:?}");
 }
 
-/// The code of the last of these messages behind INIT and its answer.
-fn code_after_init(
-    rt: &impl Abort,
-    alloc: Global,
-    messages: &[Sent<'_>],
-) -> Result<u16, AllocError> {
-    let sample = followed_by(opened(alloc)?, messages)?;
-    last_code(rt, alloc, sample)
-}
-
-/// Tests the code of the last of these messages, or 0 where it is accepted, in a session of them alone.
-fn from_start(rt: &impl Abort, alloc: Global, messages: &[Sent<'_>], code: u16) {
-    let found = code_from_start(rt, alloc, messages).ok();
-    assert_eq!(rt; found, Some(code), "{messages:?}");
-}
-
-/// Tests the code of the last of these messages, or 0 where it is accepted, behind INIT and its answer.
-fn after_init(rt: &impl Abort, alloc: Global, messages: &[Sent<'_>], code: u16) {
-    let found = code_after_init(rt, alloc, messages).ok();
-    assert_eq!(rt; found, Some(code), "{messages:?}");
+/// Tests the outcome of the last of these messages behind INIT and its answer.
+fn after_init(rt: &impl Abort, alloc: Global, messages: &[Sent<'_>], outcome: Outcome) {
+    let sample = followed_by(opened(alloc), messages);
+    let found = last_outcome(rt, alloc, sample).ok();
+    assert_eq!(rt; found, Some(outcome), "{messages:?}");
 }
 
 /// `> uU OPCODE 1` without a body.
@@ -266,15 +260,48 @@ fn each_message_has_its_number(rt: HostRuntime) -> Result<(), Fail> {
     Ok(expect_each(&rt, alloc, &messages)?)
 }
 
+/// Tests that a request is LOOKUP with this unique, of this name in the node.
+fn expect_lookup(rt: &impl Abort, request: &Request<'_>, unique: u64, node: u64, name: &[u8]) {
+    assert_eq!(rt;
+        (request.unique, request.node, request.opcode),
+        (unique, node, 1)
+    );
+    match request.body {
+        RequestBody::Lookup { name: found } => assert_eq!(rt; found, name, "of {unique}"),
+        _ => assert!(rt; false, "a LOOKUP of {unique}"),
+    }
+}
+
+/// Tests that an event is the reply with this error to LOOKUP with this unique, of this name in the node.
+fn expect_refusal(
+    rt: &impl Abort,
+    event: &Event<'_>,
+    error: i32,
+    unique: u64,
+    node: u64,
+    name: &[u8],
+) {
+    match event {
+        Event::Answered { request, reply, .. } => {
+            expect_lookup(rt, request, unique, node, name);
+            assert!(rt;
+                matches!(reply, Reply::Refused(found) if *found == error),
+                "to {unique}"
+            );
+        }
+        _ => assert!(rt; false, "a reply to {unique}"),
+    }
+}
+
 #[test]
 fn an_event_has_what_was_asked_and_said(rt: HostRuntime) -> Result<(), Fail> {
     let alloc = rt.alloc();
-    let bytes = opened(alloc)?
-        .lookup(4, ROOT, b"a")?
-        .lookup(6, 3, b"b")?
-        .error(6, -5)?
-        .error(4, NO_SUCH_NAME)?
-        .capture();
+    let bytes = opened(alloc)
+        .lookup(4, ROOT, b"a")
+        .lookup(6, 3, b"b")
+        .error(6, -5)
+        .error(4, NO_SUCH_NAME)
+        .capture()?;
     let capture = read_capture(alloc, &bytes)?;
     let mut session = Session::new(alloc);
     let mut events = Vec::new(alloc);
@@ -282,84 +309,59 @@ fn an_event_has_what_was_asked_and_said(rt: HostRuntime) -> Result<(), Fail> {
         events.push(handed_in(&rt, &mut session, packet)?)?;
     }
     assert_eq!(rt; events.len(), 6);
+    assert_eq!(rt; told_by(&Ok(events[3])), Told::Asked(3));
+    assert_eq!(rt; told_by(&Ok(events[4])), Told::Answered(4, 3));
+    assert_eq!(rt; told_by(&Ok(events[5])), Told::Answered(5, 2));
     match events[3] {
-        Event::Asked { at: 3, request } => {
-            assert_eq!(rt; (request.unique, request.node, request.opcode), (6, 3, 1));
-            assert!(rt; matches!(request.body, RequestBody::Lookup { name: b"b" }));
-        }
+        Event::Asked { request, .. } => expect_lookup(&rt, &request, 6, 3, b"b"),
         _ => assert!(rt; false, "a request"),
     }
-    match events[4] {
-        Event::Answered {
-            at: 4,
-            asked: 3,
-            request,
-            reply,
-        } => {
-            assert_eq!(rt; (request.unique, request.node, request.opcode), (6, 3, 1));
-            assert!(rt; matches!(request.body, RequestBody::Lookup { name: b"b" }));
-            assert!(rt; matches!(reply, Reply::Refused(-5)));
-        }
-        _ => assert!(rt; false, "the reply to the second LOOKUP"),
-    }
-    match events[5] {
-        Event::Answered {
-            at: 5,
-            asked: 2,
-            request,
-            reply,
-        } => {
-            assert_eq!(rt; (request.unique, request.node, request.opcode), (4, 1, 1));
-            assert!(rt; matches!(request.body, RequestBody::Lookup { name: b"a" }));
-            assert!(rt; matches!(reply, Reply::Refused(NO_SUCH_NAME)));
-        }
-        _ => assert!(rt; false, "the reply to the first LOOKUP"),
-    }
+    expect_refusal(&rt, &events[4], -5, 6, 3, b"b");
+    expect_refusal(&rt, &events[5], NO_SUCH_NAME, 4, 1, b"a");
     Ok(())
+}
+
+/// INIT and its answer, 1,000 LOOKUPs of the uniques 4, 6 and so on, in the nodes 1, 2 and so on, and their refusals in
+/// reverse: 2,002 messages.
+fn refused_in_reverse(alloc: Global) -> Sample {
+    let mut sample = opened(alloc);
+    for place in 0..1000u64 {
+        sample = sample.lookup(4 + 2 * place, 1 + place, b"a");
+    }
+    for place in 0..1000u64 {
+        sample = sample.error(4 + 2 * (999 - place), NO_SUCH_NAME);
+    }
+    sample
+}
+
+/// Tests the event of the message with this number in such a session.
+fn expect_in_reverse(rt: &impl Abort, number: u32, event: Event<'_>) {
+    match number {
+        0 => assert_eq!(rt; told_by(&Ok(event)), Told::Asked(0)),
+        1 => assert_eq!(rt; told_by(&Ok(event)), Told::Answered(1, 0)),
+        2..=1001 => assert_eq!(rt; told_by(&Ok(event)), Told::Asked(number)),
+        _ => {
+            // The last request, of number 1,001, is answered by message 1,002.
+            let asked = 2003u32.saturating_sub(number);
+            assert_eq!(rt; told_by(&Ok(event)), Told::Answered(number, asked));
+            let unique = u64::from(asked).saturating_mul(2);
+            let node = u64::from(asked).saturating_sub(1);
+            expect_refusal(rt, &event, NO_SUCH_NAME, unique, node, b"a");
+        }
+    }
 }
 
 #[test]
 fn many_requests_answered_in_reverse(rt: HostRuntime) -> Result<(), Fail> {
     let alloc = rt.alloc();
-    let mut sample = opened(alloc)?;
-    for place in 0..1000u64 {
-        sample = sample.lookup(4 + 2 * place, 1 + place, b"a")?;
-    }
-    for place in 0..1000u64 {
-        sample = sample.error(4 + 2 * (999 - place), NO_SUCH_NAME)?;
-    }
-    let bytes = sample.capture();
+    let bytes = refused_in_reverse(alloc).capture()?;
     let capture = read_capture(alloc, &bytes)?;
     assert_eq!(rt; capture.packets.len(), 2002);
     let mut session = Session::new(alloc);
     let mut number = 0u32;
     for packet in &capture.packets {
         let event = handed_in(&rt, &mut session, packet)?;
-        match number {
-            0 => assert_eq!(rt; told_by(&Ok(event)), Told::Asked(0)),
-            1 => assert_eq!(rt; told_by(&Ok(event)), Told::Answered(1, 0)),
-            2..=1001 => assert_eq!(rt; told_by(&Ok(event)), Told::Asked(number)),
-            _ => {
-                // The last request, of number 1,001, is answered by message 1,002.
-                let asked = 2003u32.saturating_sub(number);
-                assert_eq!(rt; told_by(&Ok(event)), Told::Answered(number, asked));
-                match event {
-                    Event::Answered { request, .. } => {
-                        assert_eq!(rt;
-                            request.unique,
-                            u64::from(asked).saturating_mul(2),
-                            "at {number}"
-                        );
-                        assert_eq!(rt;
-                            request.node,
-                            u64::from(asked).saturating_sub(1),
-                            "at {number}"
-                        );
-                    }
-                    _ => assert!(rt; false, "a reply"),
-                }
-            }
-        }
+        expect_in_reverse(&rt, number, event);
         number = number.saturating_add(1);
     }
     assert_eq!(rt; session.waiting.len(), 0);
@@ -367,54 +369,53 @@ fn many_requests_answered_in_reverse(rt: HostRuntime) -> Result<(), Fail> {
 }
 
 #[test]
-fn a_refused_message_leaves_the_session_as_it_was(rt: HostRuntime) -> Result<(), Fail> {
-    let alloc = rt.alloc();
+fn a_message_refused_before_init_is_answered_changes_nothing(rt: HostRuntime) -> Result<(), Fail> {
     let minor_30 = b"\x07\0\0\0\x1e\0\0\0\0\0\0\0\0\0\0\0\0\0\0\0\0\0\0\0";
+    let not_init = Told::Refused(codes::FIRST_NOT_INIT);
+    let no_request = Told::Refused(codes::NO_REQUEST_WAITS);
     let messages = [
-        // Before INIT, and before its answer.
-        (lookup(2), Told::Refused(codes::FIRST_NOT_INIT)),
-        (error(2, NO_SUCH_NAME), Told::Refused(codes::FIRST_NOT_INIT)),
-        (notice(2), Told::Refused(codes::FIRST_NOT_INIT)),
+        (lookup(2), not_init),
+        (error(2, NO_SUCH_NAME), not_init),
+        (notice(2), not_init),
         (init(0), Told::Refused(codes::UNIQUE_ZERO)),
         (init(2), Told::Asked(0)),
         (init(4), Told::Refused(codes::SECOND_INIT)),
         (lookup(4), Told::Refused(codes::BEFORE_INIT_ANSWERED)),
         (error(2, PROTOCOL), Told::Refused(codes::INIT_REFUSED)),
         (data(2, minor_30), Told::Refused(codes::VERSION)),
-        (
-            error(4, NO_SUCH_NAME),
-            Told::Refused(codes::NO_REQUEST_WAITS),
-        ),
+        (error(4, NO_SUCH_NAME), no_request),
+        (init_answer(2), Told::Answered(1, 0)),
+        (lookup(4), Told::Asked(2)),
+    ];
+    Ok(expect_each(&rt, rt.alloc(), &messages)?)
+}
+
+#[test]
+fn a_message_refused_after_init_changes_nothing(rt: HostRuntime) -> Result<(), Fail> {
+    let no_name = Sent::Request(4, opcodes::LOOKUP, b"/\0");
+    let in_use = Told::Refused(codes::UNIQUE_IN_USE);
+    let no_request = Told::Refused(codes::NO_REQUEST_WAITS);
+    let no_handle = Told::Refused(codes::OPEN_WITHOUT_HANDLE);
+    let messages = [
+        (init(2), Told::Asked(0)),
         (init_answer(2), Told::Answered(1, 0)),
         // The unique of a request that was refused is free, and that of one that waits is not.
-        (
-            Sent::Request(4, 1, b"/\0"),
-            Told::Refused(codes::REQUEST_BODY),
-        ),
+        (no_name, Told::Refused(codes::REQUEST_BODY)),
         (open(4), Told::Asked(2)),
-        (lookup(4), Told::Refused(codes::UNIQUE_IN_USE)),
-        (forget(4), Told::Refused(codes::UNIQUE_IN_USE)),
+        (lookup(4), in_use),
+        (forget(4), in_use),
         (lookup(0), Told::Refused(codes::UNIQUE_ZERO)),
-        (
-            error(6, NO_SUCH_NAME),
-            Told::Refused(codes::NO_REQUEST_WAITS),
-        ),
+        (error(6, NO_SUCH_NAME), no_request),
         (notice(5), Told::Refused(codes::NOTIFICATION)),
         // A request whose reply is refused waits on.
         (error(4, 1), Told::Refused(codes::ERROR_VALUE)),
-        (
-            error(4, NO_SUCH_CALL),
-            Told::Refused(codes::OPEN_WITHOUT_HANDLE),
-        ),
+        (error(4, NOT_IMPLEMENTED), no_handle),
         (ok(4), Told::Refused(codes::REPLY_BODY)),
         (data(4, &[0; 16]), Told::Answered(3, 2)),
-        (
-            error(4, NO_SUCH_NAME),
-            Told::Refused(codes::NO_REQUEST_WAITS),
-        ),
+        (error(4, NO_SUCH_NAME), no_request),
         (lookup(4), Told::Asked(4)),
     ];
-    Ok(expect_each(&rt, alloc, &messages)?)
+    Ok(expect_each(&rt, rt.alloc(), &messages)?)
 }
 
 // ---- want of memory
@@ -470,7 +471,8 @@ fn told_again<'a>(
     told_by(&handed_in(rt, session, &packet))
 }
 
-/// The session alone takes memory here, so the test shows what it does where one allocation or another is refused once.
+/// The session alone takes memory here. An ordinary run has ample memory, so only a run by
+/// `rt try --test --fail-alloc N`, which refuses the Nth allocation, shows what the session does without it.
 #[test]
 fn a_message_without_memory_is_handed_in_again(rt: HostRuntime) {
     let mut messages = [READLINK; 100];
