@@ -132,9 +132,9 @@ IsEmptyBody body reply = (reply ≡ Empty) × (body ≡ [])
 abbrev pub IsNegotiatedBody : List ℕ → PlainReply → Type 0
 IsNegotiatedBody body reply = (n : Negotiated) × (reply ≡ InitAnswer n) × IsInitOut body n
 
--- The body of a success to a request with this opcode and body: one case for each operation that is
--- judged, and one for those that are read by their headers alone. FORGET and BATCH_FORGET have no
--- answer.
+-- The body of a success to a request with this opcode and body: one case for each operation whose
+-- body is read, and one for those that are read by their headers alone. FORGET and BATCH_FORGET have
+-- no answer.
 abbrev pub IsSuccessBody : (opcode : ℕ) → PlainBody → List ℕ → PlainReply → Type 0
 IsSuccessBody opcode (Lookup name) body reply = IsEntryBody body reply
 IsSuccessBody opcode (Forget nlookup) body reply = ⊥

@@ -114,7 +114,7 @@ changers = 39 ∷ 43 ∷ 45 ∷ 47 ∷ []  -- IOCTL, FALLOCATE, RENAME2, COPY_FI
 abbrev pub IsOperation : ℕ → Type 0
 IsOperation opcode = (1 ≤ opcode) × (opcode ≤ 47) × (opcode ≢ 7) × (opcode ≢ 19) × (opcode ≢ 41)
 
--- The body of a request with this opcode: one case for each operation that is judged, with its
+-- The body of a request with this opcode: one case for each operation whose body is read, with its
 -- number in enum fuse_opcode of fuse.h, and one for those that are read by their headers alone.
 abbrev pub IsRequestBody : ℕ → List ℕ → PlainBody → Type 0
 -- a name

@@ -4,7 +4,7 @@ ghost use Rattle.std.specs.Prelude.{◌≡◌, ◌↔◌, ◌++◌, ℕ, List, [
 ghost use Rattle.fa_capture.specs.Checks.{FirstFailure};
 ghost use Rattle.fa_bodies.specs.Fields.{IsSpelled};
 ghost use Rattle.fa_bodies.specs.Fields.Field.{Name};
-ghost use Rattle.fa_bodies.specs.Requests.{PlainBody, IsOneOf, IsOperation, IsRequestBody, IsWithinLimit, bystanders, changers, body_checks, body_shown};
+ghost use Rattle.fa_bodies.specs.Requests.{PlainBody, IsRequestBody, IsWithinLimit, body_checks, body_shown};
 
 use crate::block::{Block, front, whole};
 use crate::flags::FattrFlags;
@@ -37,45 +37,6 @@ pub(crate) fn request_body(opcode: u32, body: &[u8]) -> Result<RequestBody<'_>, 
         return Err(codes::PROFILE_LIMIT);
     }
     Ok(body)
-}
-
-/// Whether this is the number of an operation of the set.
-fn is_operation(opcode: u32) -> bool
-    ensures { IsTrue result ↔ IsOperation opcode }
-{
-    matches!(opcode, LOOKUP..=SYMLINK | MKNOD..=RELEASE | FSYNC..=POLL | BATCH_FORGET..=COPY_FILE_RANGE)
-}
-
-/// Whether this operation is read by its header alone and has no effect.
-fn is_bystander(opcode: u32) -> bool
-    ensures { IsTrue result ↔ IsOneOf bystanders opcode }
-{
-    matches!(
-        opcode,
-        STATFS
-            | FSYNC
-            | SETXATTR
-            | GETXATTR
-            | LISTXATTR
-            | REMOVEXATTR
-            | FSYNCDIR
-            | GETLK
-            | SETLK
-            | SETLKW
-            | ACCESS
-            | INTERRUPT
-            | BMAP
-            | DESTROY
-            | POLL
-            | LSEEK
-    )
-}
-
-/// Whether this operation is read by its header alone and changes files.
-fn is_changer(opcode: u32) -> bool
-    ensures { IsTrue result ↔ IsOneOf changers opcode }
-{
-    matches!(opcode, IOCTL | FALLOCATE | RENAME2 | COPY_FILE_RANGE)
 }
 
 /// The body of a request with this opcode, if the bytes are one.

@@ -1,5 +1,8 @@
 //! The operations, by their numbers in `fuse.h` (`enum fuse_opcode`).
 
+ghost use Rattle.std.specs.Prelude.{◌↔◌, IsTrue};
+ghost use Rattle.fa_bodies.specs.Requests.{IsOneOf, IsOperation, bystanders, changers};
+
 /// Looks up a name in a directory.
 pub const LOOKUP: u32 = 1;
 /// Takes back lookups of a node.
@@ -88,3 +91,44 @@ pub const RENAME2: u32 = 45;
 pub const LSEEK: u32 = 46;
 /// Copies bytes from file to file.
 pub const COPY_FILE_RANGE: u32 = 47;
+
+/// Whether this is the number of an operation of the set.
+pub(crate) fn is_operation(opcode: u32) -> bool
+    ensures { IsTrue result ↔ IsOperation opcode }
+{
+    matches!(opcode, LOOKUP..=SYMLINK | MKNOD..=RELEASE | FSYNC..=POLL | BATCH_FORGET..=COPY_FILE_RANGE)
+}
+
+/// Whether this operation is read by its header alone and has no effect.
+pub(crate) fn is_bystander(opcode: u32) -> bool
+    ensures { IsTrue result ↔ IsOneOf bystanders opcode }
+{
+    matches!(
+        opcode,
+        STATFS
+            | FSYNC
+            | SETXATTR
+            | GETXATTR
+            | LISTXATTR
+            | REMOVEXATTR
+            | FSYNCDIR
+            | GETLK
+            | SETLK
+            | SETLKW
+            | ACCESS
+            | INTERRUPT
+            | BMAP
+            | DESTROY
+            | POLL
+            | LSEEK
+    )
+}
+
+/// Whether this operation is read by its header alone and changes files: IOCTL, FALLOCATE, RENAME2 or COPY_FILE_RANGE.
+///
+/// Takes no memory, in constant time.
+pub fn is_changer(opcode: u32) -> bool
+    ensures { IsTrue result ↔ IsOneOf changers opcode }
+{
+    matches!(opcode, IOCTL | FALLOCATE | RENAME2 | COPY_FILE_RANGE)
+}

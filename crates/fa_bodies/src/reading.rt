@@ -2,13 +2,13 @@
 
 ghost use Rattle.std.specs.Prelude.{◌≡◌, ◌↔◌, ℤ, IsTrue, IfOk, IfErr, OnOk, IfSome, IfNone};
 ghost use Rattle.fa_capture.specs.Checks.{AllHold, FirstFailure};
-ghost use Rattle.fa_bodies.specs.Requests.{PlainRequest, IsRequest, MayBeAnswered, body_shown, request_shown, request_checks};
+ghost use Rattle.fa_bodies.specs.Requests.{PlainRequest, IsRequest, request_shown, request_checks};
 ghost use Rattle.fa_bodies.specs.Replies.{PlainReply, IsErrorValue, IsNotificationCode, IsReplyHead, IsReply, Says, head_checks, reply_shown, reply_head_checks, reply_checks};
 
 use crate::bodies::request_body;
 use crate::headers::{IN_HEADER, OUT_HEADER, check_length, in_header_at, out_header_at};
 use crate::replies::{Reply, ReplyHead};
-use crate::requests::{Request, RequestBody};
+use crate::requests::Request;
 use crate::successes::success;
 use fa_capture::{Packet, codes};
 
@@ -141,19 +141,9 @@ fn said<'a>(asked: &Request<'_>, error: i32, body: &'a [u8]) -> Option<Reply<'a>
 {
     if error == 0 {
         success(asked.opcode, &asked.body, body)
-    } else if error < 0 && body.is_empty() && may_be_answered(&asked.body) {
+    } else if error < 0 && body.is_empty() && asked.body.may_be_answered() {
         Some(Reply::Refused(error))
     } else {
         None
     }
-}
-
-/// Whether a request may be answered: all but those that only forget.
-fn may_be_answered(body: &RequestBody<'_>) -> bool
-    ensures { IsTrue result ↔ MayBeAnswered (body_shown body.now) }
-{
-    !matches!(
-        body,
-        RequestBody::Forget { .. } | RequestBody::BatchForget { .. }
-    )
 }

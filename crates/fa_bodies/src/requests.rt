@@ -1,5 +1,8 @@
 //! Requests, as the kernel sends them.
 
+ghost use Rattle.std.specs.Prelude.{◌↔◌, IsTrue};
+ghost use Rattle.fa_bodies.specs.Requests.{MayBeAnswered, body_shown};
+
 use crate::attributes::{GetattrIn, SetattrIn};
 use crate::flags::OpenFlags;
 use crate::handles::{FlushIn, OpenIn, ReadIn, ReleaseIn};
@@ -103,6 +106,20 @@ pub enum RequestBody<'a> {
     Readdirplus(ReadIn),
     /// An operation that is read by its header alone.
     Passed,
+}
+
+impl RequestBody<'_> {
+    /// Whether the request may be answered, as all may but FORGET and BATCH_FORGET (this profile, as the kernel).
+    ///
+    /// Takes no memory, in constant time.
+    pub fn may_be_answered(&self) -> bool
+        ensures { IsTrue result ↔ MayBeAnswered (body_shown self.now) }
+    {
+        !matches!(
+            self,
+            RequestBody::Forget { .. } | RequestBody::BatchForget { .. }
+        )
+    }
 }
 
 /// A request: the fields of its header (`struct fuse_in_header`) that are read, and its body.

@@ -1,4 +1,5 @@
--- The checks of a message after the messages before it, each with its code, and which messages they allow.
+-- The checks of a message after the messages before it, each with its code, and which messages they allow. Their codes
+-- and their order are this profile's.
 use Rattle.std.specs.Prelude.{◌≡◌, ◌≢◌, ℕ, List, [], ◌∷◌, ◌++◌, slice_get, take, Some}
 use Rattle.fa_capture.specs.declared.codes.TheConstants.{FIRST_NOT_INIT, SECOND_INIT, BEFORE_INIT_ANSWERED, INIT_REFUSED, VERSION, NEGOTIATED_FLAGS, UNIQUE_IN_USE, NO_REQUEST_WAITS, LEFT_OUT_SUCCEEDED, OPEN_WITHOUT_HANDLE, UNIQUE_ZERO, REPLY_BODY}
 use Rattle.fa_capture.specs.declared.packet.Direction.{Direction}

@@ -1,5 +1,5 @@
--- Which request a reply answers, and which requests still wait for one. What is said of a message depends on it and
--- on the messages before it alone.
+-- Which request a reply answers, and which requests still wait for one: by `unique` of struct fuse_in_header, which
+-- struct fuse_out_header of fuse.h repeats. What is said of a message depends on it and on the messages before it alone.
 use Rattle.std.specs.Prelude.{◌≡◌, ◌≢◌, ℕ, ◌<◌, ◌⊎◌, List, slice_get, take, Some}
 use Rattle.fa_capture.specs.declared.packet.Direction.TheVariants.{ToServer, FromServer}
 use Rattle.fa_capture.specs.Message.{Message}

@@ -43,6 +43,10 @@ waiting_for s unique = find nat_cmp unique s.waiting
 abbrev pub uniques : PlainSession → List ℕ
 uniques s = map (λ e. e.0) s.waiting
 
+-- Memory is wanted for a request: it may be answered, and no outstanding request has its unique.
+abbrev pub IsMemoryWanted : PlainSession → PlainRequest → Type 0
+IsMemoryWanted s r = MayBeAnswered r.body × (waiting_for s r.unique ≡ None)
+
 -- the one more message is a request, which is outstanding from now on if it may be answered
 pub record IsAsked (old : PlainSession) (r : PlainRequest) (new : PlainSession) : Type 0 where
   pub counted : new.messages ≡ old.messages + 1

@@ -1,13 +1,16 @@
 //! Why a session does not take a message.
 
 use std::alloc::AllocFailed;
+use thiserror::Error;
 
 /// Why a session does not take a message. The session is as it was.
-#[derive(Clone, Copy, Debug, PartialEq, Eq)]
+#[derive(Clone, Copy, Debug, PartialEq, Eq, Hash, Error)]
 pub enum SessionError {
     /// The message is not allowed: the code of the first check that it fails, one of [`codes`](fa_capture::codes).
+    #[error("not allowed, by code {0}")]
     Refused(u16),
     /// Memory for an outstanding request was refused.
+    #[error("out of memory")]
     Memory,
 }
 

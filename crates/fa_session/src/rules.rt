@@ -3,7 +3,7 @@
 ghost use Rattle.std.specs.Prelude.{◌≡◌, ◌↔◌, IsTrue, OnOk, IfErr};
 ghost use Rattle.fa_capture.specs.Checks.{AllHold, FirstFailure};
 ghost use Rattle.fa_bodies.specs.Flags.{HasFlag, init_bits};
-ghost use Rattle.fa_bodies.specs.Requests.{IsOneOf, changers, MayBeAnswered, body_shown, request_shown};
+ghost use Rattle.fa_bodies.specs.Requests.{body_shown, request_shown};
 ghost use Rattle.fa_bodies.specs.Replies.{reply_shown};
 ghost use Rattle.fa_session.specs.Rules.{IsInit, IsInterrupt};
 ghost use Rattle.fa_session.specs.Steps.{init_checked, reply_checked, flags_of};
@@ -40,26 +40,6 @@ pub(crate) fn may_replace(waiting: &Request<'_>, request: &Request<'_>) -> bool
     is_interrupt(request) && is_interrupt(waiting)
 }
 
-/// Whether a request may be answered: all but those that only forget.
-pub(crate) fn may_be_answered(body: &RequestBody<'_>) -> bool
-    ensures { IsTrue result ↔ MayBeAnswered (body_shown body.now) }
-{
-    !matches!(
-        body,
-        RequestBody::Forget { .. } | RequestBody::BatchForget { .. }
-    )
-}
-
-/// Whether an operation changes files in ways that are not judged here.
-fn is_changer(opcode: u32) -> bool
-    ensures { IsTrue result ↔ IsOneOf changers opcode }
-{
-    matches!(
-        opcode,
-        opcodes::IOCTL | opcodes::FALLOCATE | opcodes::RENAME2 | opcodes::COPY_FILE_RANGE
-    )
-}
-
 /// Whether both sides set the flag.
 fn is_agreed(init: &InitIn, answer: &Negotiated, flag: InitFlags) -> bool
     ensures { IsTrue result ↔ (HasFlag (init_bits init.now.flags) (init_bits flag) × HasFlag (init_bits answer.now.flags) (init_bits flag)) }
@@ -92,7 +72,7 @@ pub(crate) fn check_reply(asked: &Request<'_>, reply: &Reply<'_>) -> Result<(), 
     match (&asked.body, reply) {
         (RequestBody::Init(_), Reply::Refused(_)) => Err(codes::INIT_REFUSED),
         (RequestBody::Init(init), Reply::Negotiated(answer)) => check_init_answer(init, answer),
-        (_, Reply::Skipped) if is_changer(asked.opcode) => Err(codes::LEFT_OUT_SUCCEEDED),
+        (_, Reply::Skipped) if opcodes::is_changer(asked.opcode) => Err(codes::LEFT_OUT_SUCCEEDED),
         (RequestBody::Open(_) | RequestBody::Opendir(_), Reply::Refused(NOT_IMPLEMENTED)) => {
             Err(codes::OPEN_WITHOUT_HANDLE)
         }

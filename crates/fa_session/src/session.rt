@@ -1,21 +1,21 @@
 //! A session, message by message.
 
-ghost use Rattle.std.specs.Prelude.{◌≡◌, ◌↔◌, ◌<◌, ◌∷◌, ◌++◌, List, [], OnOk, OnErr, IfOk, IfErr, IfSome, IsTrue, option_map, None};
+ghost use Rattle.std.specs.Prelude.{◌≡◌, ◌↔◌, ◌<◌, ◌∷◌, ◌++◌, List, [], OnOk, OnErr, IfOk, IfErr, IfSome, IsTrue, option_map};
 ghost use Rattle.fa_capture.specs.Checks.{AllHold, FirstFailure};
 ghost use Rattle.fa_capture.specs.Message.{Message, message};
 ghost use Rattle.fa_capture.specs.declared.limits.TheConstants.{MAX_MESSAGES};
-ghost use Rattle.fa_bodies.specs.Requests.{request_shown, MayBeAnswered};
+ghost use Rattle.fa_bodies.specs.Requests.{request_shown};
 ghost use Rattle.fa_session.specs.declared.error.SessionError.TheVariants.{Memory};
 ghost use Rattle.fa_session.specs.Allowed.{IsAllowed};
 ghost use Rattle.fa_session.specs.Events.{event_shown, IsEvent};
 ghost use Rattle.fa_session.specs.Refusals.{IsRefusal};
 ghost use Rattle.fa_session.specs.Shows.{Shows};
-ghost use Rattle.fa_session.specs.Steps.{request_checked, waiting_for, IsAsked, IsAnswered, noticed};
+ghost use Rattle.fa_session.specs.Steps.{request_checked, waiting_for, IsAsked, IsMemoryWanted, IsAnswered, noticed};
 ghost use Rattle.fa_session.specs.View.{waiting_shown};
 
 use crate::error::SessionError;
 use crate::event::Event;
-use crate::rules::{agreed_flags, check_reply, is_init, may_be_answered, may_replace};
+use crate::rules::{agreed_flags, check_reply, is_init, may_replace};
 use crate::waiting::Waiting;
 use fa_bodies::{Request, reply_body, reply_head, request};
 use fa_capture::{Direction, Packet, codes};
@@ -30,7 +30,9 @@ mod tests;
 /// requests that are outstanding.
 #[derive(Drop)]
 pub struct Session<'a> {
+    /// How many messages came.
     messages: u32,
+    /// The flags that both sides set at INIT, once it was answered.
     negotiated: Option<u32>,
     /// The outstanding requests by their uniques.
     waiting: IndexMap<u64, Waiting<'a>>,
@@ -206,10 +208,10 @@ impl<'a> Session<'a> {
         requires { self.old.messages < MAX_MESSAGES }
         ensures at { IfOk result (λ at. at ≡ self.old.messages) }
         ensures noted { OnOk result (IsAsked self.old (request_shown request.now) self.new) }
-        ensures memory { IfErr result (λ error. (error ≡ Memory) × MayBeAnswered (request_shown request.now).body × (waiting_for self.old request.now.unique ≡ None)) }
+        ensures memory { IfErr result (λ error. (error ≡ Memory) × IsMemoryWanted self.old (request_shown request.now)) }
         ensures unchanged { OnErr result (self.new ≡ self.old) }
     {
-        if !may_be_answered(&request.body) {
+        if !request.body.may_be_answered() {
             return Ok(self.next_number());
         }
         let waiting = Waiting {

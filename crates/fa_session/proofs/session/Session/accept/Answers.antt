@@ -29,7 +29,7 @@ returns-in_err-at-in-ToServer-clause-refused c =
     let p = err_from_is_err_and c.from_residual-in_err-at-in-ToServer.result c.from_residual-in_err-at-in-ToServer.ensures.1 in
     rw (p.1, p.2, wanted.0) (λ before shows. (
       request_passes before m (request_shown arm.request) is arm.ensures.passes (c.in_ok-check_request-in-ToServer.ensures.ok before shows),
-      newly_outstanding before m c.args.self.now (request_shown arm.request) is shows wanted.1 wanted.2,
+      newly_outstanding before m c.args.self.now (request_shown arm.request) is shows wanted.1.0 wanted.1.1,
     ))
 
 pub returns-then-head-eq0-clause-passes : goal.returns-then-head-eq0-clause-passes

@@ -9,7 +9,7 @@ use Rattle.fa_session.proofs.session.Session.note_request.Goals as goal
 pub returns-in_err-insert-clause-memory : goal.returns-in_err-insert-clause-memory
 returns-in_err-insert-clause-memory c =
     let p = err_from_is_err_and c.from_residual.result c.from_residual.ensures.1 in
-    rw p.1 (p.2, c.if-not-may_be_answered.ensures.0 refl, none_shown c.self.inside c.args.self.now c.args.request.now.unique c.self.view_is c.in_err-insert.ensures.absent)
+    rw p.1 (p.2, (c.if-not-may_be_answered.ensures.0 refl, none_shown c.self.inside c.args.self.now c.args.request.now.unique c.self.view_is c.in_err-insert.ensures.absent))
 
 pub returns-clause-noted : goal.returns-clause-noted
 returns-clause-noted c =
