@@ -18,7 +18,7 @@ use Rattle.fa_bodies.specs.Requests.PlainBody.{Lookup}
 use Rattle.fa_bodies.specs.Replies.{PlainReply, IsReply, reply_shown}
 use Rattle.fa_session.specs.declared.error.SessionError.{SessionError}
 use Rattle.fa_session.specs.declared.error.SessionError.TheVariants.{Refused}
-use Rattle.fa_session.specs.Answers.{IsRequestMessage, IsReplyMessage, IsNotificationMessage, IsRequestAt, IsOutstanding, Answers, AnswersAt}
+use Rattle.fa_session.specs.Answers.{IsRequestMessage, IsReplyMessage, IsNotificationMessage, IsRequestAt, IsOutstanding, Answers, AnswersAt, IsRepliedAt}
 use Rattle.fa_session.specs.Laws.{AnswersOne, AnsweredOnce}
 use Rattle.fa_session.specs.Plain.{PlainSession}
 use Rattle.fa_session.specs.Shows.{Shows}
@@ -28,7 +28,7 @@ use Rattle.fa_audit.specs.declared.calls.Refusal.{Refusal}
 use Rattle.fa_audit.specs.declared.calls.Refusal.TheVariants.{Memory}
 use Rattle.fa_audit.specs.Refusal.{IsMessageRefusal, IsRefusal}
 use Rattle.fa_audit.specs.Faults.{Passes, EachPasses, IsMessageFault, message_checks}
-use Rattle.fa_audit.specs.Replay.{IsTreeBody, IsTreeRequestAt, IsUnanswered, IsRepliedBy}
+use Rattle.fa_audit.specs.Replay.{IsTreeBody, IsTreeRequestAt, IsUnanswered}
 use Rattle.fa_audit.specs.Calls.{asked_at, AreAnswered, AreSoFar, AreCalls}
 use Rattle.fa_audit.proofs.GrowthLemmas.{get_kept, get_back, get_last, get_cases, take_before, take_all_before, one_direction, asked_before, asked_cases, still_waits, waits_now, answered_now}
 use Rattle.fa_audit.proofs.MessageLemmas.{passes_free, notice_is_no_reply}
@@ -98,7 +98,7 @@ numbered_more : (calls : List Call) (call : Call) → asked_at (calls ++ call �
 numbered_more calls call = map-append (λ (x : Call). x.at) calls (call ∷ [])
 
 -- what was replied is so still
-replied_still : (c : List Message) (m : Message) (q p : ℕ) (r : PlainRequest) (reply : PlainReply) → IsRepliedBy c q p r reply → IsRepliedBy (c ++ m ∷ []) q p r reply
+replied_still : (c : List Message) (m : Message) (q p : ℕ) (r : PlainRequest) (reply : PlainReply) → IsRepliedAt c q p r reply → IsRepliedAt (c ++ m ∷ []) q p r reply
 replied_still c m q p r reply replied =
     let below : q < length c = slice_get_within c q replied.0 replied.1 in (
       replied.0,
@@ -108,7 +108,7 @@ replied_still c m q p r reply replied =
     )
 
 -- and what is replied now
-replied_now : (c : List Message) (m : Message) (p : ℕ) (r : PlainRequest) (reply : PlainReply) → Answers c m p r → IsReply r m.bytes reply → IsRepliedBy (c ++ m ∷ []) (length c) p r reply
+replied_now : (c : List Message) (m : Message) (p : ℕ) (r : PlainRequest) (reply : PlainReply) → Answers c m p r → IsReply r m.bytes reply → IsRepliedAt (c ++ m ∷ []) (length c) p r reply
 replied_now c m p r reply answers says = (m, get_last c m, subst (λ (x : List Message). Answers x m p r) (sym (take_all_before c m)) answers, says)
 
 answered_grows : (c : List Message) (m : Message) (calls : List Call) → AreAnswered c calls → AreAnswered (c ++ m ∷ []) calls
@@ -256,8 +256,8 @@ pub so_far_answered : AnswersOne → AnsweredOnce → (c : List Message) (m : Me
 so_far_answered one once c m r calls waiting call so_far answers says tree here = record {
   answered = λ i other is. elim (get_cases calls call i other is) [
     | inl below ↦ answered_grows c m calls so_far.answered i other (get_back calls (call ∷ []) i other below is)
-    | inr last ↦ subst (λ (x : Call). (s : PlainRequest) × IsTreeBody s.body × IsRepliedBy (c ++ m ∷ []) x.answered x.at s (reply_shown x.reply)) (sym last.1)
-        (r, tree, subst (λ (k : ℕ). IsRepliedBy (c ++ m ∷ []) k call.at r (reply_shown call.reply)) (sym here) (replied_now c m call.at r (reply_shown call.reply) answers says))
+    | inr last ↦ subst (λ (x : Call). (s : PlainRequest) × IsTreeBody s.body × IsRepliedAt (c ++ m ∷ []) x.answered x.at s (reply_shown x.reply)) (sym last.1)
+        (r, tree, subst (λ (k : ℕ). IsRepliedAt (c ++ m ∷ []) k call.at r (reply_shown call.reply)) (sym here) (replied_now c m call.at r (reply_shown call.reply) answers says))
   ];
   distinct = λ i j earlier later before is also. elim (get_cases calls call j later also) [
     | inl below ↦ so_far.distinct i j earlier later before (get_back calls (call ∷ []) i earlier (omega (arith, before, below)) is) (get_back calls (call ∷ []) j later below also)

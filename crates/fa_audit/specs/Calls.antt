@@ -1,12 +1,15 @@
 -- The tree requests of some messages, each with its answer.
-use Rattle.std.specs.Prelude.{◌≡◌, ◌≢◌, ℕ, ◌<◌, ◌⊎◌, List, map, Contains, slice_get, Some}
+use Rattle.std.specs.Prelude.{◌≡◌, ◌≢◌, ℕ, ◌<◌, ◌⊎◌, List, [], ◌∷◌, ◌++◌, map, Contains, slice_get, Some}
 use Rattle.std.specs.List.Sorted.{IsStrictlyIncreasing}
 use Rattle.fa_capture.specs.Message.{Message}
 use Rattle.fa_bodies.specs.Requests.{PlainRequest}
 use Rattle.fa_bodies.specs.Replies.{reply_shown}
-use Rattle.fa_session.specs.Answers.{IsOutstanding}
+use Rattle.fa_session.specs.Answers.{IsOutstanding, IsRepliedAt}
+use Rattle.fa_session.specs.Events.{PlainEvent, IsEvent}
 use Rattle.fa_audit.specs.declared.calls.Call.{Call}
-use Rattle.fa_audit.specs.Replay.{IsTreeBody, IsTreeRequestAt, IsUnanswered, IsRepliedBy}
+use Rattle.fa_audit.specs.declared.calls.Calls.{Calls}
+use Rattle.fa_audit.specs.Faults.{Passes}
+use Rattle.fa_audit.specs.Replay.{IsTreeBody, IsTreeRequestAt, IsUnanswered}
 
 -- the message numbers of the calls
 abbrev pub asked_at : List Call → List ℕ
@@ -16,7 +19,7 @@ asked_at calls = map (λ call. call.at) calls
 abbrev pub AreAnswered : List Message → List Call → Type 0
 AreAnswered c calls =
     (i : ℕ) (call : Call) → slice_get calls i ≡ Some call
-    → (r : PlainRequest) × IsTreeBody r.body × IsRepliedBy c call.answered call.at r (reply_shown call.reply)
+    → (r : PlainRequest) × IsTreeBody r.body × IsRepliedAt c call.answered call.at r (reply_shown call.reply)
 
 -- no request is in two calls
 abbrev pub AreDistinct : List Call → Type 0
@@ -47,3 +50,9 @@ pub record AreCalls (c : List Message) (calls : List Call) (unanswered : List �
   pub complete : (p : ℕ) → IsTreeRequestAt c p → Contains (asked_at calls) p ⊎ Contains unanswered p
   pub left : (p : ℕ) → Contains unanswered p → IsTreeRequestAt c p × IsUnanswered c p
   pub rising : IsStrictlyIncreasing unanswered
+
+-- one more message that passes and is this event takes these calls to those
+abbrev pub TakesEvent : PlainEvent → Calls → Calls → Type 0
+TakesEvent event old new =
+    (c : List Message) (m : Message) → AreSoFar c old.answered.items old.unanswered.items → Passes c m → IsEvent c m event
+    → AreSoFar (c ++ m ∷ []) new.answered.items new.unanswered.items

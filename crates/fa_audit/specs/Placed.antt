@@ -6,6 +6,7 @@ use Rattle.fa_capture.specs.Message.{Message}
 use Rattle.fa_bodies.specs.Requests.{PlainRequest}
 use Rattle.fa_bodies.specs.Replies.{PlainReply, reply_shown}
 use Rattle.fa_audit.specs.declared.calls.Call.{Call}
+use Rattle.fa_audit.specs.declared.calls.Calls.{Calls}
 use Rattle.fa_audit.specs.declared.order.Entry.{Entry}
 use Rattle.fa_audit.specs.declared.replay.ReplayError.{ReplayError}
 use Rattle.fa_audit.specs.declared.replay.ReplayError.TheVariants.{AtFault, Memory}
@@ -107,7 +108,7 @@ IsLesser (Some other) at lesser = lesser ≡ min other at
 
 -- ---- orders
 
--- the entries are a valid order and a run from an empty root, and so many unanswered tree requests are in none of them
+-- The entries are a valid order and a run from an empty root, and so many unanswered tree requests are in none of them.
 pub record IsExplained (c : List Message) (entries : List Entry) (left : ℕ) : Type 0 where
   pub valid : IsValidOrder c entries
   pub run : Run c empty_root entries empty_root
@@ -117,3 +118,13 @@ pub record IsExplained (c : List Message) (entries : List Entry) (left : ℕ) : 
 abbrev pub IsUnexplained : List Message → List Entry → ReplayError → Type 0
 IsUnexplained c entries (AtFault f) = IsOrderAtFault c empty_root entries f.entry f.at f.code
 IsUnexplained c entries Memory = Unit {0}
+
+-- in all messages with these calls the entries are explained, with so many unanswered requests left out
+abbrev pub AreExplained : Calls → List Entry → ℕ → Type 0
+AreExplained calls entries left =
+    (c : List Message) → AreReplayed c calls.answered.items calls.unanswered.items → IsExplained c entries left
+
+-- in all messages with these calls this is why the entries do not explain them
+abbrev pub AreUnexplained : Calls → List Entry → ReplayError → Type 0
+AreUnexplained calls entries error =
+    (c : List Message) → AreReplayed c calls.answered.items calls.unanswered.items → IsUnexplained c entries error

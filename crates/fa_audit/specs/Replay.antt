@@ -28,13 +28,9 @@ IsAnsweredBy c p q = (r : PlainRequest) × AnswersAt c q p r
 abbrev pub IsUnanswered : List Message → ℕ → Type 0
 IsUnanswered c p = (q : ℕ) → IsAnsweredBy c p q → ⊥
 
--- message q answers the request at p, and says this
-abbrev pub IsRepliedBy : List Message → ℕ → ℕ → PlainRequest → PlainReply → Type 0
-IsRepliedBy c q p r reply = IsRepliedAt c q p r reply
-
 -- the request at p was answered, and its reply says this
 abbrev pub IsRepliedTo : List Message → ℕ → PlainRequest → PlainReply → Type 0
-IsRepliedTo c p r reply = (q : ℕ) × IsRepliedBy c q p r reply
+IsRepliedTo c p r reply = (q : ℕ) × IsRepliedAt c q p r reply
 
 -- the message numbers of the entries
 abbrev pub numbers : List Entry → List ℕ

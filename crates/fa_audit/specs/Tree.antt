@@ -72,18 +72,31 @@ abbrev pub OnRefusal : PlainReply → (ℤ → Type 0) → Type 0
 OnRefusal (Refused error) Such = Such error
 OnRefusal other Such = Unit {0}
 
--- One step: from this tree the request may get this reply and leave the new tree. Its node stands for a file, and on
--- that file a success is allowed, or an error has its cause where it needs one. LOOKUP changes nothing.
+-- the request's node stands for a file
+abbrev pub IsKnownHere : Tree → PlainRequest → Type 0
+IsKnownHere tree r = (file : ℕ) × StandsFor tree r.node file
+
+-- a success is allowed on the file that the request's node stands for
+abbrev pub IsSuccessAllowed : Tree → PlainRequest → PlainReply → Type 0
+IsSuccessAllowed tree r reply =
+    OnSuccess reply ((file : ℕ) × StandsFor tree r.node file × MaySucceed tree r.body file reply)
+
+-- an error has its cause, where it needs one, at the file that the request's node stands for
+abbrev pub IsErrorCaused : Tree → PlainRequest → PlainReply → Type 0
+IsErrorCaused tree r reply =
+    OnRefusal reply (λ error. IsDetermined error → (file : ℕ) × StandsFor tree r.node file × HasCause tree r.body file error)
+
+-- One step: from this tree the request may get this reply and leave the new tree. LOOKUP changes nothing.
 pub record Step (tree : Tree) (r : PlainRequest) (reply : PlainReply) (new : Tree) : Type 0 where
-  pub known : (file : ℕ) × StandsFor tree r.node file
-  pub success : OnSuccess reply ((file : ℕ) × StandsFor tree r.node file × MaySucceed tree r.body file reply)
-  pub cause : OnRefusal reply (λ error. IsDetermined error → (file : ℕ) × StandsFor tree r.node file × HasCause tree r.body file error)
+  pub known : IsKnownHere tree r
+  pub success : IsSuccessAllowed tree r reply
+  pub cause : IsErrorCaused tree r reply
   pub same : new ≡ tree
 
 -- the checks of a step, in their order
 abbrev pub step_checks : Tree → PlainRequest → PlainReply → List (ℕ × Type 0)
 step_checks tree r reply =
-    (UNKNOWN_HERE, (file : ℕ) × StandsFor tree r.node file)
-    ∷ (SUCCESS_NOT_ALLOWED, OnSuccess reply ((file : ℕ) × StandsFor tree r.node file × MaySucceed tree r.body file reply))
-    ∷ (ERROR_WITHOUT_CAUSE, OnRefusal reply (λ error. IsDetermined error → (file : ℕ) × StandsFor tree r.node file × HasCause tree r.body file error))
+    (UNKNOWN_HERE, IsKnownHere tree r)
+    ∷ (SUCCESS_NOT_ALLOWED, IsSuccessAllowed tree r reply)
+    ∷ (ERROR_WITHOUT_CAUSE, IsErrorCaused tree r reply)
     ∷ []

@@ -8,7 +8,7 @@ ghost use Rattle.fa_session.specs.Events.{IsEvent, event_shown};
 ghost use Rattle.fa_audit.specs.declared.calls.Refusal.TheVariants.{Memory};
 ghost use Rattle.fa_audit.specs.Faults.{Passes, EachPasses};
 ghost use Rattle.fa_audit.specs.Replay.{IsTreeBody};
-ghost use Rattle.fa_audit.specs.Calls.{AreSoFar, AreCalls};
+ghost use Rattle.fa_audit.specs.Calls.{AreSoFar, AreCalls, TakesEvent};
 ghost use Rattle.fa_audit.specs.Refusal.{IsRefusal};
 
 use crate::messages::accept;
@@ -62,10 +62,9 @@ impl<T: Drop> From<AllocFailed<T>> for Refusal {
 ///
 /// # Cost
 ///
-/// One pass. At each message expected time linear in its bytes, as of [`Session::accept`], and at an answer also in the
-/// tree requests that wait. Memory for
-/// the outstanding requests, for one [`Call`] an answered tree request and for the number of one that waits, which
-/// grows by doubling.
+/// One pass. At each message expected time linear in its bytes, as of [`Session::accept`], and at an answer also in
+/// the tree requests that wait. Memory for the outstanding requests, for one [`Call`] an answered tree request and
+/// for the number of one that waits, which grows by doubling.
 pub fn calls_of<'a>(alloc: Global, packets: &[Packet<'a>]) -> Result<Calls<'a>, Refusal>
     requires { length packets.now ≤ MAX_MESSAGES }
     ensures passes { OnOk result (EachPasses (messages packets.now) (length packets.now)) }
@@ -118,7 +117,7 @@ impl<'a> Calls<'a> {
     /// Takes what the next message is: a tree request waits, until its answer makes it a call. After want of memory the
     /// calls are of no use any more.
     fn take(&mut self, event: &Event<'a>) -> Result<(), Refusal>
-        ensures taken { OnOk result ((c : List Message) (m : Message) → AreSoFar c self.old.answered.items self.old.unanswered.items → Passes c m → IsEvent c m (event_shown event.now) → AreSoFar (c ++ m ∷ []) self.new.answered.items self.new.unanswered.items) }
+        ensures taken { OnOk result (TakesEvent (event_shown event.now) self.old self.new) }
         ensures memory { IfErr result (λ refusal. refusal ≡ Memory) }
     {
         // What a message is, and which request it answers, is one.

@@ -20,29 +20,32 @@ mod tests;
 /// Judges a capture and an order.
 ///
 /// The capture is judged message by message, by the message grammar of fuse.h 7.31, the operations that are judged so
-/// far, and this profile's rules of a session and of node ids. Then the order text is read, in this profile's format, and its entries are replayed on a tree that
-/// is an empty root with the permission bits 755 (octal), by steps modelled on POSIX.1-2017. No tree text can be handed
-/// in yet: `tree` is None. The order text has at most 268,435,456 bytes.
+/// far, and this profile's rules of a session and of node ids. Then the order text is read, in this profile's format,
+/// and its entries are replayed on a tree that is an empty root with the permission bits 755 (octal), by steps
+/// modelled on POSIX.1-2017. No tree text can be handed in yet: `tree` is None. The order text has at most
+/// 268,435,456 bytes.
 ///
 /// - [`Verdict::Fault`] exactly where the capture is not good: at the least number of a message that does not pass or
 ///   of the framing fault, with the first check that it fails, as one of [`codes`](fa_capture::codes).
-/// - [`Verdict::NotShown`] exactly where the capture is good and the order text is in its grammar, at the first entry that fails
-///   a check, with the first such check, or after all entries at the least answered request that they leave out.
+/// - [`Verdict::NotShown`] exactly where the capture is good and the order text is in its grammar, at the first entry
+///   that fails a check, with the first such check, or after all entries at the least answered request that they
+///   leave out.
 /// - [`Verdict::Legal`] exactly where the capture is good, the order text is in its grammar and its entries are a valid
 ///   order and a run of the tree machine that gives each recorded reply.
 ///
 /// # Errors
 ///
 /// - [`AuditError::OrderText`] exactly where the capture is good and the order text is not in its grammar.
-/// - [`AuditError::Memory`] where memory was refused: for the lists of messages, of tree requests or of entries, for the
-///   requests that wait, or for which calls are placed.
+/// - [`AuditError::Memory`] where memory was refused: for the lists of messages, of tree requests or of entries, for
+///   the requests that wait, or for which calls are placed.
 ///
 /// # Cost
 ///
-/// Expected time, as of [`Session::accept`](fa_session::Session::accept), linear in the bytes of the capture and of the
-/// order, and in two sums: of the tree requests that wait at each answer, and of the answers that come while each
-/// entry's request waits. Where many requests wait at once these are quadratic at most. Memory for a packet a message, for each outstanding request, for a call and a byte an
-/// answered tree request, for a number an unanswered one and for an entry a line; message bytes are not copied.
+/// Expected time, as of [`Session::accept`](fa_session::Session::accept), linear in the bytes of the capture and of
+/// the order, and in two sums: of the tree requests that wait at each answer, and of the answers that come while each
+/// entry's request waits. Where many requests wait at once these are quadratic at most. Memory for a packet a
+/// message, for each outstanding request, for a call and a byte an answered tree request, for a number an unanswered
+/// one and for an entry a line; message bytes are not copied.
 pub fn audit(
     alloc: Global,
     capture: &[u8],

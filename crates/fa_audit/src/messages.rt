@@ -26,7 +26,10 @@ const ROOT_NODE: u64 = 1;
 ///
 /// # Errors
 ///
-/// - [`SessionError::Refused`] where the message does not pass, with the code of the first check that it fails.
+/// - [`SessionError::Refused`] where the message does not pass, with the code of the first check that it fails:
+///   `OPERATION` for a request of an operation that is not admitted, those of [`Session::accept`], and then
+///   `FORGOTTEN_NODE` for a request that names a node which is not known, and `NODE_ID_NOT_ALLOWED` for a reply that
+///   gives a node id which it may not.
 /// - [`SessionError::Memory`] where memory for an outstanding request was refused.
 ///
 /// # Cost
@@ -65,13 +68,8 @@ fn check_operation(packet: &Packet<'_>) -> Result<(), u16>
     match packet.direction {
         Direction::FromServer => Ok(()),
         Direction::ToServer => match request(packet) {
-            Ok(request) => {
-                if is_admitted(request.opcode) {
-                    Ok(())
-                } else {
-                    Err(codes::OPERATION)
-                }
-            }
+            Ok(request) if is_admitted(request.opcode) => Ok(()),
+            Ok(_) => Err(codes::OPERATION),
             // The session tells why it is no request.
             Err(_) => Ok(()),
         },

@@ -4,7 +4,7 @@ ghost use Rattle.std.specs.Prelude.{◌≡◌, ◌<◌, ◌≤◌, ◌^◌, ◌=
 ghost use Rattle.fa_capture.specs.Message.{Message};
 ghost use Rattle.fa_bodies.specs.Replies.{reply_shown};
 ghost use Rattle.fa_audit.specs.Calls.{asked_at};
-ghost use Rattle.fa_audit.specs.Placed.{IsUncaused, StepAllows, StepRefuses, IsFront, IsNonePlaced, AreReplayed, IsCallAt, IsEarly, FailsAfter, IsNext, IsLesser, IsLeastLeft, IsExplained, IsUnexplained};
+ghost use Rattle.fa_audit.specs.Placed.{IsUncaused, StepAllows, StepRefuses, IsFront, IsNonePlaced, IsCallAt, IsEarly, FailsAfter, IsNext, IsLesser, IsLeastLeft, AreExplained, AreUnexplained};
 
 use crate::calls::{Call, Calls};
 use crate::order::Entry;
@@ -31,6 +31,7 @@ pub struct EntryFault {
     pub entry: u32,
     /// The entry's message number, or that of the request left out.
     pub at: u32,
+    /// The code of the first check that the entry fails, or `ANSWERED_LEFT_OUT`.
     pub code: u16,
 }
 
@@ -95,38 +96,38 @@ fn place_of(calls: &[Call<'_>], front: usize, at: u32) -> Option<usize>
     ensures found { IfSome result (λ place. IsCallAt calls.now place at) }
     ensures none { IfNone result (Contains (asked_at calls.now) at → ⊥) }
 {
-    let (placed, rest) = calls.split_at(front);
+    let (before, rest) = calls.split_at(front);
     match first_place(rest, at) {
         Some(place) => Some(front + place),
-        None => first_place(placed, at),
+        None => first_place(before, at),
     }
 }
 
 /// The place of the first call that is not placed.
-fn first_open(placed: &[bool]) -> Option<usize>
-    ensures { result ≡ position not placed.now }
+fn first_open(marks: &[bool]) -> Option<usize>
+    ensures { result ≡ position not marks.now }
 {
-    placed.iter().position(|is_placed| !*is_placed)
+    marks.iter().position(|is_placed| !*is_placed)
 }
 
 /// How many calls at the beginning are all placed.
-fn front_of(placed: &[bool]) -> usize
-    ensures { IsFront placed.now result }
+fn front_of(marks: &[bool]) -> usize
+    ensures { IsFront marks.now result }
 {
-    match first_open(placed) {
+    match first_open(marks) {
         Some(place) => place,
-        None => placed.len(),
+        None => marks.len(),
     }
 }
 
 /// The least message number of a call that is not placed.
-fn least_left(calls: &[Call<'_>], placed: &[bool]) -> Option<u32>
-    requires { length placed.now ≡ length calls.now }
-    ensures { IsLeastLeft calls.now placed.now result }
+fn least_left(calls: &[Call<'_>], marks: &[bool]) -> Option<u32>
+    requires { length marks.now ≡ length calls.now }
+    ensures { IsLeastLeft calls.now marks.now result }
 {
     let mut least = None;
     for (place, call) in calls.iter().enumerate() {
-        if !placed[place] {
+        if !marks[place] {
             least = Some(lesser(least, call.at));
         }
     }
@@ -147,7 +148,7 @@ fn lesser(least: Option<u32>, at: u32) -> u32
 #[derive(Debug, Drop)]
 struct Placed {
     /// For each call whether it is placed.
-    calls: Vec<bool>,
+    marks: Vec<bool>,
     /// How many calls at the beginning are all placed.
     front: usize,
 }
@@ -155,11 +156,11 @@ struct Placed {
 impl Placed {
     /// None of so many calls.
     fn none(alloc: Global, count: usize) -> Result<Self, AllocError>
-        ensures none { IfOk result (λ placed. IsNonePlaced count placed.calls.items) }
+        ensures none { IfOk result (λ placed. IsNonePlaced count placed.marks.items) }
         ensures front { IfOk result (λ placed. placed.front ≡ 0) }
     {
         Ok(Placed {
-            calls: vec![in alloc; false; count]?,
+            marks: vec![in alloc; false; count]?,
             front: 0,
         })
     }
@@ -177,9 +178,9 @@ impl Placed {
     /// The code of an entry for a message that is no answered tree request. One that is not answered only reads, so it
     /// can't be placed.
     fn unanswered_code(&self, calls: &Calls<'_>, entry: Entry) -> u16
-        requires front { IsFront self.now.calls.items self.now.front }
+        requires front { IsFront self.now.marks.items self.now.front }
         requires not_answered { Contains (asked_at calls.now.answered.items) entry.at → ⊥ }
-        ensures { FailsAfter calls.now.answered.items calls.now.unanswered.items self.now.calls.items entry result }
+        ensures { FailsAfter calls.now.answered.items calls.now.unanswered.items self.now.marks.items entry result }
     {
         // A request is answered by one message at most.
         fa_session::laws::answered_once();
@@ -194,17 +195,17 @@ impl Placed {
 
     /// The place of the call that an entry places next. The error is the code of the first check that the entry fails.
     fn check(&self, calls: &Calls<'_>, entry: Entry) -> Result<usize, u16>
-        requires sized { length self.now.calls.items ≡ length calls.now.answered.items }
-        requires front { IsFront self.now.calls.items self.now.front }
-        ensures next { IfOk result (IsNext calls.now.answered.items self.now.calls.items self.now.front entry) }
-        ensures fault { IfErr result (FailsAfter calls.now.answered.items calls.now.unanswered.items self.now.calls.items entry) }
+        requires sized { length self.now.marks.items ≡ length calls.now.answered.items }
+        requires front { IsFront self.now.marks.items self.now.front }
+        ensures next { IfOk result (IsNext calls.now.answered.items self.now.marks.items self.now.front entry) }
+        ensures fault { IfErr result (FailsAfter calls.now.answered.items calls.now.unanswered.items self.now.marks.items entry) }
     {
         // A request is answered by one message at most.
         fa_session::laws::answered_once();
         let Some(place) = place_of(&calls.answered, self.front, entry.at) else {
             return Err(self.unanswered_code(calls, entry));
         };
-        if self.calls[place] {
+        if self.marks[place] {
             return Err(codes::PLACED_TWICE);
         }
         if self.leaves_earlier(calls, entry.at) {
@@ -219,13 +220,13 @@ impl Placed {
 
     /// Notes that the call at this place is placed.
     fn note(&mut self, place: usize)
-        requires within { place < length self.old.calls.items }
-        requires front { IsFront self.old.calls.items self.old.front }
-        ensures noted { self.new.calls.items ≡ set self.old.calls.items place true }
-        ensures front { IsFront self.new.calls.items self.new.front }
+        requires within { place < length self.old.marks.items }
+        requires front { IsFront self.old.marks.items self.old.front }
+        ensures noted { self.new.marks.items ≡ set self.old.marks.items place true }
+        ensures front { IsFront self.new.marks.items self.new.front }
     {
-        self.calls[place] = true;
-        let (_, rest) = self.calls.split_at(self.front);
+        self.marks[place] = true;
+        let (_, rest) = self.marks.split_at(self.front);
         self.front += front_of(rest);
     }
 }
@@ -237,8 +238,10 @@ impl Placed {
 ///
 /// # Errors
 ///
-/// - [`ReplayError::AtFault`] with the first entry at fault, or after all entries with the least answered request that
-///   they leave out.
+/// - [`ReplayError::AtFault`] with the first entry at fault and the code of the first check that it fails:
+///   `NO_TREE_REQUEST`, `PLACED_TWICE`, `EARLIER_NOT_PLACED` or `CHOICE_NOT_ALLOWED` of its place, or
+///   `SUCCESS_NOT_ALLOWED` or `ERROR_WITHOUT_CAUSE` of its step. After all entries with the least answered request that
+///   they leave out, and `ANSWERED_LEFT_OUT`.
 /// - [`ReplayError::Memory`] where memory was refused.
 ///
 /// # Cost
@@ -248,8 +251,8 @@ impl Placed {
 pub fn replay(alloc: Global, calls: &Calls<'_>, entries: &[Entry]) -> Result<u32, ReplayError>
     requires entries { length entries.now < 2 ^ 32 }
     requires unanswered { length calls.now.unanswered.items < 2 ^ 32 }
-    ensures explained { IfOk result (λ left. (c : List Message) → AreReplayed c calls.now.answered.items calls.now.unanswered.items → IsExplained c entries.now left) }
-    ensures fault { IfErr result (λ error. (c : List Message) → AreReplayed c calls.now.answered.items calls.now.unanswered.items → IsUnexplained c entries.now error) }
+    ensures explained { IfOk result (AreExplained calls.now entries.now) }
+    ensures fault { IfErr result (AreUnexplained calls.now entries.now) }
 {
     // A request is answered by one message at most.
     fa_session::laws::answered_once();
@@ -266,7 +269,7 @@ pub fn replay(alloc: Global, calls: &Calls<'_>, entries: &[Entry]) -> Result<u32
             }
         }
     }
-    match least_left(&calls.answered, &placed.calls) {
+    match least_left(&calls.answered, &placed.marks) {
         Some(at) => Err(ReplayError::AtFault(EntryFault {
             entry: entries.len() as u32,
             at,

@@ -10,7 +10,7 @@ use Rattle.fa_audit.proofs.replay.Placed.check.Goals as goal
 pub returns-then-index-clause-fault : goal.returns-then-index-clause-fault
 returns-then-index-clause-fault c = λ messages earlier known so_far.
     let calls = c.args.calls.now.answered.items in
-    let placed = c.args.self.now.calls.items in
+    let placed = c.args.self.now.marks.items in
     let at : IsCallAt calls c.in-Some.place c.args.entry.at = subst (λ (xs : List Call). IsCallAt xs c.in-Some.place c.args.entry.at) c.deref.ensures.value c.in-Some.ensures.found in
     let within : c.in-Some.place < length calls = slice_get_within calls c.in-Some.place at.0 at.1 in
     fails_twice messages calls c.args.calls.now.unanswered.items known earlier placed c.args.entry c.in-Some.place so_far at
@@ -19,7 +19,7 @@ returns-then-index-clause-fault c = λ messages earlier known so_far.
 pub returns-then-leaves_earlier-clause-fault : goal.returns-then-leaves_earlier-clause-fault
 returns-then-leaves_earlier-clause-fault c = λ messages earlier known so_far.
     let calls = c.args.calls.now.answered.items in
-    let placed = c.args.self.now.calls.items in
+    let placed = c.args.self.now.marks.items in
     let at : IsCallAt calls c.in-Some.place c.args.entry.at = subst (λ (xs : List Call). IsCallAt xs c.in-Some.place c.args.entry.at) c.deref.ensures.value c.in-Some.ensures.found in
     let within : c.in-Some.place < length calls = slice_get_within calls c.in-Some.place at.0 at.1 in
     fails_early_call messages calls c.args.calls.now.unanswered.items known earlier placed c.args.self.now.front c.args.entry c.in-Some.place so_far c.requires.front
@@ -29,7 +29,7 @@ returns-then-leaves_earlier-clause-fault c = λ messages earlier known so_far.
 pub returns-then-is_some-clause-fault : goal.returns-then-is_some-clause-fault
 returns-then-is_some-clause-fault c = λ messages earlier known so_far.
     let calls = c.args.calls.now.answered.items in
-    let placed = c.args.self.now.calls.items in
+    let placed = c.args.self.now.marks.items in
     let at : IsCallAt calls c.in-Some.place c.args.entry.at = subst (λ (xs : List Call). IsCallAt xs c.in-Some.place c.args.entry.at) c.deref.ensures.value c.in-Some.ensures.found in
     let within : c.in-Some.place < length calls = slice_get_within calls c.in-Some.place at.0 at.1 in
     fails_count messages calls c.args.calls.now.unanswered.items known c.answered_once.ensures earlier placed c.args.self.now.front c.args.entry c.in-Some.place so_far c.requires.front
@@ -46,7 +46,7 @@ index-requires-2 c =
 pub returns-in_err-check_step-clause-fault : goal.returns-in_err-check_step-clause-fault
 returns-in_err-check_step-clause-fault c =
     let calls = c.args.calls.now.answered.items in
-    let placed = c.args.self.now.calls.items in
+    let placed = c.args.self.now.marks.items in
     let at : IsCallAt calls c.in-Some.place c.args.entry.at = subst (λ (xs : List Call). IsCallAt xs c.in-Some.place c.args.entry.at) c.deref.ensures.value c.in-Some.ensures.found in
     let within : c.in-Some.place < length calls = slice_get_within calls c.in-Some.place at.0 at.1 in
     let read : c.index-2.result.now ≡ at.0 = c.index-2.ensures ∙ get_or_from_slice_get calls c.in-Some.place at.0 c.index-2.result.now at.1 in
@@ -61,7 +61,7 @@ returns-in_err-check_step-clause-fault c =
 pub returns-clause-next : goal.returns-clause-next
 returns-clause-next c =
     let calls = c.args.calls.now.answered.items in
-    let placed = c.args.self.now.calls.items in
+    let placed = c.args.self.now.marks.items in
     let at : IsCallAt calls c.in-Some.place c.args.entry.at = subst (λ (xs : List Call). IsCallAt xs c.in-Some.place c.args.entry.at) c.deref.ensures.value c.in-Some.ensures.found in
     let within : c.in-Some.place < length calls = slice_get_within calls c.in-Some.place at.0 at.1 in
     let read : c.index-2.result.now ≡ at.0 = c.index-2.ensures ∙ get_or_from_slice_get calls c.in-Some.place at.0 c.index-2.result.now at.1 in
