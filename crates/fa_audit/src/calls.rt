@@ -1,10 +1,10 @@
 //! The tree requests of a capture, each with its answer.
 
-ghost use Rattle.std.specs.Prelude.{◌≡◌, ◌↔◌, ◌≤◌, ◌==◌, not, filter, ◌∷◌, ◌++◌, List, [], length, IsTrue, IfOk, IfErr, OnOk};
-ghost use Rattle.fa_capture.specs.Message.{Message, messages};
+ghost use Rattle.std.specs.Prelude.{◌≡◌, ◌↔◌, ◌≤◌, ◌==◌, not, filter, [], length, IsTrue, IfOk, IfErr, OnOk};
+ghost use Rattle.fa_capture.specs.Message.{messages};
 ghost use Rattle.fa_capture.specs.declared.limits.TheConstants.{MAX_MESSAGES};
 ghost use Rattle.fa_bodies.specs.Requests.{body_shown};
-ghost use Rattle.fa_session.specs.Events.{IsEvent, event_shown};
+ghost use Rattle.fa_session.specs.Events.{event_shown};
 ghost use Rattle.fa_audit.specs.declared.calls.Refusal.TheVariants.{Memory};
 ghost use Rattle.fa_audit.specs.Faults.{Passes, EachPasses};
 ghost use Rattle.fa_audit.specs.Replay.{IsTreeBody};

@@ -1,10 +1,10 @@
 //! The messages of a capture, one after the other: the session's rules, and those of operations and of nodes.
 
-ghost use Rattle.std.specs.Prelude.{◌≡◌, ◌<◌, ◌∷◌, ◌++◌, List, [], OnOk, IfOk, IfErr, IsTrue, ◌↔◌};
+ghost use Rattle.std.specs.Prelude.{◌<◌, ◌∷◌, ◌++◌, List, [], OnOk, IfOk, IfErr, IsTrue, ◌↔◌};
 ghost use Rattle.fa_capture.specs.Checks.{AllHold, FirstFailure};
 ghost use Rattle.fa_capture.specs.Message.{Message, message};
 ghost use Rattle.fa_capture.specs.declared.limits.TheConstants.{MAX_MESSAGES};
-ghost use Rattle.fa_bodies.specs.Requests.{body_shown, request_shown};
+ghost use Rattle.fa_bodies.specs.Requests.{body_shown};
 ghost use Rattle.fa_bodies.specs.Replies.{reply_shown};
 ghost use Rattle.fa_session.specs.Events.{IsEvent, event_shown};
 ghost use Rattle.fa_session.specs.Shows.{Shows};

@@ -1,7 +1,6 @@
 //! The replay: whether an order explains each recorded reply.
 
-ghost use Rattle.std.specs.Prelude.{◌≡◌, ◌<◌, ◌≤◌, ◌^◌, ◌==◌, ◌↔◌, true, not, ℕ, List, length, position, set, Contains, IsTrue, IfOk, IfErr, IfSome, IfNone, OnOk};
-ghost use Rattle.fa_capture.specs.Message.{Message};
+ghost use Rattle.std.specs.Prelude.{◌≡◌, ◌<◌, ◌≤◌, ◌^◌, ◌==◌, ◌↔◌, true, not, length, position, set, Contains, IsTrue, IfOk, IfErr, IfSome, IfNone, OnOk};
 ghost use Rattle.fa_bodies.specs.Replies.{reply_shown};
 ghost use Rattle.fa_audit.specs.Calls.{asked_at};
 ghost use Rattle.fa_audit.specs.Placed.{IsUncaused, StepAllows, StepRefuses, IsFront, IsNonePlaced, IsCallAt, IsEarly, FailsAfter, IsNext, IsLesser, IsLeastLeft, AreExplained, AreUnexplained};

@@ -1,6 +1,6 @@
 //! The bodies of requests: one reader for each shape.
 
-ghost use Rattle.std.specs.Prelude.{◌≡◌, ◌↔◌, ◌++◌, ℕ, List, [], ◌∷◌, IsTrue, IfSome, IfNone, IfOk, IfErr};
+ghost use Rattle.std.specs.Prelude.{◌↔◌, ◌++◌, ℕ, List, [], ◌∷◌, IsTrue, IfSome, IfNone, IfOk, IfErr};
 ghost use Rattle.fa_capture.specs.Checks.{FirstFailure};
 ghost use Rattle.fa_bodies.specs.Fields.{IsSpelled};
 ghost use Rattle.fa_bodies.specs.Fields.Field.{Name};

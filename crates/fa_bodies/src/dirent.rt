@@ -1,6 +1,6 @@
 //! Directory entries.
 
-ghost use Rattle.std.specs.Prelude.{◌≡◌, ◌∷◌, [], ◌↔◌, ℕ, List, length, IsTrue, IfSome, IfNone, MatchOption, Option, refl};
+ghost use Rattle.std.specs.Prelude.{◌≡◌, ◌∷◌, [], ℕ, List, length, IfSome, IfNone, MatchOption, Option, refl};
 ghost use Rattle.fa_bodies.specs.declared.entry.EntryOut.{EntryOut};
 ghost use Rattle.fa_bodies.specs.Dirents.{PlainDirent, dirent_shown, HasEntry, IsPaddedName, IsDirent};
 ghost use Rattle.fa_bodies.specs.Structs.{dirent_head};

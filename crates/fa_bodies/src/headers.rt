@@ -1,6 +1,6 @@
 //! The headers of messages.
 
-ghost use Rattle.std.specs.Prelude.{◌≡◌, ◌≤◌, ℕ, List, length, OnOk, IfErr};
+ghost use Rattle.std.specs.Prelude.{◌≤◌, length, OnOk, IfErr};
 ghost use Rattle.fa_capture.specs.Checks.{AllHold, FirstFailure};
 ghost use Rattle.fa_bodies.specs.Fields.{BeginsWith};
 ghost use Rattle.fa_bodies.specs.Structs.{in_header, out_header};

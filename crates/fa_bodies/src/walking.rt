@@ -1,6 +1,6 @@
 //! Walks over the lists that messages hold.
 
-ghost use Rattle.std.specs.Prelude.{◌≡◌, ℕ, ◌*◌, ◌≤◌, List, [], length, IfSome, IfNone};
+ghost use Rattle.std.specs.Prelude.{◌≡◌, ◌*◌, ◌≤◌, List, [], length, IfSome, IfNone};
 ghost use Rattle.fa_bodies.specs.Dirents.{PlainDirent, AreEntries, HoldsEntries};
 ghost use Rattle.fa_bodies.specs.ForgetOnes.{HoldsItems};
 ghost use Rattle.fa_bodies.specs.Items.{items_in, items_left};

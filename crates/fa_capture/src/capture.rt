@@ -1,10 +1,10 @@
 //! A capture's bytes as packets.
 
-ghost use Rattle.std.specs.Prelude.{◌≡◌, ◌≢◌, ℕ, ◌+◌, ◌≤◌, ◌<◌, [], ◌∷◌, ◌++◌, length, vec_len, IfOk, IfErr, Ok, Some};
+ghost use Rattle.std.specs.Prelude.{◌≡◌, ◌≤◌, ◌<◌, length, vec_len, IfOk, IfErr, Ok, Some};
 ghost use Rattle.std.specs.Option.{ForSome};
 ghost use Rattle.fa_capture.specs.Checks.{FirstFailure};
 ghost use Rattle.fa_capture.specs.Message.{message, messages};
-ghost use Rattle.fa_capture.specs.Framing.{IsFramed, record_spelling};
+ghost use Rattle.fa_capture.specs.Framing.{IsFramed};
 ghost use Rattle.fa_capture.specs.Reading.{IsReading, IsRecord, record_checks};
 ghost use Rattle.fa_capture.specs.declared.codes.TheConstants.{NO_MAGIC, CAPTURE_TOO_LARGE};
 

@@ -1,6 +1,6 @@
 //! Readers and writers as inputs and outputs.
 
-ghost use Rattle.std.specs.Prelude.{◌≡◌, ◌||◌, Bool, false, OnOk, is_err};
+ghost use Rattle.std.specs.Prelude.{◌≡◌, ◌||◌, false, OnOk, is_err};
 ghost use Rattle.std.specs.Io.KnownBytes.{Appends};
 ghost use Rattle.fa_capture.specs.Streams.{is_failed, is_interrupted, IsWithin, Pulls};
 ghost use Rattle.fa_capture.specs.Device.{device_inner, device_failed, device_interrupted, device_broken};

@@ -1,6 +1,6 @@
 //! Readers and writers of the tests' own, and what is made of them.
 
-ghost use Rattle.std.specs.Prelude.{◌≡◌, false, Bool};
+ghost use Rattle.std.specs.Prelude.{◌≡◌, false};
 ghost use Rattle.fa_capture.specs.Device.{device_failed, device_interrupted};
 
 use super::*;
