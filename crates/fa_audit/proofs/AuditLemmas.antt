@@ -20,7 +20,7 @@ use Rattle.std.specs.List.{flat_map}
 use Rattle.fa_audit.specs.Tree.{empty_root}
 use Rattle.fa_audit.specs.Calls.{AreCalls}
 use Rattle.fa_audit.specs.Placed.{AreReplayed, IsExplained}
-use Rattle.fa_audit.specs.Errors.{audit_error}
+use Rattle.fa_audit.specs.parts.Errors.{audit_error}
 use Rattle.fa_audit.specs.Verdict.{IsLegal, IsAnswer, Tells, Exactly, OneAnswer}
 use Rattle.fa_audit.proofs.OneAnswerLists.{rising_within}
 use Rattle.fa_audit.proofs.OrderLines.{entries_fit}

@@ -13,12 +13,13 @@ use Rattle.fa_capture.specs.Checks.{FirstFailure}
 use Rattle.fa_capture.specs.declared.packet.Packet.{Packet}
 use Rattle.fa_capture.specs.Message.{Message, message, messages}
 use Rattle.fa_bodies.specs.Laws.{RequestIsOne, ReplyHeadIsOne}
+use Rattle.fa_bodies.specs.declared.opcodes.TheConstants.{LOOKUP}
 use Rattle.fa_bodies.specs.Requests.{MayBeAnswered, PlainRequest, PlainBody, IsRequestBody}
 use Rattle.fa_bodies.specs.Requests.PlainBody.{Lookup}
 use Rattle.fa_bodies.specs.Replies.{PlainReply, IsReply, reply_shown}
 use Rattle.fa_session.specs.declared.error.SessionError.{SessionError}
 use Rattle.fa_session.specs.declared.error.SessionError.TheVariants.{Refused}
-use Rattle.fa_session.specs.Answers.{IsRequestMessage, IsReplyMessage, IsNotificationMessage, IsRequestAt, IsOutstanding, Answers, AnswersAt, IsRepliedAt}
+use Rattle.fa_session.specs.Answers.{IsRequestMessage, IsReplyMessage, IsNotificationMessage, IsRequestAt, IsOutstanding, Answers, AnswersAt, IsRepliedAt, IsUnanswered}
 use Rattle.fa_session.specs.Laws.{AnswersOne, AnsweredOnce}
 use Rattle.fa_session.specs.Plain.{PlainSession}
 use Rattle.fa_session.specs.Shows.{Shows}
@@ -28,9 +29,9 @@ use Rattle.fa_audit.specs.declared.calls.Refusal.{Refusal}
 use Rattle.fa_audit.specs.declared.calls.Refusal.TheVariants.{Memory}
 use Rattle.fa_audit.specs.Refusal.{IsMessageRefusal, IsRefusal}
 use Rattle.fa_audit.specs.Faults.{Passes, EachPasses, IsMessageFault, message_checks}
-use Rattle.fa_audit.specs.Replay.{IsTreeBody, IsTreeRequestAt, IsUnanswered}
+use Rattle.fa_audit.specs.Replay.{IsTreeBody, IsTreeRequestAt}
 use Rattle.fa_audit.specs.Calls.{asked_at, AreAnswered, AreSoFar, AreCalls}
-use Rattle.fa_audit.proofs.GrowthLemmas.{get_kept, get_back, get_last, get_cases, take_before, take_all_before, one_direction, asked_before, asked_cases, still_waits, waits_now, answered_now}
+use Rattle.fa_session.proofs.CallerLemmas.{get_kept, get_back, get_last, get_cases, take_before, take_all_before, one_direction, asked_before, asked_cases, waits_still, waits_now, answered_now}
 use Rattle.fa_audit.proofs.MessageLemmas.{passes_free, notice_is_no_reply}
 use Rattle.fa_audit.proofs.OneAnswerLists.{contains_cases, contains_first, contains_behind}
 use Rattle.fa_audit.proofs.OneAnswerRuns.{one_request_at, answered_asked, answer_after}
@@ -128,21 +129,21 @@ tree_answered (Lookup name) tree = tt
 tree_answered other tree = absurd tree
 
 -- a tree request is a LOOKUP
-tree_opcode : (opcode : ℕ) (bytes : List ℕ) (body : PlainBody) → IsTreeBody body → IsRequestBody opcode bytes body → opcode ≡ 1
+tree_opcode : (opcode : ℕ) (bytes : List ℕ) (body : PlainBody) → IsTreeBody body → IsRequestBody opcode bytes body → opcode ≡ LOOKUP
 tree_opcode opcode bytes (Lookup name) tree is = is.0
 tree_opcode opcode bytes other tree is = absurd tree
 
 -- the request of a message
-asked_opcode : (m : Message) (r : PlainRequest) → IsRequestMessage m r → IsTreeBody r.body → r.opcode ≡ 1
+asked_opcode : (m : Message) (r : PlainRequest) → IsRequestMessage m r → IsTreeBody r.body → r.opcode ≡ LOOKUP
 asked_opcode m r is tree = tree_opcode r.opcode is.1.body_bytes r.body tree is.1.body
 
 -- a request that passes leaves each tree request that waits
 asked_leaves : (c : List Message) (m : Message) (r : PlainRequest) → Passes c m → IsRequestMessage m r → (p : ℕ) (w : PlainRequest) → IsTreeBody w.body → IsOutstanding c p w → IsOutstanding (c ++ m ∷ []) p w
 asked_leaves c m r passes is p w tree waits =
-    still_waits c m p w waits (λ has. elim has [
+    waits_still c m p w waits (λ has. elim has [
       | inl request ↦
           let both = passes_free c m request.0 passes request.1 p w waits (sym request.2) in
-          let opcode : w.opcode ≡ 1 = asked_opcode waits.asked.0 w waits.asked.2 tree in
+          let opcode : w.opcode ≡ LOOKUP = asked_opcode waits.asked.0 w waits.asked.2 tree in
           omega (arith, opcode, both.1)
       | inr reply ↦ one_direction m is.0 reply.1.0
     ])
@@ -150,7 +151,7 @@ asked_leaves c m r passes is p w tree waits =
 -- a notification leaves each request that waits
 notice_leaves : ReplyHeadIsOne → (c : List Message) (m : Message) → IsNotificationMessage m → (p : ℕ) (w : PlainRequest) → IsOutstanding c p w → IsOutstanding (c ++ m ∷ []) p w
 notice_leaves one c m notice p w waits =
-    still_waits c m p w waits (λ has. elim has [
+    waits_still c m p w waits (λ has. elim has [
       | inl request ↦ one_direction m request.1.0 notice.1.0
       | inr reply ↦ notice_is_no_reply one m w.unique notice reply
     ])
@@ -158,7 +159,7 @@ notice_leaves one c m notice p w waits =
 -- a reply leaves each request that waits but the one that it answers
 answer_leaves : AnswersOne → (c : List Message) (m : Message) (asked : ℕ) (r : PlainRequest) → Answers c m asked r → (p : ℕ) (w : PlainRequest) → (p ≡ asked → ⊥) → IsOutstanding c p w → IsOutstanding (c ++ m ∷ []) p w
 answer_leaves one c m asked r answers p w apart waits =
-    still_waits c m p w waits (λ has. elim has [
+    waits_still c m p w waits (λ has. elim has [
       | inl request ↦ one_direction m request.1.0 answers.reply.1.0
       | inr reply ↦ apart (one c m p asked w r (record { reply = reply; outstanding = waits }) answers).0
     ])

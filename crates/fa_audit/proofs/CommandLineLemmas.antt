@@ -3,7 +3,7 @@ use Rattle.std.proofs.Common.{◌≡◌, List, Option, None, Some, option_map, o
 use Rattle.clap.specs.Words.{Row, Text, first_of, first_value, found_of, rows_of, subcommand_rows_of}
 use Rattle.clap.specs.declared.parser.matches.ArgMatches.{ArgMatches}
 use Rattle.clap.proofs.WalkLemmas.{first_value-rows}
-use Rattle.fa_audit.specs.CommandLine.{value_of}
+use Rattle.fa_audit.specs.parts.CommandLine.{value_of}
 
 -- the rows of the command that the words call are those of its matches
 first_of-rows : (option : Text) (command : Option (Text × List Row)) (rows : List Row)

@@ -1,5 +1,3 @@
-pub mod ChecksLemmas
-pub mod GrowthLemmas
 pub mod MessageLemmas
 pub mod CallsLemmas
 pub mod OrderDigits

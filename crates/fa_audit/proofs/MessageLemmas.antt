@@ -3,7 +3,7 @@ use Rattle.std.proofs.Common.{◌≡◌, ℕ, List, ◌++◌, refl, sym, ap, sub
 use Rattle.fa_capture.specs.declared.codes.TheConstants.{FORGOTTEN_NODE, NODE_ID_NOT_ALLOWED}
 use Rattle.fa_capture.specs.declared.packet.Direction.{Direction}
 use Rattle.fa_capture.specs.declared.packet.Direction.TheVariants.{ToServer, FromServer}
-use Rattle.fa_capture.specs.Checks.{FirstFailure, AllHold}
+use Rattle.fa_capture.specs.Checks.{FirstFailure, AllHold, checks_of}
 use Rattle.fa_capture.specs.Message.{Message}
 use Rattle.fa_bodies.specs.declared.replies.ReplyHead.{ReplyHead}
 use Rattle.fa_bodies.specs.Laws.{RequestIsOne, RequestPassesChecks, ReplyIsOne, ReplyHeadIsOne}
@@ -12,7 +12,7 @@ use Rattle.fa_bodies.specs.Replies.{PlainReply, IsReply}
 use Rattle.fa_session.specs.declared.error.SessionError.{SessionError}
 use Rattle.fa_session.specs.declared.error.SessionError.TheVariants as session
 use Rattle.fa_session.specs.Answers.{IsRequestMessage, IsReplyMessage, IsNotificationMessage, Answers}
-use Rattle.fa_session.specs.Allowed.{ForRequest, checks_of, request_rules, checks_by, session_checks}
+use Rattle.fa_session.specs.Allowed.{ForRequest, request_rules, checks_by, session_checks}
 use Rattle.fa_session.specs.Laws.{AnswersOne}
 use Rattle.fa_session.specs.Refusals.{IsRefusal}
 use Rattle.fa_session.specs.Rules.{IsUniqueFree}
@@ -20,7 +20,7 @@ use Rattle.fa_audit.specs.Operations.{IsAdmitted, operation_checks}
 use Rattle.fa_audit.specs.Nodes.{NamesKnown, GivesAllowed, node_checks_by, node_checks}
 use Rattle.fa_audit.specs.Faults.{Passes, message_checks}
 use Rattle.fa_audit.specs.Refusal.{IsMessageRefusal}
-use Rattle.fa_audit.proofs.ChecksLemmas.{fails_first, fails_behind, hold_front, hold_later, no_failure}
+use Rattle.fa_capture.proofs.CallerLemmas.{fails_first, fails_behind, hold_front, hold_later, no_failure}
 
 -- ---- the operation
 

@@ -17,7 +17,7 @@ use Rattle.fa_audit.specs.Order.{OneOrderText, OneOrderFault, TextHasNoFault}
 use Rattle.fa_audit.specs.Tree.{empty_root}
 use Rattle.fa_audit.specs.Replay.{IsUnansweredUnplaced, Counts, IsOrderAtFault}
 use Rattle.fa_audit.specs.Verdict.{IsLegal, IsNotShown, OneAnswer}
-use Rattle.fa_audit.proofs.ChecksLemmas.{no_failure, one_failure}
+use Rattle.fa_capture.proofs.CallerLemmas.{no_failure, one_failure}
 use Rattle.fa_audit.proofs.OneAnswerLists.{rising_same}
 use Rattle.fa_audit.proofs.OneAnswerRuns.{RepliedOnce, one_order_at_fault, valid_no_fault}
 

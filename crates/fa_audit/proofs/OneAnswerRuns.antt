@@ -11,12 +11,12 @@ use Rattle.fa_capture.specs.Message.{Message}
 use Rattle.fa_bodies.specs.Laws.{RequestIsOne, ReplyIsOne}
 use Rattle.fa_bodies.specs.Requests.{PlainRequest}
 use Rattle.fa_bodies.specs.Replies.{PlainReply, IsReply}
-use Rattle.fa_session.specs.Answers.{IsRequestMessage, IsRequestAt, AnswersAt}
+use Rattle.fa_session.specs.Answers.{IsRequestMessage, IsRequestAt, AnswersAt, IsAnsweredBy, IsRepliedTo}
 use Rattle.fa_session.specs.Laws.{AnsweredOnce}
 use Rattle.fa_audit.specs.declared.order.Entry.{Entry}
 use Rattle.fa_audit.specs.Tree.{Tree, Step, step_checks}
-use Rattle.fa_audit.specs.Replay.{EntryFails, IsTreeRequestAt, IsAnsweredBy, IsRepliedTo, numbers, IsChoice, IsValidOrder, EntryStep, Run, order_checks, EachPlaced, IsEntryAtFault, IsAnsweredUnplaced, LeavesOut, IsOrderAtFault}
-use Rattle.fa_audit.proofs.ChecksLemmas.{no_failure, one_failure}
+use Rattle.fa_audit.specs.Replay.{EntryFails, IsTreeRequestAt, numbers, IsChoice, IsValidOrder, EntryStep, Run, order_checks, EachPlaced, IsEntryAtFault, IsAnsweredUnplaced, LeavesOut, IsOrderAtFault}
+use Rattle.fa_capture.proofs.CallerLemmas.{no_failure, one_failure}
 use Rattle.fa_audit.proofs.OneAnswerLists.{get_from_take, same_parts, longer_front, contains_cases, contains_first, contains_behind, contains_longer, contains_front, contains_decided, parts_at, all_middle, pairs_before, pairs_behind}
 
 -- ---- answers

@@ -13,19 +13,20 @@ use Rattle.fa_capture.specs.Message.{Message}
 use Rattle.fa_bodies.specs.Requests.{PlainRequest, PlainBody}
 use Rattle.fa_bodies.specs.Requests.PlainBody.{Lookup}
 use Rattle.fa_bodies.specs.Replies.{reply_shown}
-use Rattle.fa_session.specs.Answers.{IsRequestAt, AnswersAt}
+use Rattle.fa_session.specs.Answers.{IsRequestAt, AnswersAt, IsAnsweredBy, IsUnanswered, IsRepliedTo}
 use Rattle.fa_session.specs.Allowed.{session_checks}
 use Rattle.fa_session.specs.Laws.{AnsweredOnce}
 use Rattle.fa_audit.specs.declared.calls.Call.{Call}
 use Rattle.fa_audit.specs.declared.order.Entry.{Entry}
 use Rattle.fa_audit.specs.Operations.{operation_checks}
-use Rattle.fa_audit.specs.Nodes.{root_node, NamesKnown, node_checks_by}
+use Rattle.fa_bodies.specs.declared.requests.TheConstants.{ROOT_ID}
+use Rattle.fa_audit.specs.Nodes.{NamesKnown, node_checks_by}
 use Rattle.fa_audit.specs.Faults.{EachPasses}
 use Rattle.fa_audit.specs.Tree.{Tree, empty_root}
-use Rattle.fa_audit.specs.Replay.{IsTreeBody, IsTreeRequestAt, IsAnsweredBy, IsUnanswered, IsRepliedTo, numbers, order_checks, EntryFails, EachPlaced, EntryStep, Run, IsAnsweredUnplaced, IsOrderAtFault}
+use Rattle.fa_audit.specs.Replay.{IsTreeBody, IsTreeRequestAt, numbers, order_checks, EntryFails, EachPlaced, EntryStep, Run, IsAnsweredUnplaced, IsOrderAtFault}
 use Rattle.fa_audit.specs.Calls.{asked_at}
 use Rattle.fa_audit.specs.Placed.{IsOnRoot, StepAllows, StepRefuses, IsPlaced, IsOpen, IsFront, IsNonePlaced, ArePlaced, AreReplayed, IsCallAt, IsEarly, FailsAfter, IsNext, IsLeastLeft, IsExplained}
-use Rattle.fa_audit.proofs.ChecksLemmas.{hold_later}
+use Rattle.fa_capture.proofs.CallerLemmas.{hold_later}
 use Rattle.fa_audit.proofs.OneAnswerLists.{parts_at, contains_cases}
 use Rattle.fa_audit.proofs.OneAnswerRuns.{answered_asked, placed_valid}
 use Rattle.fa_audit.proofs.PlaceLemmas.{element_at, get_set_same, get_set_other, get_set_back, call_of, number_of_call}
@@ -33,11 +34,11 @@ use Rattle.fa_audit.proofs.PlaceLemmas.{element_at, get_set_same, get_set_other,
 -- ---- nodes
 
 -- a tree request names the root, where all messages pass
-root_named : (before : List Message) (body : PlainBody) (node : ℕ) → IsTreeBody body → NamesKnown before body node → node ≡ root_node
+root_named : (before : List Message) (body : PlainBody) (node : ℕ) → IsTreeBody body → NamesKnown before body node → node ≡ ROOT_ID
 root_named before (Lookup name) node tree known = known
 root_named before other node tree known = absurd tree
 
-root_asked : (c : List Message) (p : ℕ) (r : PlainRequest) → EachPasses c (length c) → IsRequestAt c p r → IsTreeBody r.body → r.node ≡ root_node
+root_asked : (c : List Message) (p : ℕ) (r : PlainRequest) → EachPasses c (length c) → IsRequestAt c p r → IsTreeBody r.body → r.node ≡ ROOT_ID
 root_asked c p r passes asked tree =
     let within : p < length c = slice_get_within c p asked.0 asked.1 in
     let hold = passes p asked.0 within asked.1 in

@@ -3,6 +3,7 @@ use Rattle.std.proofs.Common.{◌≡◌, ℕ, List, refl, sym, subst, ◌∙◌,
 use Rattle.std.specs.Prelude.{ℤ, negsuc}
 use Rattle.fa_capture.specs.declared.codes.TheConstants.{ERROR_WITHOUT_CAUSE}
 use Rattle.fa_bodies.specs.declared.entry.EntryOut.{EntryOut}
+use Rattle.fa_bodies.specs.declared.errno.TheConstants.{ENOENT}
 use Rattle.fa_bodies.specs.Requests.{PlainBody}
 use Rattle.fa_bodies.specs.Requests.PlainBody.{Lookup}
 use Rattle.fa_bodies.specs.Replies.PlainReply.{Refused, Entry}
@@ -24,7 +25,7 @@ missing other e tree none = absurd tree
 pub allows_missing : (e : EntryOut) → e.nodeid ≡ 0 → StepAllows (Entry e)
 allows_missing e none r on = ((0, (on.1, refl)), ((0, (on.1, refl), missing r.body e on.0 none), (tt, tt)))
 
-no_cause : (body : PlainBody) (error : ℤ) (file : ℕ) → IsTreeBody body → (error ≡ negsuc 1 → ⊥) → file ≡ 0 → HasCause empty_root body file error → ⊥
+no_cause : (body : PlainBody) (error : ℤ) (file : ℕ) → IsTreeBody body → (error ≡ ENOENT → ⊥) → file ≡ 0 → HasCause empty_root body file error → ⊥
 no_cause (Lookup name) error file tree other root cause =
     elim cause [
       | inl missing ↦ other missing.0
@@ -38,7 +39,7 @@ determined error uncaused = inr uncaused
 neg_injective : (a b : ℕ) → negsuc a ≡ negsuc b → a ≡ b
 neg_injective a b e = cc
 
-not_missing : (error : ℤ) → IsUncaused error → error ≡ negsuc 1 → ⊥
+not_missing : (error : ℤ) → IsUncaused error → error ≡ ENOENT → ⊥
 not_missing error uncaused missing =
     elim uncaused [
       | inl exists ↦ absurd (omega (arith, neg_injective 1 16 (sym missing ∙ exists)))
@@ -56,10 +57,10 @@ pub refuses_uncaused : (error : ℤ) → IsUncaused error → StepRefuses (Refus
 refuses_uncaused error uncaused r on =
     inr ((0, (on.1, refl)), inr (tt, inl ((λ holds. let found = holds (determined error uncaused) in no_cause r.body error found.0 on.0 (not_missing error uncaused) found.1.1 found.2), refl)))
 
-not_uncaused : (error : ℤ) → (IsUncaused error → ⊥) → IsDetermined error → error ≡ negsuc 1
+not_uncaused : (error : ℤ) → (IsUncaused error → ⊥) → IsDetermined error → error ≡ ENOENT
 not_uncaused error caused is = elim is [ inl missing ↦ missing | inr uncaused ↦ absurd (caused uncaused) ]
 
-missing_causes : (body : PlainBody) (error : ℤ) → IsTreeBody body → error ≡ negsuc 1 → HasCause empty_root body 0 error
+missing_causes : (body : PlainBody) (error : ℤ) → IsTreeBody body → error ≡ ENOENT → HasCause empty_root body 0 error
 missing_causes (Lookup name) error tree missing = inl (missing, nothing_there 0 name)
 missing_causes other error tree missing = absurd tree
 

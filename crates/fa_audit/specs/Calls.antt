@@ -4,12 +4,12 @@ use Rattle.std.specs.List.Sorted.{IsStrictlyIncreasing}
 use Rattle.fa_capture.specs.Message.{Message}
 use Rattle.fa_bodies.specs.Requests.{PlainRequest}
 use Rattle.fa_bodies.specs.Replies.{reply_shown}
-use Rattle.fa_session.specs.Answers.{IsOutstanding, IsRepliedAt}
+use Rattle.fa_session.specs.Answers.{IsOutstanding, IsRepliedAt, IsUnanswered}
 use Rattle.fa_session.specs.Events.{PlainEvent, IsEvent}
 use Rattle.fa_audit.specs.declared.calls.Call.{Call}
 use Rattle.fa_audit.specs.declared.calls.Calls.{Calls}
 use Rattle.fa_audit.specs.Faults.{Passes}
-use Rattle.fa_audit.specs.Replay.{IsTreeBody, IsTreeRequestAt, IsUnanswered}
+use Rattle.fa_audit.specs.Replay.{IsTreeBody, IsTreeRequestAt}
 
 -- the message numbers of the calls
 abbrev pub asked_at : List Call → List ℕ

@@ -6,6 +6,8 @@ use Rattle.fa_audit.specs.declared.verdict.Verdict.{Verdict}
 use Rattle.fa_audit.specs.declared.verdict.Verdict.TheVariants.{Legal, Fault, NotShown}
 use Rattle.fa_audit.specs.declared.verdict.AuditError.{AuditError}
 use Rattle.fa_audit.specs.declared.verdict.AuditError.TheVariants.{OrderText, Memory}
+use Rattle.fa_audit.specs.declared.status.Status.TheVariants as status
+use Rattle.fa_audit.specs.Status.{status_number}
 
 -- the code that the verdict tells, if any, has a text
 abbrev pub IsCoded : Verdict → Type 0
@@ -44,8 +46,8 @@ answer_line (Err Memory) = []
 
 -- The status of each answer.
 abbrev pub answer_status : Result Verdict AuditError → ℕ
-answer_status (Ok (Legal messages placed left)) = 0
-answer_status (Ok (Fault at code)) = 1
-answer_status (Ok (NotShown entry at code)) = 2
-answer_status (Err (OrderText line)) = 3
-answer_status (Err Memory) = 5
+answer_status (Ok (Legal messages placed left)) = status_number status.Legal
+answer_status (Ok (Fault at code)) = status_number status.Fault
+answer_status (Ok (NotShown entry at code)) = status_number status.NotShown
+answer_status (Err (OrderText line)) = status_number status.Text
+answer_status (Err Memory) = status_number status.Failed

@@ -1,8 +1,9 @@
 -- What the replay knows: how the tree, which stays an empty root, judges a reply, which calls are placed, and how an
 -- entry is judged.
-use Rattle.std.specs.Prelude.{◌≡◌, ◌⊎◌, ◌↔◌, ◌≤◌, ◌<◌, ℕ, ℤ, negsuc, min, Bool, true, false, List, length, Contains, slice_get, Option, None, Some}
+use Rattle.std.specs.Prelude.{◌≡◌, ◌⊎◌, ◌↔◌, ◌≤◌, ◌<◌, ℕ, ℤ, min, Bool, true, false, List, length, Contains, slice_get, Option, None, Some}
 use Rattle.fa_capture.specs.Checks.{AllHold, FirstFailure}
 use Rattle.fa_capture.specs.Message.{Message}
+use Rattle.fa_bodies.specs.declared.errno.TheConstants.{EEXIST, ENOTDIR, EISDIR, ENOTEMPTY}
 use Rattle.fa_bodies.specs.Requests.{PlainRequest}
 use Rattle.fa_bodies.specs.Replies.{PlainReply, reply_shown}
 use Rattle.fa_audit.specs.declared.calls.Call.{Call}
@@ -11,7 +12,7 @@ use Rattle.fa_audit.specs.declared.order.Entry.{Entry}
 use Rattle.fa_audit.specs.declared.replay.ReplayError.{ReplayError}
 use Rattle.fa_audit.specs.declared.replay.ReplayError.TheVariants.{AtFault, Memory}
 use Rattle.fa_audit.specs.Faults.{EachPasses}
-use Rattle.fa_audit.specs.Nodes.{root_node}
+use Rattle.fa_bodies.specs.declared.requests.TheConstants.{ROOT_ID}
 use Rattle.fa_audit.specs.Tree.{empty_root, step_checks}
 use Rattle.fa_audit.specs.Replay.{IsTreeBody, numbers, EntryFails, IsValidOrder, Run, IsOrderAtFault, IsUnansweredUnplaced, Counts}
 use Rattle.fa_audit.specs.Calls.{asked_at, AreCalls}
@@ -20,7 +21,7 @@ use Rattle.fa_audit.specs.Calls.{asked_at, AreCalls}
 
 -- a tree request on the root
 abbrev pub IsOnRoot : PlainRequest → Type 0
-IsOnRoot r = IsTreeBody r.body × (r.node ≡ root_node)
+IsOnRoot r = IsTreeBody r.body × (r.node ≡ ROOT_ID)
 
 -- an empty root allows this reply to each tree request on it
 abbrev pub StepAllows : PlainReply → Type 0
@@ -32,7 +33,7 @@ StepRefuses reply code = (r : PlainRequest) → IsOnRoot r → FirstFailure (ste
 
 -- a determined error of LOOKUP other than ENOENT, which alone has its cause in an empty root
 abbrev pub IsUncaused : ℤ → Type 0
-IsUncaused error = (error ≡ negsuc 16) ⊎ (error ≡ negsuc 19) ⊎ (error ≡ negsuc 20) ⊎ (error ≡ negsuc 38)
+IsUncaused error = (error ≡ EEXIST) ⊎ (error ≡ ENOTDIR) ⊎ (error ≡ EISDIR) ⊎ (error ≡ ENOTEMPTY)
 
 -- ---- which calls are placed: for each call, by its place, whether it is
 

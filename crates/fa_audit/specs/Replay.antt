@@ -5,32 +5,43 @@ use Rattle.fa_capture.specs.declared.codes.TheConstants.{NO_TREE_REQUEST, PLACED
 use Rattle.fa_capture.specs.Checks.{FirstFailure, AllHold}
 use Rattle.fa_capture.specs.Message.{Message}
 use Rattle.fa_bodies.specs.Requests.{PlainRequest, PlainBody}
-use Rattle.fa_bodies.specs.Requests.PlainBody.{Lookup}
+use Rattle.fa_bodies.specs.Requests.PlainBody.{Lookup, Forget, Getattr, Setattr, Readlink, Symlink, Mknod, Mkdir, Unlink, Rmdir, Rename, Link, Open, Read, Write, Release, Flush, Init, Opendir, Readdir, Releasedir, Create, BatchForget, Readdirplus, Passed}
 use Rattle.fa_bodies.specs.Replies.{PlainReply}
-use Rattle.fa_session.specs.Answers.{IsRequestAt, AnswersAt, IsRepliedAt}
+use Rattle.fa_session.specs.Answers.{IsRequestAt, IsAnsweredBy, IsUnanswered, IsRepliedTo}
 use Rattle.fa_audit.specs.declared.order.Entry.{Entry}
 use Rattle.fa_audit.specs.Tree.{Tree, Step, step_checks}
 
 -- a request that acts on the tree: a LOOKUP, and none of another operation yet
 abbrev pub IsTreeBody : PlainBody → Type 0
 IsTreeBody (Lookup name) = Unit {0}
-IsTreeBody other = ⊥
+IsTreeBody (Forget nlookup) = ⊥
+IsTreeBody (Getattr g) = ⊥
+IsTreeBody (Setattr s) = ⊥
+IsTreeBody Readlink = ⊥
+IsTreeBody (Symlink name target) = ⊥
+IsTreeBody (Mknod mode rdev umask name) = ⊥
+IsTreeBody (Mkdir mode umask name) = ⊥
+IsTreeBody (Unlink name) = ⊥
+IsTreeBody (Rmdir name) = ⊥
+IsTreeBody (Rename newdir old_name new_name) = ⊥
+IsTreeBody (Link oldnodeid new_name) = ⊥
+IsTreeBody (Open o) = ⊥
+IsTreeBody (Read r) = ⊥
+IsTreeBody (Write fh offset size write_flags lock_owner flags payload) = ⊥
+IsTreeBody (Release r) = ⊥
+IsTreeBody (Flush f) = ⊥
+IsTreeBody (Init i) = ⊥
+IsTreeBody (Opendir o) = ⊥
+IsTreeBody (Readdir r) = ⊥
+IsTreeBody (Releasedir r) = ⊥
+IsTreeBody (Create flags mode umask name) = ⊥
+IsTreeBody (BatchForget count items) = ⊥
+IsTreeBody (Readdirplus r) = ⊥
+IsTreeBody Passed = ⊥
 
 -- message p is a request that acts on the tree
 abbrev pub IsTreeRequestAt : List Message → ℕ → Type 0
 IsTreeRequestAt c p = (r : PlainRequest) × IsRequestAt c p r × IsTreeBody r.body
-
--- message q answers the request at p
-abbrev pub IsAnsweredBy : List Message → ℕ → ℕ → Type 0
-IsAnsweredBy c p q = (r : PlainRequest) × AnswersAt c q p r
-
--- no message answers the request at p
-abbrev pub IsUnanswered : List Message → ℕ → Type 0
-IsUnanswered c p = (q : ℕ) → IsAnsweredBy c p q → ⊥
-
--- the request at p was answered, and its reply says this
-abbrev pub IsRepliedTo : List Message → ℕ → PlainRequest → PlainReply → Type 0
-IsRepliedTo c p r reply = (q : ℕ) × IsRepliedAt c q p r reply
 
 -- the message numbers of the entries
 abbrev pub numbers : List Entry → List ℕ

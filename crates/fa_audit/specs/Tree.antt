@@ -1,12 +1,13 @@
 -- The tree machine: what a tree is, and what a request may do to it. The steps are this profile's, modelled on
 -- POSIX.1-2017.
-use Rattle.std.specs.Prelude.{◌≡◌, ◌≢◌, ℕ, ℤ, negsuc, ◌⊎◌, List, [], ◌∷◌, Contains, slice_get, Some}
+use Rattle.std.specs.Prelude.{◌≡◌, ◌≢◌, ℕ, ℤ, ◌⊎◌, List, [], ◌∷◌, Contains, slice_get, Some}
 use Rattle.fa_capture.specs.declared.codes.TheConstants.{UNKNOWN_HERE, SUCCESS_NOT_ALLOWED, ERROR_WITHOUT_CAUSE}
+use Rattle.fa_bodies.specs.declared.errno.TheConstants.{ENOENT, EEXIST, ENOTDIR, EISDIR, ENOTEMPTY}
 use Rattle.fa_bodies.specs.Requests.{PlainRequest, PlainBody}
 use Rattle.fa_bodies.specs.Requests.PlainBody.{Lookup}
 use Rattle.fa_bodies.specs.Replies.{PlainReply}
 use Rattle.fa_bodies.specs.Replies.PlainReply.{Refused, Entry}
-use Rattle.fa_audit.specs.Nodes.{root_node}
+use Rattle.fa_bodies.specs.declared.requests.TheConstants.{ROOT_ID}
 
 -- what a file is
 pub data Kind : Type 0 where
@@ -32,7 +33,7 @@ empty_root = record { links = []; files = (record { kind = Directory; bits = 493
 
 -- The node id stands for this file. No other node than the root is known yet.
 abbrev pub StandsFor : Tree → ℕ → ℕ → Type 0
-StandsFor tree node file = (node ≡ root_node) × (file ≡ 0)
+StandsFor tree node file = (node ≡ ROOT_ID) × (file ≡ 0)
 
 -- the file is a directory
 abbrev pub IsDirectory : Tree → ℕ → Type 0
@@ -42,15 +43,15 @@ IsDirectory tree file = (bits : ℕ) × (slice_get tree.files file ≡ Some (rec
 abbrev pub IsThere : Tree → ℕ → List ℕ → Type 0
 IsThere tree dir name = (file : ℕ) × Contains tree.links (dir, name, file)
 
--- The errors that need a cause in the tree (errno.h): ENOENT, EEXIST, ENOTDIR, EISDIR and ENOTEMPTY.
+-- The errors that need a cause in the tree (errno.h).
 abbrev pub IsDetermined : ℤ → Type 0
-IsDetermined error = (error ≡ negsuc 1) ⊎ (error ≡ negsuc 16) ⊎ (error ≡ negsuc 19) ⊎ (error ≡ negsuc 20) ⊎ (error ≡ negsuc 38)
+IsDetermined error = (error ≡ ENOENT) ⊎ (error ≡ EEXIST) ⊎ (error ≡ ENOTDIR) ⊎ (error ≡ EISDIR) ⊎ (error ≡ ENOTEMPTY)
 
 -- the cause of a determined error, by the request: a LOOKUP, as no other request acts on the tree yet
 abbrev pub HasCause : Tree → PlainBody → ℕ → ℤ → Type 0
 -- ENOENT: the name is not there. ENOTDIR: the node is no directory.
 HasCause tree (Lookup name) dir error =
-    ((error ≡ negsuc 1) × (IsThere tree dir name → ⊥)) ⊎ ((error ≡ negsuc 19) × (IsDirectory tree dir → ⊥))
+    ((error ≡ ENOENT) × (IsThere tree dir name → ⊥)) ⊎ ((error ≡ ENOTDIR) × (IsDirectory tree dir → ⊥))
 HasCause tree other dir error = ⊥
 
 -- A success that the tree allows. LOOKUP is answered with node id 0 where the directory has no such name, and with

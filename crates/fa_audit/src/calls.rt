@@ -6,7 +6,7 @@ ghost use Rattle.fa_capture.specs.declared.limits.TheConstants.{MAX_MESSAGES};
 ghost use Rattle.fa_bodies.specs.Requests.{body_shown};
 ghost use Rattle.fa_session.specs.Events.{event_shown};
 ghost use Rattle.fa_audit.specs.declared.calls.Refusal.TheVariants.{Memory};
-ghost use Rattle.fa_audit.specs.Faults.{Passes, EachPasses};
+ghost use Rattle.fa_audit.specs.Faults.{EachPasses};
 ghost use Rattle.fa_audit.specs.Replay.{IsTreeBody};
 ghost use Rattle.fa_audit.specs.Calls.{AreSoFar, AreCalls, TakesEvent};
 ghost use Rattle.fa_audit.specs.Refusal.{IsRefusal};
@@ -93,7 +93,33 @@ pub fn calls_of<'a>(alloc: Global, packets: &[Packet<'a>]) -> Result<Calls<'a>, 
 fn acts_on_tree(body: &RequestBody<'_>) -> bool
     ensures { IsTrue result ↔ IsTreeBody (body_shown body.now) }
 {
-    matches!(body, RequestBody::Lookup { .. })
+    match body {
+        RequestBody::Lookup { .. } => true,
+        RequestBody::Forget { .. }
+        | RequestBody::Getattr(_)
+        | RequestBody::Setattr(_)
+        | RequestBody::Readlink
+        | RequestBody::Symlink { .. }
+        | RequestBody::Mknod { .. }
+        | RequestBody::Mkdir { .. }
+        | RequestBody::Unlink { .. }
+        | RequestBody::Rmdir { .. }
+        | RequestBody::Rename { .. }
+        | RequestBody::Link { .. }
+        | RequestBody::Open(_)
+        | RequestBody::Read(_)
+        | RequestBody::Write { .. }
+        | RequestBody::Release(_)
+        | RequestBody::Flush(_)
+        | RequestBody::Init(_)
+        | RequestBody::Opendir(_)
+        | RequestBody::Readdir(_)
+        | RequestBody::Releasedir(_)
+        | RequestBody::Create { .. }
+        | RequestBody::BatchForget { .. }
+        | RequestBody::Readdirplus(_)
+        | RequestBody::Passed => false,
+    }
 }
 
 /// Removes a number.

@@ -1,7 +1,7 @@
 //! The words of the command line.
 
 ghost use Rattle.std.specs.Prelude.{◌≡◌, ◌⊎◌, None, Some, IfSome, IsNone, codes};
-ghost use Rattle.fa_audit.specs.CommandLine.{value_of};
+ghost use Rattle.fa_audit.specs.parts.CommandLine.{value_of};
 
 use clap::{Arg, ArgAction, ArgMatches, Command};
 use std::alloc::{AllocError, Global};

@@ -1,9 +1,10 @@
 //! What keeps the program from an answer.
 
 ghost use Rattle.std.specs.Prelude.{◌≡◌};
-ghost use Rattle.fa_audit.specs.Failure.{failure_status};
+ghost use Rattle.fa_audit.specs.parts.Failure.{failure_status};
 
 use crate::run::RunFault;
+use crate::status::Status;
 use clap::error::ErrorKind;
 use std::alloc::AllocError;
 use thiserror::Error;
@@ -26,13 +27,13 @@ pub enum Failure {
 }
 
 impl Failure {
-    /// The status with which the program ends: 4 for the command line, and 5 for a run.
-    pub fn status(&self) -> u8
+    /// How the program ends: by the command line, or by a run that failed.
+    pub fn status(&self) -> Status
         ensures { result ≡ failure_status self.now }
     {
         match self {
-            Failure::CommandLine(_) | Failure::NotUtf8 | Failure::NoPaths => 4,
-            Failure::Run(_) => 5,
+            Failure::CommandLine(_) | Failure::NotUtf8 | Failure::NoPaths => Status::CommandLine,
+            Failure::Run(_) => Status::Failed,
         }
     }
 }

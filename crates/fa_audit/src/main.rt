@@ -19,6 +19,7 @@ mod messages;
 mod order;
 mod replay;
 mod run;
+mod status;
 mod verdict;
 
 use crate::command_line::CheckPaths;
@@ -40,7 +41,7 @@ fn main(rt: HostRuntime) -> ExitCode {
         Ok(status) => status,
         Err(failure) => {
             let _ = eprint!(rt; "{failure}");
-            failure.status()
+            failure.status().number()
         }
     };
     ExitCode::from(status)

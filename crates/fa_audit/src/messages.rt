@@ -13,12 +13,9 @@ ghost use Rattle.fa_audit.specs.Nodes.{NamesKnown, GivesAllowed, node_checks};
 ghost use Rattle.fa_audit.specs.Faults.{Passes};
 ghost use Rattle.fa_audit.specs.Refusal.{IsMessageRefusal};
 
-use fa_bodies::{Reply, Request, RequestBody, opcodes, request};
+use fa_bodies::{ROOT_ID, Reply, Request, RequestBody, opcodes, request};
 use fa_capture::{Direction, Packet, codes};
 use fa_session::{Event, Session, SessionError};
-
-/// The node id of the root (`FUSE_ROOT_ID` of `fuse.h`).
-const ROOT_NODE: u64 = 1;
 
 /// Takes the next message into the session, if it passes: what it is.
 ///
@@ -82,7 +79,30 @@ fn names_known(request: &Request<'_>) -> bool
 {
     match &request.body {
         RequestBody::Init(_) => true,
-        _ => request.node == ROOT_NODE,
+        RequestBody::Lookup { .. }
+        | RequestBody::Forget { .. }
+        | RequestBody::Getattr(_)
+        | RequestBody::Setattr(_)
+        | RequestBody::Readlink
+        | RequestBody::Symlink { .. }
+        | RequestBody::Mknod { .. }
+        | RequestBody::Mkdir { .. }
+        | RequestBody::Unlink { .. }
+        | RequestBody::Rmdir { .. }
+        | RequestBody::Rename { .. }
+        | RequestBody::Link { .. }
+        | RequestBody::Open(_)
+        | RequestBody::Read(_)
+        | RequestBody::Write { .. }
+        | RequestBody::Release(_)
+        | RequestBody::Flush(_)
+        | RequestBody::Opendir(_)
+        | RequestBody::Readdir(_)
+        | RequestBody::Releasedir(_)
+        | RequestBody::Create { .. }
+        | RequestBody::BatchForget { .. }
+        | RequestBody::Readdirplus(_)
+        | RequestBody::Passed => request.node == ROOT_ID,
     }
 }
 
@@ -91,8 +111,16 @@ fn gives_allowed(reply: &Reply<'_>) -> bool
     ensures { IsTrue result ↔ GivesAllowed (reply_shown reply.now) }
 {
     match reply {
-        Reply::Entry(entry) => entry.nodeid == 0,
-        _ => true,
+        Reply::Entry(entry) | Reply::Created { entry, .. } => entry.nodeid == 0,
+        Reply::Refused(_)
+        | Reply::Empty
+        | Reply::Attributes(_)
+        | Reply::Opened(_)
+        | Reply::Written(_)
+        | Reply::Bytes(_)
+        | Reply::Listed(_)
+        | Reply::Negotiated(_)
+        | Reply::Skipped => true,
     }
 }
 

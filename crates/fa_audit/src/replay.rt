@@ -8,20 +8,12 @@ ghost use Rattle.fa_audit.specs.Placed.{IsUncaused, StepAllows, StepRefuses, IsF
 use crate::calls::{Call, Calls};
 use crate::order::Entry;
 use fa_bodies::Reply;
+use fa_bodies::errno::{EEXIST, EISDIR, ENOTDIR, ENOTEMPTY};
 use fa_capture::codes;
 use std::alloc::{AllocError, Global};
 
 #[cfg(test)]
 mod tests;
-
-/// EEXIST of errno.h, as a reply has it.
-const EXISTS: i32 = -17;
-/// ENOTDIR of errno.h, as a reply has it.
-const NOT_A_DIRECTORY: i32 = -20;
-/// EISDIR of errno.h, as a reply has it.
-const IS_A_DIRECTORY: i32 = -21;
-/// ENOTEMPTY of errno.h, as a reply has it.
-const NOT_EMPTY: i32 = -39;
 
 /// The first entry of an order that is at fault.
 #[derive(Clone, Copy, Debug, PartialEq, Eq)]
@@ -59,7 +51,7 @@ impl From<AllocError> for ReplayError {
 fn lacks_cause(error: i32) -> bool
     ensures { IsTrue result ↔ IsUncaused error }
 {
-    error == EXISTS || error == NOT_A_DIRECTORY || error == IS_A_DIRECTORY || error == NOT_EMPTY
+    error == EEXIST || error == ENOTDIR || error == EISDIR || error == ENOTEMPTY
 }
 
 /// Looks whether the tree, an empty root, allows this reply to a LOOKUP on its root. The error is a code.

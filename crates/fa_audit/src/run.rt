@@ -3,10 +3,12 @@
 ghost use Rattle.std.specs.Prelude.{◌≡◌, ◌≢◌, ◌≤◌, ◌↔◌, ◌⊎◌, true, false, vec_len, string_bytes, IfOk, IfErr, IfSome, OnOk, IsErrOf};
 ghost use Rattle.std.specs.Io.KnownBytes.{IsAtEnd, Keeps};
 ghost use Rattle.fa_audit.specs.Line.{IsCoded, answer_line, answer_status};
+ghost use Rattle.fa_audit.specs.Status.{status_number};
 ghost use Rattle.fa_audit.specs.Run.{IsTold, IsAudited, IsUnread};
 
 use crate::judge::audit;
 use crate::line::{order_fault_text, verdict_text};
+use crate::status::Status;
 use crate::verdict::{AuditError, Verdict};
 use fa_capture::{Broken, Input, Output, ReadError, read_all};
 use std::alloc::{AllocError, AllocFailed, Global};
@@ -78,17 +80,14 @@ impl From<Broken> for RunFault {
     }
 }
 
-/// The status of an order text that is not in its grammar.
-const ORDER_FAULT_STATUS: u8 = 3;
-
 /// The status of a verdict.
-fn status_of(verdict: Verdict) -> u8
-    ensures { result ≡ answer_status (Ok verdict) }
+fn status_of(verdict: Verdict) -> Status
+    ensures { status_number result ≡ answer_status (Ok verdict) }
 {
     match verdict {
-        Verdict::Legal { .. } => 0,
-        Verdict::Fault { .. } => 1,
-        Verdict::NotShown { .. } => 2,
+        Verdict::Legal { .. } => Status::Legal,
+        Verdict::Fault { .. } => Status::Fault,
+        Verdict::NotShown { .. } => Status::NotShown,
     }
 }
 
@@ -111,19 +110,16 @@ fn input_bytes<R: Input>(alloc: Global, input: &mut R) -> Result<Vec<u8>, RunFau
 fn line_and_status(
     alloc: Global,
     answer: Result<Verdict, AuditError>,
-) -> Result<(String, u8), RunFault>
+) -> Result<(String, Status), RunFault>
     requires { IfOk answer IsCoded }
     ensures line { IfOk result (λ told. string_bytes told.0 ≡ answer_line answer) }
-    ensures status { IfOk result (λ told. told.1 ≡ answer_status answer) }
+    ensures status { IfOk result (λ told. status_number told.1 ≡ answer_status answer) }
     ensures answered { OnOk result (answer ≢ Err AuditError.Memory) }
     ensures memory { IfErr result (λ fault. fault ≡ RunFault.Memory) }
 {
     match answer {
         Ok(verdict) => Ok((verdict_text(alloc, &verdict)?, status_of(verdict))),
-        Err(AuditError::OrderText { line }) => Ok((
-            order_fault_text(alloc, line)?,
-            ORDER_FAULT_STATUS,
-        )),
+        Err(AuditError::OrderText { line }) => Ok((order_fault_text(alloc, line)?, Status::Text)),
         Err(AuditError::Memory) => Err(RunFault::Memory),
     }
 }
@@ -146,7 +142,7 @@ fn tell<W: Output>(
     let (mut line, status) = line_and_status(alloc, answer)?;
     line.push('\n')?;
     out.put(line.as_bytes())?;
-    Ok(status)
+    Ok(status.number())
 }
 
 /// Audits a capture against an order: reads the capture and then the order, writes the line of the audit's answer and

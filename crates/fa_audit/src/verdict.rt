@@ -58,7 +58,7 @@ impl From<AllocError> for AuditError {
 }
 
 impl From<TextError> for AuditError {
-    ghost use Rattle.fa_audit.specs.Errors.{audit_error};
+    ghost use Rattle.fa_audit.specs.parts.Errors.{audit_error};
     ghost use Rattle.std.specs.Prelude.{◌≡◌};
 
     ghost from_gives = { λ text e. e ≡ audit_error text };

@@ -1,8 +1,8 @@
 -- A body has at most one reading, and only one of its operation.
 use Rattle.std.proofs.Common.{rules, ◌≡◌, ℕ, ◌⊎◌, cond, eqb, Bool, true, false, List, [], ◌∷◌, ◌++◌, refl, ap, ◌∙◌, arith, inl, inr}
 use Rattle.std.proofs.lemmas.Bool.{eq-eqb}
-use Rattle.fa_bodies.specs.declared.attributes.GetattrIn.{GetattrIn}
-use Rattle.fa_bodies.specs.declared.attributes.SetattrIn.{SetattrIn}
+use Rattle.fa_bodies.specs.declared.getattr.GetattrIn.{GetattrIn}
+use Rattle.fa_bodies.specs.declared.setattr.SetattrIn.{SetattrIn}
 use Rattle.fa_bodies.specs.declared.flags.OpenFlags.{OpenFlags}
 use Rattle.fa_bodies.specs.declared.handles.FlushIn.{FlushIn}
 use Rattle.fa_bodies.specs.declared.handles.OpenIn.{OpenIn}

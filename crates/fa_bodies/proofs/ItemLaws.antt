@@ -4,7 +4,6 @@ use Rattle.std.proofs.lemmas.Bool.{cases_lt}
 use Rattle.std.specs.Int.{w64, from_le_bytes}
 use Rattle.std.proofs.lemmas.List.{nil_from_length, take_at, drop_at, length-drop, get_or-take, get_or-drop, get_or_past, drop-drop}
 use Rattle.std.proofs.lemmas.Nat.{from_le_bytes-to_le_bytes_8}
-use Rattle.fa_bodies.specs.declared.forget_one.ForgetOne.{ForgetOne}
 use Rattle.fa_bodies.specs.Fields.{BeginsWith, le64}
 use Rattle.fa_bodies.specs.ForgetOnes.{AreItems, HoldsItems}
 use Rattle.fa_bodies.specs.Structs.{forget_one}
@@ -47,7 +46,7 @@ each-IsBytes bytes each i =
 -- ---- one item
 
 -- 16 bytes begin with an item
-pub item-begins : (bytes : List ℕ) → IsBytes bytes → 16 ≤ length bytes → BeginsWith bytes (forget_one (item_in bytes)) (drop 16 bytes)
+pub item-begins : (bytes : List ℕ) → IsBytes bytes → 16 ≤ length bytes → BeginsWith bytes (forget_one (item_in bytes).0 (item_in bytes).1) (drop 16 bytes)
 unfolding item_in
 item-begins bytes fits len =
     let first = u64_begins bytes fits (omega arith) in
@@ -55,29 +54,30 @@ item-begins bytes fits len =
     (first.0, drop 8 bytes, first.1, (second.0, drop 8 (drop 8 bytes), second.1, drop-drop 8 8 bytes))
 
 -- which item it is
-pub item_in-begins : (item : ForgetOne) (bytes rest : List ℕ) → BeginsWith bytes (forget_one item) rest → item_in bytes ≡ item
+pub item_in-begins : (item : ℕ × ℕ) (bytes rest : List ℕ) → BeginsWith bytes (forget_one item.0 item.1) rest → item_in bytes ≡ item
 unfolding item_in
 item_in-begins item bytes rest p =
-    let first : from_le_bytes w64 (take 8 bytes) ≡ item.nodeid = u64_in-le64 item.nodeid bytes p.1 p.0 p.2 in
-    let second : from_le_bytes w64 (take 8 (drop 8 bytes)) ≡ item.nlookup = rw (after-le64 item.nodeid bytes p.1 p.2) (u64_in-le64 item.nlookup p.1 p.3.1 p.3.0 p.3.2) in
-    rw (first, second) refl
+    let first : from_le_bytes w64 (take 8 bytes) ≡ item.0 = u64_in-le64 item.0 bytes p.1 p.0 p.2 in
+    let second : from_le_bytes w64 (take 8 (drop 8 bytes)) ≡ item.1 = rw (after-le64 item.0 bytes p.1 p.2) (u64_in-le64 item.1 p.1 p.3.1 p.3.0 p.3.2) in
+    let parts : (from_le_bytes w64 (take 8 bytes), from_le_bytes w64 (take 8 (drop 8 bytes))) ≡ (item.0, item.1) = rw (first, second) refl in
+    parts
 
 -- and what stands behind it
-pub drop-item : (item : ForgetOne) (bytes rest : List ℕ) → BeginsWith bytes (forget_one item) rest → drop 16 bytes ≡ rest
-drop-item item bytes rest p = sym (drop-drop 8 8 bytes) ∙ ap (drop 8) (after-le64 item.nodeid bytes p.1 p.2) ∙ after-le64 item.nlookup p.1 p.3.1 p.3.2 ∙ p.3.3
+pub drop-item : (item : ℕ × ℕ) (bytes rest : List ℕ) → BeginsWith bytes (forget_one item.0 item.1) rest → drop 16 bytes ≡ rest
+drop-item item bytes rest p = sym (drop-drop 8 8 bytes) ∙ ap (drop 8) (after-le64 item.0 bytes p.1 p.2) ∙ after-le64 item.1 p.1 p.3.1 p.3.2 ∙ p.3.3
 
 -- bytes begin with at most one item
-pub item-one : (a b : ForgetOne) (bytes r s : List ℕ) → BeginsWith bytes (forget_one a) r → BeginsWith bytes (forget_one b) s → (a ≡ b) × (r ≡ s)
+pub item-one : (a b : ℕ × ℕ) (bytes r s : List ℕ) → BeginsWith bytes (forget_one a.0 a.1) r → BeginsWith bytes (forget_one b.0 b.1) s → (a ≡ b) × (r ≡ s)
 item-one a b bytes r s p q =
     (sym (item_in-begins a bytes r p) ∙ item_in-begins b bytes s q, sym (drop-item a bytes r p) ∙ drop-item b bytes s q)
 
 -- ---- the list of items
 
 -- behind the first item stand the others
-pub items_in-begins : (item : ForgetOne) (bytes rest : List ℕ) → BeginsWith bytes (forget_one item) rest → items_in bytes ≡ item ∷ items_in rest
+pub items_in-begins : (item : ℕ × ℕ) (bytes rest : List ℕ) → BeginsWith bytes (forget_one item.0 item.1) rest → items_in bytes ≡ item ∷ items_in rest
 unfolding items_in first_items
 items_in-begins item bytes rest p =
-    let count : length bytes / 16 ≡ suc (length rest / 16) = omega (arith, length-fields (forget_one item) bytes rest p) in
+    let count : length bytes / 16 ≡ suc (length rest / 16) = omega (arith, length-fields (forget_one item.0 item.1) bytes rest p) in
     rw (count, item_in-begins item bytes rest p, drop-item item bytes rest p) refl
 
 -- fewer than 16 bytes hold no item
@@ -102,23 +102,23 @@ holds-items_in bytes fits =
     (found.0, found.1, omega (arith, found.2))
 
 -- a list of items that bytes hold is the one that is computed
-pub items_in-holds : (items : List ForgetOne) (bytes : List ℕ) → HoldsItems bytes items → items_in bytes ≡ items
+pub items_in-holds : (items : List (ℕ × ℕ)) (bytes : List ℕ) → HoldsItems bytes items → items_in bytes ≡ items
 items_in-holds [] bytes (rest, e, short) = items_in-short bytes (rw e short)
 items_in-holds (item ∷ items) bytes (rest, p, short) =
-    items_in-begins item bytes p.0 p.1 ∙ ap (λ (x : List ForgetOne). item ∷ x) (items_in-holds items p.0 (rest, p.2, short))
+    items_in-begins item bytes p.0 p.1 ∙ ap (λ (x : List (ℕ × ℕ)). item ∷ x) (items_in-holds items p.0 (rest, p.2, short))
 
 -- bytes hold at most one list of items
-pub items-one : (bytes : List ℕ) (a b : List ForgetOne) → HoldsItems bytes a → HoldsItems bytes b → a ≡ b
+pub items-one : (bytes : List ℕ) (a b : List (ℕ × ℕ)) → HoldsItems bytes a → HoldsItems bytes b → a ≡ b
 items-one bytes a b p q = sym (items_in-holds a bytes p) ∙ items_in-holds b bytes q
 
 -- each item has 16 bytes
-pub length-items : (items : List ForgetOne) (bytes rest : List ℕ) → AreItems bytes items rest → length bytes ≡ 16 * length items + length rest
+pub length-items : (items : List (ℕ × ℕ)) (bytes rest : List ℕ) → AreItems bytes items rest → length bytes ≡ 16 * length items + length rest
 length-items [] bytes rest p = omega (arith, ap length p)
 length-items (item ∷ items) bytes rest p =
-    omega (arith, length-fields (forget_one item) bytes p.0 p.1, length-items items p.0 rest p.2)
+    omega (arith, length-fields (forget_one item.0 item.1) bytes p.0 p.1, length-items items p.0 rest p.2)
 
 -- bytes with room for so many items hold so many
-pub counted-items : (count : ℕ) (bytes : List ℕ) (items : List ForgetOne) → length bytes ≡ 16 * count → HoldsItems bytes items → (length items ≡ count) × AreItems bytes items []
+pub counted-items : (count : ℕ) (bytes : List ℕ) (items : List (ℕ × ℕ)) → length bytes ≡ 16 * count → HoldsItems bytes items → (length items ≡ count) × AreItems bytes items []
 counted-items count bytes items long held =
     let whole = length-items items bytes held.0 held.1 in
     let nothing : held.0 ≡ [] = nil_from_length held.0 (omega (arith, long, whole, held.2)) in

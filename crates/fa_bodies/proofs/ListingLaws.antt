@@ -10,6 +10,7 @@ use Rattle.std.proofs.lemmas.Bool.{and_parts, and_from, not-true, eqb-false, ne_
 use Rattle.std.proofs.lemmas.List.Sums.{AllPass-from_list_all, list_all-from_AllPass}
 use Rattle.fa_bodies.specs.declared.dirent.DirentHead.{DirentHead}
 use Rattle.fa_bodies.specs.declared.entry.EntryOut.{EntryOut}
+use Rattle.fa_bodies.specs.declared.names.TheConstants.{MAX_NAME}
 use Rattle.fa_bodies.specs.Fields.{Field, BeginsWith, byte_count, le32, le64}
 use Rattle.fa_bodies.specs.Fields.Field.{U32, U64, I32, Unread, Name, Target}
 use Rattle.fa_bodies.specs.Structs.{dirent_head, attr, entry_out}
@@ -241,19 +242,19 @@ name_byte-test b p =
 
 listed-from : (name : List ℕ) → is_listed_name name ≡ true → IsFilename name
 listed-from name e =
-    let outer = and_parts (nat_le 1 (length name) && nat_le (length name) 1024) (list_all (λ b. not (b == 0) && not (b == 47)) name) e in
-    let inner = and_parts (nat_le 1 (length name)) (nat_le (length name) 1024) outer.0 in
+    let outer = and_parts (nat_le 1 (length name) && nat_le (length name) MAX_NAME) (list_all (λ b. not (b == 0) && not (b == 47)) name) e in
+    let inner = and_parts (nat_le 1 (length name)) (nat_le (length name) MAX_NAME) outer.0 in
     let bytes = AllPass-from_list_all (λ b. not (b == 0) && not (b == 47)) name outer.1 in
     record {
       not_empty = leb-true 1 (length name) inner.0;
-      not_too_long = leb-true (length name) 1024 inner.1;
+      not_too_long = leb-true (length name) MAX_NAME inner.1;
       each_byte = λ k d less. name_byte-from (get_or name k d) (bytes k d less);
     }
 
 listed-test : (name : List ℕ) → IsFilename name → is_listed_name name ≡ true
 listed-test name p =
-    and_from (nat_le 1 (length name) && nat_le (length name) 1024) (list_all (λ b. not (b == 0) && not (b == 47)) name)
-    (and_from (nat_le 1 (length name)) (nat_le (length name) 1024) (le-leb 1 (length name) p.not_empty) (le-leb (length name) 1024 p.not_too_long))
+    and_from (nat_le 1 (length name) && nat_le (length name) MAX_NAME) (list_all (λ b. not (b == 0) && not (b == 47)) name)
+    (and_from (nat_le 1 (length name)) (nat_le (length name) MAX_NAME) (le-leb 1 (length name) p.not_empty) (le-leb (length name) MAX_NAME p.not_too_long))
     (list_all-from_AllPass (λ b. not (b == 0) && not (b == 47)) name (λ k d less. name_byte-test (get_or name k d) (p.each_byte k d less)))
 
 -- ---- the entry that is computed

@@ -2,8 +2,8 @@
 use Rattle.std.proofs.Common.{◌≡◌, ◌≢◌, ℕ, zero, suc, ◌≤◌, ◌<◌, ◌^◌, List, [], ◌∷◌, ◌++◌, length, All, get_or, ap, refl, arith, inl, inr}
 use Rattle.std.specs.Prelude.{◌↔◌}
 use Rattle.std.proofs.lemmas.Bool.{cases_eq}
-use Rattle.fa_bodies.specs.declared.attributes.GetattrIn.{GetattrIn}
-use Rattle.fa_bodies.specs.declared.attributes.SetattrIn.{SetattrIn}
+use Rattle.fa_bodies.specs.declared.getattr.GetattrIn.{GetattrIn}
+use Rattle.fa_bodies.specs.declared.setattr.SetattrIn.{SetattrIn}
 use Rattle.fa_bodies.specs.declared.handles.FlushIn.{FlushIn}
 use Rattle.fa_bodies.specs.declared.handles.OpenIn.{OpenIn}
 use Rattle.fa_bodies.specs.declared.handles.ReadIn.{ReadIn}

@@ -2,8 +2,9 @@
 use Rattle.std.proofs.Common.{◌≡◌, ℕ, ◌≤◌, List, [], ◌∷◌, length, refl, sym, ap, subst, Result, Ok, Err, ◌∙◌, arith, inl, inr, Bool, true, false}
 use Rattle.std.specs.Prelude.{ℤ, pos, ◌<ℤ◌, ◌↔◌, IfOk}
 use Rattle.std.specs.Int.Signed.{<ℤ_irrefl}
-use Rattle.fa_capture.specs.Checks.{FirstFailure, AllHold}
-use Rattle.fa_bodies.specs.declared.entry.AttrOut.{AttrOut}
+use Rattle.fa_capture.specs.Checks.{FirstFailure, AllHold, checks_of}
+use Rattle.fa_capture.proofs.CallerLemmas.{fails_behind, lifted_failure}
+use Rattle.fa_bodies.specs.declared.attributes.AttrOut.{AttrOut}
 use Rattle.fa_bodies.specs.declared.entry.EntryOut.{EntryOut}
 use Rattle.fa_bodies.specs.declared.handles.OpenOut.{OpenOut}
 use Rattle.fa_bodies.specs.declared.init.Negotiated.{Negotiated}
@@ -15,7 +16,7 @@ use Rattle.fa_bodies.specs.Fields.Field.{U64, I32}
 use Rattle.fa_bodies.specs.Structs.{out_header, entry_out, open_out}
 use Rattle.fa_bodies.specs.Requests.{PlainBody, PlainRequest, IsLengthRight, length_checks}
 use Rattle.fa_bodies.specs.Requests.PlainBody.{Lookup, Forget, Getattr, Setattr, Readlink, Symlink, Mknod, Mkdir, Unlink, Rmdir, Rename, Link, Open, Read, Write, Release, Flush, Init, Opendir, Readdir, Releasedir, Create, BatchForget, Readdirplus, Passed}
-use Rattle.fa_bodies.specs.Replies.{PlainReply, IsErrorRight, IsNotificationRight, IsReplyHead, HasReplyHeader, head_checks, reply_head_checks, IsEntryBody, IsCreatedBody, IsAttributesBody, IsOpenedBody, IsWrittenBody, IsListedBody, IsSuccessBody, IsSuccess, Says, IsReply, reply_shown}
+use Rattle.fa_bodies.specs.Replies.{PlainReply, IsErrorRight, IsNotificationRight, IsReplyHead, HasReplyHeader, RepeatsUnique, head_rules, reply_head_checks, IsEntryBody, IsCreatedBody, IsAttributesBody, IsOpenedBody, IsWrittenBody, IsListedBody, IsSuccessBody, IsSuccess, Says, IsReply, reply_shown}
 use Rattle.fa_bodies.specs.Replies.PlainReply.{Entry, Created, Attributes, Opened, Written, Listed, InitAnswer}
 use Rattle.fa_bodies.proofs.FieldLaws.{fields-one, length-fields, parts_of, rest-one}
 use Rattle.fa_bodies.proofs.StructLaws.{entry-one, attr_out-one, open_out-one, write_out-one, init_out-one}
@@ -41,7 +42,7 @@ header-one bytes len len' error error' unique unique' body body' p q =
 -- ---- the checks of the head
 
 pub head_found : (bytes : List ℕ) (len : ℕ) (head : ReplyHead) (body : List ℕ)
-    → IsLengthRight bytes → BeginsWith bytes (out_header len head.error head.unique) body → AllHold (head_checks (λ Such. Such head))
+    → IsLengthRight bytes → BeginsWith bytes (out_header len head.error head.unique) body → AllHold (checks_of (λ Such. Such head) head_rules)
     → IsReplyHead bytes head
 head_found bytes len head body right p hold =
     let same = len_right bytes len (I32 head.error ∷ U64 head.unique ∷ []) body right p in
@@ -66,26 +67,14 @@ such_of bytes len head body Such p has =
 -- what fails of the head fails of the message, and is the first to fail
 pub head_fault : (bytes : List ℕ) (len : ℕ) (head : ReplyHead) (body : List ℕ) (code : ℕ)
     → AllHold (length_checks 16 bytes) → BeginsWith bytes (out_header len head.error head.unique) body
-    → FirstFailure (head_checks (λ Such. Such head)) code → FirstFailure (reply_head_checks bytes) code
+    → FirstFailure (checks_of (λ Such. Such head) head_rules) code → FirstFailure (reply_head_checks bytes) code
 head_fault bytes len head body code hold p fails =
-    let first = λ (Such : ReplyHead → Type 0) (fails : Such head → ⊥) (has : HasReplyHeader bytes Such). fails (such_of bytes len head body Such p has) in
-    inr (
-      hold.0,
-      inr (
-        hold.1.0,
-        elim fails [
-          | inl f ↦ inl (first IsErrorRight f.0, f.1)
-          | inr f ↦ inr (
-            has_header bytes len head body IsErrorRight p f.0,
-            elim f.1 [ inl g ↦ inl (first IsNotificationRight g.0, g.1) | inr g ↦ absurd g.1 ],
-          )
-        ],
-      ),
-    )
+    fails_behind (length_checks 16 bytes) (checks_of (HasReplyHeader bytes) head_rules) code hold
+    (lifted_failure (λ Such. Such head) (HasReplyHeader bytes) (λ Such. (has_header bytes len head body Such p, such_of bytes len head body Such p)) head_rules code fails)
 
 -- ---- the body
 
-pub reply_found : (asked : PlainRequest) (bytes : List ℕ) (given : (error : ℤ) × IsReplyHead bytes (record { unique = asked.unique; error = error }))
+pub reply_found : (asked : PlainRequest) (bytes : List ℕ) (given : RepeatsUnique bytes asked.unique)
     (len : ℕ) (error : ℤ) (unique : ℕ) (body : List ℕ) (reply : PlainReply)
     → BeginsWith bytes (out_header len error unique) body → Says asked error body reply → IsReply asked bytes reply
 reply_found asked bytes given len error unique body reply p says =

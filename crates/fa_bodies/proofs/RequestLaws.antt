@@ -1,11 +1,12 @@
 -- The checks of a request, and that bytes are at most one.
-use Rattle.std.proofs.Common.{◌≡◌, ℕ, ◌≤◌, List, [], ◌∷◌, length, refl, subst, arith, inl, inr}
+use Rattle.std.proofs.Common.{◌≡◌, ℕ, ◌≤◌, List, [], ◌∷◌, length, refl, subst, arith}
 use Rattle.std.specs.Prelude.{◌↔◌}
-use Rattle.fa_capture.specs.Checks.{FirstFailure, AllHold}
+use Rattle.fa_capture.specs.Checks.{FirstFailure, AllHold, checks_of}
+use Rattle.fa_capture.proofs.CallerLemmas.{fails_behind, lifted_failure}
 use Rattle.fa_bodies.specs.Fields.{Field, BeginsWith}
 use Rattle.fa_bodies.specs.Fields.Field.{U32, U64, Unread}
 use Rattle.fa_bodies.specs.Structs.{in_header}
-use Rattle.fa_bodies.specs.Requests.{PlainBody, PlainRequest, IsRequestBody, IsWithinLimit, IsRequest, IsLengthRight, HasRequestHeader, IsOperation, HasBody, HasBodyWithinLimit, length_checks, body_checks, request_checks}
+use Rattle.fa_bodies.specs.Requests.{PlainBody, PlainRequest, IsRequestBody, IsWithinLimit, IsRequest, IsLengthRight, HasRequestHeader, length_checks, body_rules, request_checks}
 use Rattle.fa_bodies.proofs.FieldLaws.{fields-one, length-fields}
 use Rattle.fa_bodies.proofs.BodyLaws.{body-one, operation_of}
 
@@ -52,7 +53,7 @@ request_found bytes len opcode unique node body b right p h within =
 -- what fails at the body is the first to fail of the request
 pub request_fault : (bytes : List ℕ) (len opcode unique node : ℕ) (body : List ℕ) (code : ℕ)
     → AllHold (length_checks 40 bytes) → BeginsWith bytes (in_header len opcode unique node) body
-    → FirstFailure (body_checks (λ Such. Such opcode body)) code → FirstFailure (request_checks bytes) code
+    → FirstFailure (checks_of (λ Such. Such opcode body) body_rules) code → FirstFailure (request_checks bytes) code
 request_fault bytes len opcode unique node body code hold p fails =
     let header : (Such : ℕ → List ℕ → Type 0) → Such opcode body → HasRequestHeader bytes Such =
     λ Such such. record { len = len; opcode = opcode; unique = unique; node = node; body_bytes = body; header = p; such = such } in
@@ -60,23 +61,8 @@ request_fault bytes len opcode unique node body code hold p fails =
     λ Such has.
     let same = header-one bytes has.len has.opcode has.unique has.node len opcode unique node has.body_bytes body has.header p in
     subst (λ (o : ℕ). Such o body) same.opcodes (subst (λ (x : List ℕ). Such has.opcode x) same.bodies has.such) in
-    let first = λ (Such : ℕ → List ℕ → Type 0) (fails : Such opcode body → ⊥) (has : HasRequestHeader bytes Such). fails (back Such has) in
-    inr (
-      hold.0,
-      inr (
-        hold.1.0,
-        elim fails [
-          | inl f ↦ inl (first (λ o x. IsOperation o) f.0, f.1)
-          | inr f ↦ inr (
-            header (λ o x. IsOperation o) f.0,
-            elim f.1 [
-              | inl g ↦ inl (first HasBody g.0, g.1)
-              | inr g ↦ inr (header HasBody g.0, elim g.1 [ inl h ↦ inl (first HasBodyWithinLimit h.0, h.1) | inr h ↦ absurd h.1 ])
-            ],
-          )
-        ],
-      ),
-    )
+    fails_behind (length_checks 40 bytes) (checks_of (HasRequestHeader bytes) body_rules) code hold
+    (lifted_failure (λ Such. Such opcode body) (HasRequestHeader bytes) (λ Such. (header Such, back Such)) body_rules code fails)
 
 -- ---- the laws
 

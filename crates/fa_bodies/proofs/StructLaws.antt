@@ -1,9 +1,9 @@
 -- A struct is known by its fields.
 use Rattle.std.proofs.Common.{◌≡◌, ℕ, List, ◌∷◌, ap, refl}
-use Rattle.fa_bodies.specs.declared.attributes.GetattrIn.{GetattrIn}
-use Rattle.fa_bodies.specs.declared.attributes.SetattrIn.{SetattrIn}
-use Rattle.fa_bodies.specs.declared.entry.AttrOut.{AttrOut}
-use Rattle.fa_bodies.specs.declared.entry.Attributes.{Attributes}
+use Rattle.fa_bodies.specs.declared.getattr.GetattrIn.{GetattrIn}
+use Rattle.fa_bodies.specs.declared.setattr.SetattrIn.{SetattrIn}
+use Rattle.fa_bodies.specs.declared.attributes.AttrOut.{AttrOut}
+use Rattle.fa_bodies.specs.declared.attributes.Attributes.{Attributes}
 use Rattle.fa_bodies.specs.declared.entry.EntryOut.{EntryOut}
 use Rattle.fa_bodies.specs.declared.handles.FlushIn.{FlushIn}
 use Rattle.fa_bodies.specs.declared.handles.OpenIn.{OpenIn}

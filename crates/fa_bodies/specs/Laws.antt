@@ -1,7 +1,6 @@
 -- What holds of the grammar of messages.
 use Rattle.std.specs.Prelude.{◌≡◌, ◌↔◌, ℕ, ◌<◌, ◌*◌, Bool, List, [], length, All}
 use Rattle.fa_capture.specs.Checks.{AllHold}
-use Rattle.fa_bodies.specs.declared.forget_one.ForgetOne.{ForgetOne}
 use Rattle.fa_bodies.specs.declared.replies.ReplyHead.{ReplyHead}
 use Rattle.fa_bodies.specs.Dirents.{PlainDirent, AreEntries, HoldsEntries}
 use Rattle.fa_bodies.specs.ForgetOnes.{AreItems, HoldsItems}
@@ -42,12 +41,12 @@ ReplyIsOne =
 -- Bytes hold at most one list of items of BATCH_FORGET.
 abbrev pub ItemsAreOne : Type 0
 ItemsAreOne =
-    (bytes : List ℕ) (a b : List ForgetOne) → HoldsItems bytes a → HoldsItems bytes b → a ≡ b
+    (bytes : List ℕ) (a b : List (ℕ × ℕ)) → HoldsItems bytes a → HoldsItems bytes b → a ≡ b
 
 -- All bytes hold a list of items of BATCH_FORGET.
 abbrev pub BytesHoldItems : Type 0
 BytesHoldItems =
-    (bytes : List ℕ) → All (λ b. b < 256) bytes → (items : List ForgetOne) × HoldsItems bytes items
+    (bytes : List ℕ) → All (λ b. b < 256) bytes → (items : List (ℕ × ℕ)) × HoldsItems bytes items
 
 -- The payload of a READDIR or READDIRPLUS reply holds at most one list of entries.
 abbrev pub EntriesAreOne : Type 0
@@ -64,7 +63,7 @@ BytesHoldEntries =
 -- Bytes with room for so many items of BATCH_FORGET hold so many, and nothing stands behind them.
 abbrev pub CountedItems : Type 0
 CountedItems =
-    (count : ℕ) (bytes : List ℕ) (items : List ForgetOne)
+    (count : ℕ) (bytes : List ℕ) (items : List (ℕ × ℕ))
     → length bytes ≡ 16 * count → HoldsItems bytes items → (length items ≡ count) × AreItems bytes items []
 
 -- Bytes that are whole directory entries hold these.

@@ -5,9 +5,10 @@ use Rattle.std.specs.Prelude.{◌==◌, ℕ, zero, suc, ◌+◌, ◌-◌, ◌%�
 use Rattle.std.specs.Int.{w32, w64, from_le_bytes}
 use Rattle.std.specs.List.{list_all}
 use Rattle.std.specs.Option.{option_map_or}
-use Rattle.fa_bodies.specs.declared.entry.Attributes.{Attributes}
+use Rattle.fa_bodies.specs.declared.attributes.Attributes.{Attributes}
 use Rattle.fa_bodies.specs.declared.entry.EntryOut.{EntryOut}
 use Rattle.fa_bodies.specs.declared.dirent.Entries.{Entries}
+use Rattle.fa_bodies.specs.declared.names.TheConstants.{MAX_NAME}
 use Rattle.fa_bodies.specs.Dirents.{PlainDirent}
 
 -- the numbers in the first four and eight bytes
@@ -54,7 +55,7 @@ entry_out_in bytes =
 -- a test of the name of a directory entry
 abbrev pub is_listed_name : List ℕ → Bool
 is_listed_name name =
-    nat_le 1 (length name) && nat_le (length name) 1024 && list_all (λ b. not (b == 0) && not (b == 47)) name
+    nat_le 1 (length name) && nat_le (length name) MAX_NAME && list_all (λ b. not (b == 0) && not (b == 47)) name
 
 -- so many bytes and their padding
 abbrev pub padded : ℕ → ℕ

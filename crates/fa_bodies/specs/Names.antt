@@ -1,14 +1,15 @@
 -- Names and targets in requests.
 use Rattle.std.specs.Prelude.{◌≢◌, ℕ, ◌≤◌, List, length, All, codes}
+use Rattle.fa_bodies.specs.declared.names.TheConstants.{MAX_NAME}
 
 -- a byte that a name may have: neither zero nor a slash
 abbrev pub IsNameByte : ℕ → Type 0
 IsNameByte b = (b ≢ 0) × (b ≢ 47)
 
--- A filename of POSIX (no zero byte, no slash) of 1 to 1,024 bytes, which is FUSE_NAME_MAX of Linux.
+-- A filename of POSIX (no zero byte, no slash) of 1 to MAX_NAME bytes.
 pub record IsFilename (name : List ℕ) : Type 0 where
   pub not_empty : 1 ≤ length name
-  pub not_too_long : length name ≤ 1024
+  pub not_too_long : length name ≤ MAX_NAME
   pub each_byte : All IsNameByte name
 
 -- A name in a request: a filename that is neither `.` nor `..`.

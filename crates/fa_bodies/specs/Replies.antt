@@ -1,10 +1,12 @@
 -- What bytes are a reply, and which one.
 use Rattle.std.specs.Prelude.{◌≡◌, ◌≢◌, Bool, true, false, ℕ, ◌≤◌, ℤ, pos, negsuc, ◌≤ℤ◌, ◌<ℤ◌, ◌⊎◌, List, [], ◌∷◌, ◌++◌, length}
 use Rattle.fa_capture.specs.declared.codes.TheConstants.{ERROR_VALUE, NOTIFICATION, REPLY_BODY}
-use Rattle.fa_bodies.specs.declared.entry.AttrOut.{AttrOut}
+use Rattle.fa_capture.specs.Checks.{checks_of}
+use Rattle.fa_bodies.specs.declared.attributes.AttrOut.{AttrOut}
 use Rattle.fa_bodies.specs.declared.entry.EntryOut.{EntryOut}
 use Rattle.fa_bodies.specs.declared.handles.OpenOut.{OpenOut}
 use Rattle.fa_bodies.specs.declared.init.Negotiated.{Negotiated}
+use Rattle.fa_bodies.specs.declared.opcodes.TheConstants.{INTERRUPT}
 use Rattle.fa_bodies.specs.declared.replies.ReplyHead.{ReplyHead}
 use Rattle.fa_bodies.specs.declared.replies.Reply.{Reply}
 use Rattle.fa_bodies.specs.declared.replies.Reply.TheVariants as declared
@@ -69,6 +71,10 @@ pub record IsReplyHead (bytes : List ℕ) (head : ReplyHead) : Type 0 where
   pub reply : IsErrorRight head
   pub notification : IsNotificationRight head
 
+-- The bytes begin with the head of a reply that repeats this unique, or of a notification where it is 0.
+abbrev pub RepeatsUnique : List ℕ → (unique : ℕ) → Type 0
+RepeatsUnique bytes unique = (error : ℤ) × IsReplyHead bytes (record { unique = unique; error = error })
+
 -- The bytes begin with a reply header, and its error and unique are such.
 pub record HasReplyHeader (bytes : List ℕ) (Such : ReplyHead → Type 0) : Type 0 where
   pub len : ℕ
@@ -77,15 +83,14 @@ pub record HasReplyHeader (bytes : List ℕ) (Such : ReplyHead → Type 0) : Typ
   pub header : BeginsWith bytes (out_header len head.error head.unique) body_bytes
   pub such : Such head
 
--- The checks of a head's error and code in their order, each with its code. `Holds Such` says that the
--- head at hand is such.
-abbrev pub head_checks : ((ReplyHead → Type 0) → Type 0) → List (ℕ × Type 0)
-head_checks Holds = (ERROR_VALUE, Holds IsErrorRight) ∷ (NOTIFICATION, Holds IsNotificationRight) ∷ []
+-- the rules of a head's error and code in their order, each with its code
+abbrev pub head_rules : List (ℕ × (ReplyHead → Type 0))
+head_rules = (ERROR_VALUE, IsErrorRight) ∷ (NOTIFICATION, IsNotificationRight) ∷ []
 
 -- The checks of a message from the server in their order, each with its code. All of them hold exactly
 -- where the bytes begin with the head of a reply or of a notification.
 abbrev pub reply_head_checks : List ℕ → List (ℕ × Type 0)
-reply_head_checks bytes = length_checks 16 bytes ++ head_checks (HasReplyHeader bytes)
+reply_head_checks bytes = length_checks 16 bytes ++ checks_of (HasReplyHeader bytes) head_rules
 
 -- the answer of INIT: 24 to 64 bytes of a struct fuse_init_out
 abbrev pub IsInitOut : List ℕ → Negotiated → Type 0
@@ -162,8 +167,8 @@ IsSuccessBody opcode (Releasedir r) body reply = IsEmptyBody body reply
 IsSuccessBody opcode (Create flags mode umask name) body reply = IsCreatedBody body reply
 IsSuccessBody opcode (BatchForget count items) body reply = ⊥
 IsSuccessBody opcode (Readdirplus r) body reply = IsListedBody true r.size body reply
--- any bytes, but INTERRUPT (36) is answered by the header alone
-IsSuccessBody opcode Passed body reply = (reply ≡ Skipped) × (opcode ≡ 36 → body ≡ [])
+-- any bytes, but INTERRUPT is answered by the header alone
+IsSuccessBody opcode Passed body reply = (reply ≡ Skipped) × (opcode ≡ INTERRUPT → body ≡ [])
 
 -- the body of a success to a request
 abbrev pub IsSuccess : (asked : PlainRequest) → List ℕ → PlainReply → Type 0

@@ -1,8 +1,10 @@
 -- What bytes are a request, and which one.
-use Rattle.std.specs.Prelude.{◌≡◌, ◌≢◌, ℕ, ◌≤◌, ◌+◌, ◌*◌, ◌^◌, List, [], ◌∷◌, ◌++◌, length, ◌⊎◌}
+use Rattle.std.specs.Prelude.{◌≡◌, ◌≢◌, ℕ, ◌≤◌, ◌+◌, ◌*◌, List, [], ◌∷◌, ◌++◌, length, ◌⊎◌}
 use Rattle.fa_capture.specs.declared.codes.TheConstants.{HEADER_TOO_SHORT, LENGTH_FIELD, OPERATION, REQUEST_BODY, PROFILE_LIMIT}
-use Rattle.fa_bodies.specs.declared.attributes.GetattrIn.{GetattrIn}
-use Rattle.fa_bodies.specs.declared.attributes.SetattrIn.{SetattrIn}
+use Rattle.fa_capture.specs.Checks.{checks_of}
+use Rattle.fa_bodies.specs.declared.getattr.GetattrIn.{GetattrIn}
+use Rattle.fa_bodies.specs.declared.setattr.SetattrIn.{SetattrIn}
+use Rattle.fa_bodies.specs.declared.bodies.TheConstants.{MAX_FILE_BYTES}
 use Rattle.fa_bodies.specs.declared.flags.OpenFlags.{OpenFlags}
 use Rattle.fa_bodies.specs.declared.handles.FlushIn.{FlushIn}
 use Rattle.fa_bodies.specs.declared.handles.OpenIn.{OpenIn}
@@ -10,6 +12,7 @@ use Rattle.fa_bodies.specs.declared.handles.ReadIn.{ReadIn}
 use Rattle.fa_bodies.specs.declared.handles.ReleaseIn.{ReleaseIn}
 use Rattle.fa_bodies.specs.declared.init.InitIn.{InitIn}
 use Rattle.fa_bodies.specs.declared.mode.Mode.{Mode}
+use Rattle.fa_bodies.specs.declared.opcodes.TheConstants.{LOOKUP, FORGET, GETATTR, SETATTR, READLINK, SYMLINK, MKNOD, MKDIR, UNLINK, RMDIR, RENAME, LINK, OPEN, READ, WRITE, STATFS, RELEASE, FSYNC, SETXATTR, GETXATTR, LISTXATTR, REMOVEXATTR, FLUSH, INIT, OPENDIR, READDIR, RELEASEDIR, FSYNCDIR, GETLK, SETLK, SETLKW, ACCESS, CREATE, INTERRUPT, BMAP, DESTROY, IOCTL, POLL, BATCH_FORGET, FALLOCATE, READDIRPLUS, RENAME2, LSEEK, COPY_FILE_RANGE}
 use Rattle.fa_bodies.specs.declared.requests.Request.{Request}
 use Rattle.fa_bodies.specs.declared.requests.RequestBody.{RequestBody}
 use Rattle.fa_bodies.specs.declared.requests.RequestBody.TheVariants as declared
@@ -98,81 +101,82 @@ IsOneOf (m ∷ ms) n = (n ≡ m) ⊎ IsOneOf ms n
 -- operations without effect here, whatever is answered
 abbrev pub bystanders : List ℕ
 bystanders =
-    17 ∷ 20 ∷ 30  -- STATFS, FSYNC, FSYNCDIR
-    ∷ 21 ∷ 22 ∷ 23 ∷ 24  -- SETXATTR, GETXATTR, LISTXATTR, REMOVEXATTR
-    ∷ 31 ∷ 32 ∷ 33  -- GETLK, SETLK, SETLKW
-    ∷ 34 ∷ 36 ∷ 37 ∷ 38  -- ACCESS, INTERRUPT, BMAP, DESTROY
-    ∷ 40 ∷ 46  -- POLL, LSEEK
+    STATFS ∷ FSYNC ∷ FSYNCDIR
+    ∷ SETXATTR ∷ GETXATTR ∷ LISTXATTR ∷ REMOVEXATTR
+    ∷ GETLK ∷ SETLK ∷ SETLKW
+    ∷ ACCESS ∷ INTERRUPT ∷ BMAP ∷ DESTROY
+    ∷ POLL ∷ LSEEK
     ∷ []
 
 -- operations that change files in ways that are not judged here
 abbrev pub changers : List ℕ
-changers = 39 ∷ 43 ∷ 45 ∷ 47 ∷ []  -- IOCTL, FALLOCATE, RENAME2, COPY_FILE_RANGE
+changers = IOCTL ∷ FALLOCATE ∷ RENAME2 ∷ COPY_FILE_RANGE ∷ []
 
--- An operation that is read (enum fuse_opcode of fuse.h): those from 1 to 47, of which 7 and 19 are
--- no operations, and 41 is NOTIFY_REPLY.
+-- An operation that is read (enum fuse_opcode of fuse.h): those from LOOKUP, 1, to COPY_FILE_RANGE, 47, of which 7 and
+-- 19 are no operations, and 41 is NOTIFY_REPLY.
 abbrev pub IsOperation : ℕ → Type 0
-IsOperation opcode = (1 ≤ opcode) × (opcode ≤ 47) × (opcode ≢ 7) × (opcode ≢ 19) × (opcode ≢ 41)
+IsOperation opcode =
+    (LOOKUP ≤ opcode) × (opcode ≤ COPY_FILE_RANGE) × (opcode ≢ 7) × (opcode ≢ 19) × (opcode ≢ 41)
 
--- The body of a request with this opcode: one case for each operation whose body is read, with its
--- number in enum fuse_opcode of fuse.h, and one for those that are read by their headers alone.
+-- The body of a request with this opcode (enum fuse_opcode of fuse.h): one case for each operation whose body is read,
+-- and one for those that are read by their headers alone.
 abbrev pub IsRequestBody : ℕ → List ℕ → PlainBody → Type 0
 -- a name
-IsRequestBody opcode body (Lookup name) = (opcode ≡ 1) × IsSpelled body (Name name ∷ [])
+IsRequestBody opcode body (Lookup name) = (opcode ≡ LOOKUP) × IsSpelled body (Name name ∷ [])
 -- struct fuse_forget_in
-IsRequestBody opcode body (Forget nlookup) = (opcode ≡ 2) × IsSpelled body (forget_in nlookup)
+IsRequestBody opcode body (Forget nlookup) = (opcode ≡ FORGET) × IsSpelled body (forget_in nlookup)
 -- struct fuse_getattr_in
-IsRequestBody opcode body (Getattr g) = (opcode ≡ 3) × IsSpelled body (getattr_in g)
+IsRequestBody opcode body (Getattr g) = (opcode ≡ GETATTR) × IsSpelled body (getattr_in g)
 -- struct fuse_setattr_in
-IsRequestBody opcode body (Setattr s) = (opcode ≡ 4) × IsSpelled body (setattr_in s)
+IsRequestBody opcode body (Setattr s) = (opcode ≡ SETATTR) × IsSpelled body (setattr_in s)
 -- nothing
-IsRequestBody opcode body Readlink = (opcode ≡ 5) × IsSpelled body []
+IsRequestBody opcode body Readlink = (opcode ≡ READLINK) × IsSpelled body []
 -- a name, and behind it the target
-IsRequestBody opcode body (Symlink name target) = (opcode ≡ 6) × IsSpelled body (Name name ∷ Target target ∷ [])
+IsRequestBody opcode body (Symlink name target) = (opcode ≡ SYMLINK) × IsSpelled body (Name name ∷ Target target ∷ [])
 -- struct fuse_mknod_in with a type that MKNOD may make, and a name
 IsRequestBody opcode body (Mknod mode rdev umask name) =
-    (opcode ≡ 8) × IsNodeMode (mode_bits mode) × IsSpelled body (mknod_in mode rdev umask ++ Name name ∷ [])
+    (opcode ≡ MKNOD) × IsNodeMode (mode_bits mode) × IsSpelled body (mknod_in mode rdev umask ++ Name name ∷ [])
 -- struct fuse_mkdir_in, and a name
 IsRequestBody opcode body (Mkdir mode umask name) =
-    (opcode ≡ 9) × IsSpelled body (mkdir_in mode umask ++ Name name ∷ [])
+    (opcode ≡ MKDIR) × IsSpelled body (mkdir_in mode umask ++ Name name ∷ [])
 -- a name
-IsRequestBody opcode body (Unlink name) = (opcode ≡ 10) × IsSpelled body (Name name ∷ [])
+IsRequestBody opcode body (Unlink name) = (opcode ≡ UNLINK) × IsSpelled body (Name name ∷ [])
 -- a name
-IsRequestBody opcode body (Rmdir name) = (opcode ≡ 11) × IsSpelled body (Name name ∷ [])
+IsRequestBody opcode body (Rmdir name) = (opcode ≡ RMDIR) × IsSpelled body (Name name ∷ [])
 -- struct fuse_rename_in, and two names
 IsRequestBody opcode body (Rename newdir old_name new_name) =
-    (opcode ≡ 12) × IsSpelled body (rename_in newdir ++ Name old_name ∷ Name new_name ∷ [])
+    (opcode ≡ RENAME) × IsSpelled body (rename_in newdir ++ Name old_name ∷ Name new_name ∷ [])
 -- struct fuse_link_in, and a name
 IsRequestBody opcode body (Link oldnodeid new_name) =
-    (opcode ≡ 13) × IsSpelled body (link_in oldnodeid ++ Name new_name ∷ [])
+    (opcode ≡ LINK) × IsSpelled body (link_in oldnodeid ++ Name new_name ∷ [])
 -- struct fuse_open_in
-IsRequestBody opcode body (Open o) = (opcode ≡ 14) × IsSpelled body (open_in o)
+IsRequestBody opcode body (Open o) = (opcode ≡ OPEN) × IsSpelled body (open_in o)
 -- struct fuse_read_in
-IsRequestBody opcode body (Read r) = (opcode ≡ 15) × IsSpelled body (read_in r)
+IsRequestBody opcode body (Read r) = (opcode ≡ READ) × IsSpelled body (read_in r)
 -- struct fuse_write_in, and as many bytes as its size says
 IsRequestBody opcode body (Write fh offset size write_flags lock_owner flags payload) =
-    (opcode ≡ 16) × BeginsWith body (write_in fh offset size write_flags lock_owner flags) payload
+    (opcode ≡ WRITE) × BeginsWith body (write_in fh offset size write_flags lock_owner flags) payload
     × (length payload ≡ size)
 -- struct fuse_release_in
-IsRequestBody opcode body (Release r) = (opcode ≡ 18) × IsSpelled body (release_in r)
+IsRequestBody opcode body (Release r) = (opcode ≡ RELEASE) × IsSpelled body (release_in r)
 -- struct fuse_flush_in
-IsRequestBody opcode body (Flush f) = (opcode ≡ 25) × IsSpelled body (flush_in f)
+IsRequestBody opcode body (Flush f) = (opcode ≡ FLUSH) × IsSpelled body (flush_in f)
 -- struct fuse_init_in, and any bytes behind it: newer minors append fields
-IsRequestBody opcode body (Init i) = (opcode ≡ 26) × (newer : List ℕ) × BeginsWith body (init_in i) newer
+IsRequestBody opcode body (Init i) = (opcode ≡ INIT) × (newer : List ℕ) × BeginsWith body (init_in i) newer
 -- struct fuse_open_in
-IsRequestBody opcode body (Opendir o) = (opcode ≡ 27) × IsSpelled body (open_in o)
+IsRequestBody opcode body (Opendir o) = (opcode ≡ OPENDIR) × IsSpelled body (open_in o)
 -- struct fuse_read_in
-IsRequestBody opcode body (Readdir r) = (opcode ≡ 28) × IsSpelled body (read_in r)
+IsRequestBody opcode body (Readdir r) = (opcode ≡ READDIR) × IsSpelled body (read_in r)
 -- struct fuse_release_in
-IsRequestBody opcode body (Releasedir r) = (opcode ≡ 29) × IsSpelled body (release_in r)
+IsRequestBody opcode body (Releasedir r) = (opcode ≡ RELEASEDIR) × IsSpelled body (release_in r)
 -- struct fuse_create_in, and a name
 IsRequestBody opcode body (Create flags mode umask name) =
-    (opcode ≡ 35) × IsSpelled body (create_in flags mode umask ++ Name name ∷ [])
+    (opcode ≡ CREATE) × IsSpelled body (create_in flags mode umask ++ Name name ∷ [])
 -- struct fuse_batch_forget_in, and 16 bytes for each item
 IsRequestBody opcode body (BatchForget count items) =
-    (opcode ≡ 42) × BeginsWith body (batch_forget_in count) items × (length items ≡ 16 * count)
+    (opcode ≡ BATCH_FORGET) × BeginsWith body (batch_forget_in count) items × (length items ≡ 16 * count)
 -- struct fuse_read_in
-IsRequestBody opcode body (Readdirplus r) = (opcode ≡ 44) × IsSpelled body (read_in r)
+IsRequestBody opcode body (Readdirplus r) = (opcode ≡ READDIRPLUS) × IsSpelled body (read_in r)
 -- any bytes
 IsRequestBody opcode body Passed = IsOneOf bystanders opcode ⊎ IsOneOf changers opcode
 
@@ -180,18 +184,58 @@ IsRequestBody opcode body Passed = IsOneOf bystanders opcode ⊎ IsOneOf changer
 abbrev pub MayBeAnswered : PlainBody → Type 0
 MayBeAnswered (Forget nlookup) = ⊥
 MayBeAnswered (BatchForget count items) = ⊥
-MayBeAnswered other = Unit {0}
-
--- how many bytes a file may have in this profile
-abbrev pub file_limit : ℕ
-file_limit = 2 ^ 24
+MayBeAnswered (Lookup name) = Unit {0}
+MayBeAnswered (Getattr g) = Unit {0}
+MayBeAnswered (Setattr s) = Unit {0}
+MayBeAnswered Readlink = Unit {0}
+MayBeAnswered (Symlink name target) = Unit {0}
+MayBeAnswered (Mknod mode rdev umask name) = Unit {0}
+MayBeAnswered (Mkdir mode umask name) = Unit {0}
+MayBeAnswered (Unlink name) = Unit {0}
+MayBeAnswered (Rmdir name) = Unit {0}
+MayBeAnswered (Rename newdir old_name new_name) = Unit {0}
+MayBeAnswered (Link oldnodeid new_name) = Unit {0}
+MayBeAnswered (Open o) = Unit {0}
+MayBeAnswered (Read r) = Unit {0}
+MayBeAnswered (Write fh offset size write_flags lock_owner flags payload) = Unit {0}
+MayBeAnswered (Release r) = Unit {0}
+MayBeAnswered (Flush f) = Unit {0}
+MayBeAnswered (Init i) = Unit {0}
+MayBeAnswered (Opendir o) = Unit {0}
+MayBeAnswered (Readdir r) = Unit {0}
+MayBeAnswered (Releasedir r) = Unit {0}
+MayBeAnswered (Create flags mode umask name) = Unit {0}
+MayBeAnswered (Readdirplus r) = Unit {0}
+MayBeAnswered Passed = Unit {0}
 
 -- The request stays within the file limit: no WRITE goes past it, and no SETATTR with FATTR_SIZE asks
 -- for more. A sum in a definition does not wrap.
 abbrev pub IsWithinLimit : PlainBody → Type 0
-IsWithinLimit (Write fh offset size write_flags lock_owner flags payload) = offset + size ≤ file_limit
-IsWithinLimit (Setattr s) = HasFlag (fattr_bits s.valid) fattr_size → s.size ≤ file_limit
-IsWithinLimit other = Unit {0}
+IsWithinLimit (Lookup name) = Unit {0}
+IsWithinLimit (Forget nlookup) = Unit {0}
+IsWithinLimit (Getattr g) = Unit {0}
+IsWithinLimit (Setattr s) = HasFlag (fattr_bits s.valid) fattr_size → s.size ≤ MAX_FILE_BYTES
+IsWithinLimit Readlink = Unit {0}
+IsWithinLimit (Symlink name target) = Unit {0}
+IsWithinLimit (Mknod mode rdev umask name) = Unit {0}
+IsWithinLimit (Mkdir mode umask name) = Unit {0}
+IsWithinLimit (Unlink name) = Unit {0}
+IsWithinLimit (Rmdir name) = Unit {0}
+IsWithinLimit (Rename newdir old_name new_name) = Unit {0}
+IsWithinLimit (Link oldnodeid new_name) = Unit {0}
+IsWithinLimit (Open o) = Unit {0}
+IsWithinLimit (Read r) = Unit {0}
+IsWithinLimit (Write fh offset size write_flags lock_owner flags payload) = offset + size ≤ MAX_FILE_BYTES
+IsWithinLimit (Release r) = Unit {0}
+IsWithinLimit (Flush f) = Unit {0}
+IsWithinLimit (Init i) = Unit {0}
+IsWithinLimit (Opendir o) = Unit {0}
+IsWithinLimit (Readdir r) = Unit {0}
+IsWithinLimit (Releasedir r) = Unit {0}
+IsWithinLimit (Create flags mode umask name) = Unit {0}
+IsWithinLimit (BatchForget count items) = Unit {0}
+IsWithinLimit (Readdirplus r) = Unit {0}
+IsWithinLimit Passed = Unit {0}
 
 -- The bytes are this request: a header whose len is the length of the whole, and a body of its
 -- operation that stays within the file limit.
@@ -231,16 +275,15 @@ length_checks header bytes =
     ∷ (LENGTH_FIELD, IsLengthRight bytes)
     ∷ []
 
--- The checks of a request's opcode and body in their order, each with its code. `Holds Such` says that
--- the opcode and the body at hand are such.
-abbrev pub body_checks : ((ℕ → List ℕ → Type 0) → Type 0) → List (ℕ × Type 0)
-body_checks Holds =
-    (OPERATION, Holds (λ opcode body. IsOperation opcode))
-    ∷ (REQUEST_BODY, Holds HasBody)
-    ∷ (PROFILE_LIMIT, Holds HasBodyWithinLimit)
+-- the rules of a request's opcode and body in their order, each with its code
+abbrev pub body_rules : List (ℕ × (ℕ → List ℕ → Type 0))
+body_rules =
+    (OPERATION, λ opcode body. IsOperation opcode)
+    ∷ (REQUEST_BODY, HasBody)
+    ∷ (PROFILE_LIMIT, HasBodyWithinLimit)
     ∷ []
 
 -- The checks of a request in their order, each with its code. All of them hold exactly where the
 -- bytes are a request.
 abbrev pub request_checks : List ℕ → List (ℕ × Type 0)
-request_checks bytes = length_checks 40 bytes ++ body_checks (HasRequestHeader bytes)
+request_checks bytes = length_checks 40 bytes ++ checks_of (HasRequestHeader bytes) body_rules

@@ -1,12 +1,11 @@
 -- The structs of fuse.h (protocol 7.31) that are read, field by field in the order of the C source.
 use Rattle.std.specs.Prelude.{ℕ, ℤ, List, [], ◌∷◌}
-use Rattle.fa_bodies.specs.declared.attributes.GetattrIn.{GetattrIn}
-use Rattle.fa_bodies.specs.declared.attributes.SetattrIn.{SetattrIn}
-use Rattle.fa_bodies.specs.declared.entry.AttrOut.{AttrOut}
-use Rattle.fa_bodies.specs.declared.entry.Attributes.{Attributes}
+use Rattle.fa_bodies.specs.declared.getattr.GetattrIn.{GetattrIn}
+use Rattle.fa_bodies.specs.declared.setattr.SetattrIn.{SetattrIn}
+use Rattle.fa_bodies.specs.declared.attributes.AttrOut.{AttrOut}
+use Rattle.fa_bodies.specs.declared.attributes.Attributes.{Attributes}
 use Rattle.fa_bodies.specs.declared.entry.EntryOut.{EntryOut}
 use Rattle.fa_bodies.specs.declared.flags.OpenFlags.{OpenFlags}
-use Rattle.fa_bodies.specs.declared.forget_one.ForgetOne.{ForgetOne}
 use Rattle.fa_bodies.specs.declared.handles.FlushIn.{FlushIn}
 use Rattle.fa_bodies.specs.declared.handles.OpenIn.{OpenIn}
 use Rattle.fa_bodies.specs.declared.handles.OpenOut.{OpenOut}
@@ -125,8 +124,8 @@ abbrev pub write_out : (size : ℕ) → List Field
 write_out size = U32 size ∷ Unread 4 ∷ []
 
 -- struct fuse_forget_one, 16 bytes
-abbrev pub forget_one : ForgetOne → List Field
-forget_one item = U64 item.nodeid ∷ U64 item.nlookup ∷ []
+abbrev pub forget_one : (nodeid nlookup : ℕ) → List Field
+forget_one nodeid nlookup = U64 nodeid ∷ U64 nlookup ∷ []
 
 -- struct fuse_dirent before the name, 24 bytes
 abbrev pub dirent_head : (ino off namelen kind : ℕ) → List Field

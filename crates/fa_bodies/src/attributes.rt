@@ -1,29 +1,19 @@
-//! What GETATTR and SETATTR ask for.
+//! Attributes of files, as replies have them.
 
 ghost use Rattle.std.specs.Prelude.{refl};
-ghost use Rattle.fa_bodies.specs.Structs.{getattr_in, setattr_in};
+ghost use Rattle.fa_bodies.specs.Structs.{attr, attr_out};
 
 use crate::block::Block;
 use crate::fields::{skip, u32_at, u64_at};
-use crate::flags::{FattrFlags, GetattrFlags};
 use crate::mode::Mode;
-use bitflags::Flags;
 
-/// Whose attributes are asked for (`struct fuse_getattr_in`): `fh` counts where the flags say so.
-#[derive(Clone, Copy, Debug)]
-pub struct GetattrIn {
-    pub getattr_flags: GetattrFlags,
-    pub fh: u64,
-}
-
-/// The attributes to be set (`struct fuse_setattr_in`), of which those count that `valid` names. Times are seconds and
-/// nanoseconds, and `size` counts bytes.
-#[derive(Clone, Copy, Debug)]
-pub struct SetattrIn {
-    pub valid: FattrFlags,
-    pub fh: u64,
+/// Attributes of a file (`struct fuse_attr`). Times are seconds and nanoseconds, `size` counts
+/// bytes, and `blocks` counts 512 of them.
+#[derive(Clone, Copy, Debug, Default)]
+pub struct Attributes {
+    pub ino: u64,
     pub size: u64,
-    pub lock_owner: u64,
+    pub blocks: u64,
     pub atime: u64,
     pub mtime: u64,
     pub ctime: u64,
@@ -31,44 +21,33 @@ pub struct SetattrIn {
     pub mtimensec: u32,
     pub ctimensec: u32,
     pub mode: Mode,
+    pub nlink: u32,
     pub uid: u32,
     pub gid: u32,
+    pub rdev: u32,
+    pub blksize: u32,
 }
 
-impl Block for GetattrIn {
-    const LEN: usize = 16;
-
-    ghost LEN = { 16 };
-
-    ghost fields = { getattr_in };
-
-    fn at(bytes: &[u8]) -> (GetattrIn, &[u8]) {
-        let (flags, rest) = u32_at(bytes);
-        let rest = skip(rest, 4);
-        let (fh, rest) = u64_at(rest);
-        let getattr = GetattrIn {
-            getattr_flags: GetattrFlags::from_bits_retain(flags),
-            fh,
-        };
-        (getattr, rest)
-    }
-
-    ghost sized = { λ block. refl };
+/// Attributes as a reply gives them (`struct fuse_attr_out`), and how long they stay valid, in seconds
+/// and nanoseconds.
+#[derive(Clone, Copy, Debug, Default)]
+pub struct AttrOut {
+    pub attr_valid: u64,
+    pub attr_valid_nsec: u32,
+    pub attr: Attributes,
 }
 
-impl Block for SetattrIn {
+impl Block for Attributes {
     const LEN: usize = 88;
 
     ghost LEN = { 88 };
 
-    ghost fields = { setattr_in };
+    ghost fields = { attr };
 
-    fn at(bytes: &[u8]) -> (SetattrIn, &[u8]) {
-        let (valid, rest) = u32_at(bytes);
-        let rest = skip(rest, 4);
-        let (fh, rest) = u64_at(rest);
+    fn at(bytes: &[u8]) -> (Attributes, &[u8]) {
+        let (ino, rest) = u64_at(bytes);
         let (size, rest) = u64_at(rest);
-        let (lock_owner, rest) = u64_at(rest);
+        let (blocks, rest) = u64_at(rest);
         let (atime, rest) = u64_at(rest);
         let (mtime, rest) = u64_at(rest);
         let (ctime, rest) = u64_at(rest);
@@ -76,15 +55,16 @@ impl Block for SetattrIn {
         let (mtimensec, rest) = u32_at(rest);
         let (ctimensec, rest) = u32_at(rest);
         let (mode, rest) = u32_at(rest);
-        let rest = skip(rest, 4);
+        let (nlink, rest) = u32_at(rest);
         let (uid, rest) = u32_at(rest);
         let (gid, rest) = u32_at(rest);
+        let (rdev, rest) = u32_at(rest);
+        let (blksize, rest) = u32_at(rest);
         let rest = skip(rest, 4);
-        let setattr = SetattrIn {
-            valid: FattrFlags::from_bits_retain(valid),
-            fh,
+        let attributes = Attributes {
+            ino,
             size,
-            lock_owner,
+            blocks,
             atime,
             mtime,
             ctime,
@@ -92,10 +72,36 @@ impl Block for SetattrIn {
             mtimensec,
             ctimensec,
             mode: Mode::from_bits(mode),
+            nlink,
             uid,
             gid,
+            rdev,
+            blksize,
         };
-        (setattr, rest)
+        (attributes, rest)
+    }
+
+    ghost sized = { λ block. refl };
+}
+
+impl Block for AttrOut {
+    const LEN: usize = 104;
+
+    ghost LEN = { 104 };
+
+    ghost fields = { attr_out };
+
+    fn at(bytes: &[u8]) -> (AttrOut, &[u8]) {
+        let (attr_valid, rest) = u64_at(bytes);
+        let (attr_valid_nsec, rest) = u32_at(rest);
+        let rest = skip(rest, 4);
+        let (attr, rest) = Attributes::at(rest);
+        let attributes = AttrOut {
+            attr_valid,
+            attr_valid_nsec,
+            attr,
+        };
+        (attributes, rest)
     }
 
     ghost sized = { λ block. refl };

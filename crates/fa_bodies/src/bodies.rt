@@ -1,14 +1,15 @@
 //! The bodies of requests: one reader for each shape.
 
 ghost use Rattle.std.specs.Prelude.{◌↔◌, ◌++◌, ℕ, List, [], ◌∷◌, IsTrue, IfSome, IfNone, IfOk, IfErr};
-ghost use Rattle.fa_capture.specs.Checks.{FirstFailure};
+ghost use Rattle.fa_capture.specs.Checks.{FirstFailure, checks_of};
 ghost use Rattle.fa_bodies.specs.Fields.{IsSpelled};
 ghost use Rattle.fa_bodies.specs.Fields.Field.{Name};
-ghost use Rattle.fa_bodies.specs.Requests.{PlainBody, IsRequestBody, IsWithinLimit, body_checks, body_shown};
+ghost use Rattle.fa_bodies.specs.Requests.{PlainBody, IsRequestBody, IsWithinLimit, body_rules, body_shown};
 
 use crate::block::{Block, front, whole};
 use crate::flags::FattrFlags;
 use crate::forget::{BatchForgetIn, ForgetIn};
+use crate::forget_one::ForgetOne;
 use crate::handles::WriteIn;
 use crate::making::{CreateIn, LinkIn, MkdirIn, MknodIn, RenameIn};
 use crate::names::{name_at, whole_name, whole_target};
@@ -17,8 +18,6 @@ use crate::requests::RequestBody;
 use bitflags::Flags;
 use fa_capture::codes;
 
-/// The bytes of an item of BATCH_FORGET (`struct fuse_forget_one`).
-const ITEM: usize = 16;
 /// The most bytes that a file may have.
 pub const MAX_FILE_BYTES: u64 = 16_777_216;
 
@@ -27,7 +26,7 @@ pub(crate) fn request_body(opcode: u32, body: &[u8]) -> Result<RequestBody<'_>, 
     ensures found { IfOk result (λ b. IsRequestBody opcode body.now (body_shown b)) }
     ensures limit { IfOk result (λ b. IsWithinLimit (body_shown b)) }
     ensures fault { IfErr result
-        (λ code. FirstFailure (body_checks (λ Such. Such opcode body.now)) code) }
+        (FirstFailure (checks_of (λ Such. Such opcode body.now) body_rules)) }
 {
     if !is_operation(opcode) {
         return Err(codes::OPERATION);
@@ -212,7 +211,7 @@ fn batch_forget(body: &[u8]) -> Option<RequestBody<'_>>
     ensures none { IfNone result ((b : PlainBody) → IsRequestBody BATCH_FORGET body.now b → ⊥) }
 {
     let (BatchForgetIn { count }, items) = front(body)?;
-    if items.len() != ITEM * count as usize {
+    if items.len() != ForgetOne::LEN * count as usize {
         return None;
     }
     Some(RequestBody::BatchForget { count, items })
@@ -229,6 +228,28 @@ fn is_within_limit(body: &RequestBody<'_>) -> bool
         RequestBody::Setattr(setattr) => {
             !setattr.valid.contains(FattrFlags::SIZE) || setattr.size <= MAX_FILE_BYTES
         }
-        _ => true,
+        RequestBody::Lookup { .. }
+        | RequestBody::Forget { .. }
+        | RequestBody::Getattr(_)
+        | RequestBody::Readlink
+        | RequestBody::Symlink { .. }
+        | RequestBody::Mknod { .. }
+        | RequestBody::Mkdir { .. }
+        | RequestBody::Unlink { .. }
+        | RequestBody::Rmdir { .. }
+        | RequestBody::Rename { .. }
+        | RequestBody::Link { .. }
+        | RequestBody::Open(_)
+        | RequestBody::Read(_)
+        | RequestBody::Release(_)
+        | RequestBody::Flush(_)
+        | RequestBody::Init(_)
+        | RequestBody::Opendir(_)
+        | RequestBody::Readdir(_)
+        | RequestBody::Releasedir(_)
+        | RequestBody::Create { .. }
+        | RequestBody::BatchForget { .. }
+        | RequestBody::Readdirplus(_)
+        | RequestBody::Passed => true,
     }
 }

@@ -1,38 +1,19 @@
-//! What replies say of a file: its attributes, and the entry of a name.
+//! The entry of a name, as replies have it.
 
 ghost use Rattle.std.specs.Prelude.{refl};
-ghost use Rattle.fa_bodies.specs.Structs.{attr, attr_out, entry_out};
+ghost use Rattle.fa_bodies.specs.Structs.{entry_out};
 
+use crate::attributes::Attributes;
 use crate::block::Block;
-use crate::fields::{skip, u32_at, u64_at};
-use crate::mode::Mode;
+use crate::fields::{u32_at, u64_at};
 
-/// Attributes of a file (`struct fuse_attr`). Times are seconds and nanoseconds, `size` counts
-/// bytes, and `blocks` counts 512 of them.
-#[derive(Clone, Copy, Debug, Default)]
-pub struct Attributes {
-    pub ino: u64,
-    pub size: u64,
-    pub blocks: u64,
-    pub atime: u64,
-    pub mtime: u64,
-    pub ctime: u64,
-    pub atimensec: u32,
-    pub mtimensec: u32,
-    pub ctimensec: u32,
-    pub mode: Mode,
-    pub nlink: u32,
-    pub uid: u32,
-    pub gid: u32,
-    pub rdev: u32,
-    pub blksize: u32,
-}
-
-/// A file as a reply gives it for a name (`struct fuse_entry_out`): its node id, which is 0 where
-/// the name is not there, how long the name and the attributes stay valid, in seconds and
-/// nanoseconds, and the attributes.
+/// A file as a reply gives it for a name (`struct fuse_entry_out`): its node id, how long the name and the attributes
+/// stay valid, in seconds and nanoseconds, and the attributes.
 #[derive(Clone, Copy, Debug, Default)]
 pub struct EntryOut {
+    /// The node id of the file. In the answer of a LOOKUP 0 says that the name is not there, for as long as
+    /// `entry_valid` tells. In an entry of a READDIRPLUS 0 says that the name is listed without a look-up, so that no node
+    /// is given.
     pub nodeid: u64,
     pub generation: u64,
     pub entry_valid: u64,
@@ -40,62 +21,6 @@ pub struct EntryOut {
     pub entry_valid_nsec: u32,
     pub attr_valid_nsec: u32,
     pub attr: Attributes,
-}
-
-/// Attributes as a reply gives them (`struct fuse_attr_out`), and how long they stay valid, in seconds
-/// and nanoseconds.
-#[derive(Clone, Copy, Debug, Default)]
-pub struct AttrOut {
-    pub attr_valid: u64,
-    pub attr_valid_nsec: u32,
-    pub attr: Attributes,
-}
-
-impl Block for Attributes {
-    const LEN: usize = 88;
-
-    ghost LEN = { 88 };
-
-    ghost fields = { attr };
-
-    fn at(bytes: &[u8]) -> (Attributes, &[u8]) {
-        let (ino, rest) = u64_at(bytes);
-        let (size, rest) = u64_at(rest);
-        let (blocks, rest) = u64_at(rest);
-        let (atime, rest) = u64_at(rest);
-        let (mtime, rest) = u64_at(rest);
-        let (ctime, rest) = u64_at(rest);
-        let (atimensec, rest) = u32_at(rest);
-        let (mtimensec, rest) = u32_at(rest);
-        let (ctimensec, rest) = u32_at(rest);
-        let (mode, rest) = u32_at(rest);
-        let (nlink, rest) = u32_at(rest);
-        let (uid, rest) = u32_at(rest);
-        let (gid, rest) = u32_at(rest);
-        let (rdev, rest) = u32_at(rest);
-        let (blksize, rest) = u32_at(rest);
-        let rest = skip(rest, 4);
-        let attributes = Attributes {
-            ino,
-            size,
-            blocks,
-            atime,
-            mtime,
-            ctime,
-            atimensec,
-            mtimensec,
-            ctimensec,
-            mode: Mode::from_bits(mode),
-            nlink,
-            uid,
-            gid,
-            rdev,
-            blksize,
-        };
-        (attributes, rest)
-    }
-
-    ghost sized = { λ block. refl };
 }
 
 impl Block for EntryOut {
@@ -123,29 +48,6 @@ impl Block for EntryOut {
             attr,
         };
         (entry, rest)
-    }
-
-    ghost sized = { λ block. refl };
-}
-
-impl Block for AttrOut {
-    const LEN: usize = 104;
-
-    ghost LEN = { 104 };
-
-    ghost fields = { attr_out };
-
-    fn at(bytes: &[u8]) -> (AttrOut, &[u8]) {
-        let (attr_valid, rest) = u64_at(bytes);
-        let (attr_valid_nsec, rest) = u32_at(rest);
-        let rest = skip(rest, 4);
-        let (attr, rest) = Attributes::at(rest);
-        let attributes = AttrOut {
-            attr_valid,
-            attr_valid_nsec,
-            attr,
-        };
-        (attributes, rest)
     }
 
     ghost sized = { λ block. refl };

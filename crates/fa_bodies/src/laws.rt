@@ -1,5 +1,10 @@
 //! What holds of the grammar of messages. Each function does nothing: its contract is the law.
 
+ghost use Rattle.std.specs.Prelude.{◌≡◌};
+ghost use Rattle.fa_bodies.specs.declared.bodies.TheConstants.{MAX_FILE_BYTES};
+ghost use Rattle.fa_bodies.specs.declared.names.TheConstants.{MAX_NAME};
+ghost use Rattle.fa_bodies.specs.declared.requests.TheConstants.{ROOT_ID};
+ghost use Rattle.fa_bodies.specs.Numbers.{OpcodesAreNumbered, ErrorsAreNumbered};
 ghost use Rattle.fa_bodies.specs.Laws.{RequestIsOne, RequestPassesChecks, OperationHasBody, ReplyHeadIsOne, ReplyHeadPassesChecks, ReplyIsOne};
 ghost use Rattle.fa_bodies.specs.Laws.{ItemsAreOne, BytesHoldItems, EntriesAreOne, BytesHoldEntries, CountedItems, WholeEntries};
 
@@ -61,4 +66,17 @@ pub fn counted_items()
 /// Bytes that are whole directory entries hold these.
 pub fn whole_entries()
     ensures { WholeEntries }
+{}
+
+/// Each opcode has its number in `enum fuse_opcode` of `fuse.h`, and each error its number in `errno.h`, negated.
+pub fn numbers()
+    ensures opcodes { OpcodesAreNumbered }
+    ensures errors { ErrorsAreNumbered }
+{}
+
+/// The limits of this profile for names and files, and the node id of the root, as numbers.
+pub fn limits()
+    ensures name { MAX_NAME ≡ 1024 }
+    ensures file { MAX_FILE_BYTES ≡ 16777216 }
+    ensures root { ROOT_ID ≡ 1 }
 {}

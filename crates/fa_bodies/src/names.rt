@@ -5,7 +5,7 @@ ghost use Rattle.fa_bodies.specs.Names.{HasNoZero, IsFilename, IsName, IsTarget}
 ghost use Rattle.fa_bodies.specs.Fields.{BeginsWith, IsSpelled};
 ghost use Rattle.fa_bodies.specs.Fields.Field.{Name, Target};
 
-/// The most bytes that a name may have.
+/// The most bytes that a name may have (`FUSE_NAME_MAX` of Linux).
 pub const MAX_NAME: usize = 1024;
 
 /// Whether bytes are a filename: 1 to 1,024 bytes without zero byte and slash.
@@ -15,15 +15,21 @@ pub(crate) fn is_filename(bytes: &[u8]) -> bool
     !bytes.is_empty() && bytes.len() <= MAX_NAME && bytes.iter().all(|b| *b != 0 && *b != b'/')
 }
 
-/// Whether bytes are a name in a request: a filename that is neither `.` nor `..`.
-fn is_name(bytes: &[u8]) -> bool
+/// Whether bytes are a name as a request may have it: a filename of POSIX, which is 1 to 1,024 bytes without zero byte and
+/// slash, but neither `.` nor `..`.
+///
+/// Takes no memory, in time linear in the bytes.
+pub fn is_name(bytes: &[u8]) -> bool
     ensures { IsTrue result ↔ IsName bytes.now }
 {
     is_filename(bytes) && bytes != b".".as_slice() && bytes != b"..".as_slice()
 }
 
-/// Whether bytes are the target of a symbolic link: one byte or more, none of them zero.
-fn is_target(bytes: &[u8]) -> bool
+/// Whether bytes are the target of a symbolic link (POSIX `symlink`): one byte or more, none of them zero. Slashes, `.` and
+/// `..` may stand in it.
+///
+/// Takes no memory, in time linear in the bytes.
+pub fn is_target(bytes: &[u8]) -> bool
     ensures { IsTrue result ↔ IsTarget bytes.now }
 {
     !bytes.is_empty() && bytes.iter().all(|b| *b != 0)

@@ -1,9 +1,9 @@
 //! The readers of whole messages.
 
-ghost use Rattle.std.specs.Prelude.{◌≡◌, ◌↔◌, ℤ, IsTrue, IfOk, IfErr, OnOk, IfSome, IfNone};
-ghost use Rattle.fa_capture.specs.Checks.{AllHold, FirstFailure};
+ghost use Rattle.std.specs.Prelude.{◌≡◌, ◌↔◌, IsTrue, IfOk, IfErr, OnOk, IfSome, IfNone};
+ghost use Rattle.fa_capture.specs.Checks.{AllHold, FirstFailure, checks_of};
 ghost use Rattle.fa_bodies.specs.Requests.{PlainRequest, IsRequest, request_shown, request_checks};
-ghost use Rattle.fa_bodies.specs.Replies.{PlainReply, IsErrorValue, IsNotificationCode, IsReplyHead, IsReply, Says, head_checks, reply_shown, reply_head_checks, reply_checks};
+ghost use Rattle.fa_bodies.specs.Replies.{PlainReply, IsErrorValue, IsNotificationCode, IsReplyHead, IsReply, Says, RepeatsUnique, head_rules, reply_shown, reply_head_checks, reply_checks};
 
 use crate::bodies::request_body;
 use crate::headers::{IN_HEADER, OUT_HEADER, check_length, in_header_at, out_header_at};
@@ -79,8 +79,8 @@ pub fn reply_head(p: &Packet<'_>) -> Result<ReplyHead, u16>
 
 /// Looks whether the error of a reply, or the code of a notification, is right.
 fn check_head(head: ReplyHead) -> Result<(), u16>
-    ensures ok { OnOk result (AllHold (head_checks (λ Such. Such head))) }
-    ensures fault { IfErr result (FirstFailure (head_checks (λ Such. Such head))) }
+    ensures ok { OnOk result (AllHold (checks_of (λ Such. Such head) head_rules)) }
+    ensures fault { IfErr result (FirstFailure (checks_of (λ Such. Such head) head_rules)) }
 {
     if head.unique == 0 {
         if !is_notification_code(head.error) {
@@ -120,8 +120,7 @@ fn is_error_value(error: i32) -> bool
 ///
 /// Takes no memory. The time is constant, but for READDIR and READDIRPLUS linear in the payload.
 pub fn reply_body<'a>(asked: &Request<'_>, p: &Packet<'a>) -> Result<Reply<'a>, u16>
-    requires { (error : ℤ)
-        × IsReplyHead p.now.bytes.now (record { unique = asked.now.unique; error = error }) }
+    requires { RepeatsUnique p.now.bytes.now asked.now.unique }
     ensures found { IfOk result
         (λ reply. IsReply (request_shown asked.now) p.now.bytes.now (reply_shown reply)) }
     ensures only { IfOk result

@@ -1,7 +1,8 @@
 //! Replies, as the server sends them.
 
+use crate::attributes::AttrOut;
 use crate::dirent::Entries;
-use crate::entry::{AttrOut, EntryOut};
+use crate::entry::EntryOut;
 use crate::handles::OpenOut;
 use crate::init::Negotiated;
 

@@ -3,11 +3,15 @@
 ghost use Rattle.std.specs.Prelude.{◌↔◌, IsTrue};
 ghost use Rattle.fa_bodies.specs.Requests.{MayBeAnswered, body_shown};
 
-use crate::attributes::{GetattrIn, SetattrIn};
 use crate::flags::OpenFlags;
+use crate::getattr::GetattrIn;
 use crate::handles::{FlushIn, OpenIn, ReadIn, ReleaseIn};
 use crate::init::InitIn;
 use crate::mode::Mode;
+use crate::setattr::SetattrIn;
+
+/// The node id of the root (`FUSE_ROOT_ID` of `fuse.h`).
+pub const ROOT_ID: u64 = 1;
 
 /// What a request asks for, by its operation (`enum fuse_opcode` of `fuse.h`). Fields have the names of `fuse.h`, and
 /// what is of no use is left out. Names, targets and payloads are slices of the message.
@@ -115,10 +119,32 @@ impl RequestBody<'_> {
     pub fn may_be_answered(&self) -> bool
         ensures { IsTrue result ↔ MayBeAnswered (body_shown self.now) }
     {
-        !matches!(
-            self,
-            RequestBody::Forget { .. } | RequestBody::BatchForget { .. }
-        )
+        match self {
+            RequestBody::Forget { .. } | RequestBody::BatchForget { .. } => false,
+            RequestBody::Lookup { .. }
+            | RequestBody::Getattr(_)
+            | RequestBody::Setattr(_)
+            | RequestBody::Readlink
+            | RequestBody::Symlink { .. }
+            | RequestBody::Mknod { .. }
+            | RequestBody::Mkdir { .. }
+            | RequestBody::Unlink { .. }
+            | RequestBody::Rmdir { .. }
+            | RequestBody::Rename { .. }
+            | RequestBody::Link { .. }
+            | RequestBody::Open(_)
+            | RequestBody::Read(_)
+            | RequestBody::Write { .. }
+            | RequestBody::Release(_)
+            | RequestBody::Flush(_)
+            | RequestBody::Init(_)
+            | RequestBody::Opendir(_)
+            | RequestBody::Readdir(_)
+            | RequestBody::Releasedir(_)
+            | RequestBody::Create { .. }
+            | RequestBody::Readdirplus(_)
+            | RequestBody::Passed => true,
+        }
     }
 }
 

@@ -20,11 +20,12 @@
 //! The first line of a call's comment spells its message in short: `>` is a request and `<` a reply,
 //! `uU` its unique U, and N the node of a request.
 
-use crate::attributes::SetattrIn;
-use crate::entry::{Attributes, EntryOut};
+use crate::attributes::Attributes;
+use crate::entry::EntryOut;
 use crate::flags::{FattrFlags, FopenFlags, GetattrFlags, InitFlags, OpenFlags};
 use crate::mode::Mode;
 use crate::opcodes;
+use crate::setattr::SetattrIn;
 use Field::{Bytes, Name, U32, U64, Zeros};
 use bitflags::Flags;
 use fa_capture::Direction;

@@ -9,8 +9,8 @@ ghost use Rattle.fa_bodies.specs.Listing.{entries_in, entries_left};
 use crate::dirent::{Entries, dirent_at};
 use crate::forget_one::Items;
 
-/// The items of BATCH_FORGET that stand in bytes (`struct fuse_forget_one` of `fuse.h`, 16 bytes
-/// each), in their order.
+/// The items of BATCH_FORGET that stand in bytes (`struct fuse_forget_one` of `fuse.h`, 16 bytes each), in their order,
+/// as pairs of a node id and a number of lookups.
 ///
 /// The walk ends before a rest of fewer than 16 bytes. It takes no memory, and constant time for
 /// each item.

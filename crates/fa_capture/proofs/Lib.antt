@@ -1,4 +1,4 @@
-pub mod ChecksLemmas
+pub mod CallerLemmas
 pub mod FramingLemmas
 pub mod ReadingLemmas
 pub mod PullLemmas

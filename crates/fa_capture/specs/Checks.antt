@@ -10,3 +10,8 @@ FirstFailure (c ∷ later) code = ((¬ c.1) × (code ≡ c.0)) ⊎ (c.1 × First
 abbrev pub AllHold : List (ℕ × Type 0) → Type 0
 AllHold [] = Unit {0}
 AllHold (c ∷ later) = c.1 × AllHold later
+
+-- Rules of some kind as checks, each with its code: what a rule says where it holds of the things at hand.
+abbrev pub checks_of : {S : Type 1} → (S → Type 0) → List (ℕ × S) → List (ℕ × Type 0)
+checks_of holds [] = []
+checks_of holds (rule ∷ rules) = (rule.0, holds rule.1) ∷ checks_of holds rules

@@ -1,7 +1,16 @@
-pub mod Checks
+-- What the crate's contracts speak of, in the order in which it reads best.
+
+-- a message: which way it went, and its bytes
 pub mod Message
+-- checks in a stated order, and the first that fails
+pub mod Checks
+-- how messages are spelled as a capture
 pub mod Framing
+-- what bytes hold: their messages, and the fault that ends them
 pub mod Reading
+-- what a pull does to an input
 pub mod Streams
+-- the marks of a device
 pub mod Device
+-- the text of each code
 pub mod Codes

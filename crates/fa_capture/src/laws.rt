@@ -3,6 +3,7 @@
 ghost use Rattle.std.specs.Prelude.{◌≡◌};
 ghost use Rattle.fa_capture.specs.Reading.{OneReading};
 ghost use Rattle.fa_capture.specs.declared.limits.TheConstants.{MAX_MESSAGES, MAX_MESSAGE_BYTES, MAX_CAPTURE_BYTES};
+ghost use Rattle.fa_capture.specs.declared.input.TheConstants.{MAX_READ_LIMIT};
 
 /// Two readings of the same bytes have the same packets and the same fault.
 pub fn one_reading()
@@ -14,4 +15,5 @@ pub fn limits()
     ensures messages { MAX_MESSAGES ≡ 16777216 }
     ensures message_bytes { MAX_MESSAGE_BYTES ≡ 2097152 }
     ensures capture_bytes { MAX_CAPTURE_BYTES ≡ 268435456 }
+    ensures read_limit { MAX_READ_LIMIT ≡ 402653184 }
 {}

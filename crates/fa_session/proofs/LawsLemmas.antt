@@ -6,14 +6,14 @@ use Rattle.std.proofs.lemmas.Bool.{cases_lt}
 use Rattle.std.proofs.lemmas.List.{length-take}
 use Rattle.std.proofs.lemmas.Option.{slice_get_within}
 use Rattle.fa_capture.specs.declared.packet.Direction.{Direction}
-use Rattle.fa_capture.specs.Checks.{AllHold}
+use Rattle.fa_capture.specs.Checks.{AllHold, checks_of}
 use Rattle.fa_capture.specs.Message.{Message}
 use Rattle.fa_bodies.specs.Laws.{RequestIsOne, ReplyHeadIsOne}
 use Rattle.fa_bodies.specs.declared.replies.ReplyHead.{ReplyHead}
 use Rattle.fa_bodies.specs.Requests.{PlainRequest, IsRequest}
 use Rattle.fa_bodies.specs.Replies.{reply_head_checks}
 use Rattle.fa_session.specs.Answers.{IsReplyMessage, IsRequestAt, Answers, AnswersAt}
-use Rattle.fa_session.specs.Allowed.{ForReply, reply_rules, checks_of, answer_checks, checks_by}
+use Rattle.fa_session.specs.Allowed.{ForReply, reply_rules, answer_checks, checks_by}
 use Rattle.fa_session.specs.Laws.{AnswersOne, AnsweredOnce, EachReplyAnswers}
 
 -- ---- lists

@@ -1,6 +1,5 @@
-pub mod ChecksLemmas
+pub mod CallerLemmas
 pub mod RequestLemmas
-pub mod GrowthLemmas
 pub mod ShowsLemmas
 pub mod MessageLemmas
 pub mod TableLemmas

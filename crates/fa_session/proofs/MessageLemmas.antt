@@ -5,18 +5,18 @@ use Rattle.std.proofs.lemmas.List.{nil_from_length}
 use Rattle.fa_capture.specs.declared.codes.TheConstants.{FIRST_NOT_INIT, NO_REQUEST_WAITS, REPLY_BODY}
 use Rattle.fa_capture.specs.declared.packet.Direction.{Direction}
 use Rattle.fa_capture.specs.declared.packet.Direction.TheVariants.{ToServer, FromServer}
-use Rattle.fa_capture.specs.Checks.{FirstFailure, AllHold}
+use Rattle.fa_capture.specs.Checks.{FirstFailure, AllHold, checks_of}
 use Rattle.fa_capture.specs.Message.{Message}
 use Rattle.fa_bodies.specs.declared.replies.ReplyHead.{ReplyHead}
 use Rattle.fa_bodies.specs.Requests.{PlainRequest, MayBeAnswered, request_checks}
 use Rattle.fa_bodies.specs.Replies.{PlainReply, IsReply, reply_head_checks, reply_checks}
 use Rattle.fa_session.specs.Answers.{IsReplyMessage, Answers}
-use Rattle.fa_session.specs.Allowed.{ForRequest, ForAnswered, ForReply, request_rules, reply_rules, checks_of, checks_by, session_checks, IsAllowed}
+use Rattle.fa_session.specs.Allowed.{ForRequest, ForAnswered, ForReply, request_rules, reply_rules, checks_by, session_checks, IsAllowed}
 use Rattle.fa_session.specs.Plain.{PlainSession, PlainWaiting}
 use Rattle.fa_session.specs.Refusals.{IsNewlyOutstanding}
 use Rattle.fa_session.specs.Shows.{Shows}
-use Rattle.fa_session.specs.Steps.{request_checked, reply_checked, waiting_for}
-use Rattle.fa_session.proofs.ChecksLemmas.{fails_first, fails_behind, hold_both, lifted_failure, lifted_hold}
+use Rattle.fa_session.specs.parts.Steps.{request_checked, reply_checked, waiting_for}
+use Rattle.fa_capture.proofs.CallerLemmas.{fails_first, fails_behind, hold_both, lifted_failure, lifted_hold}
 use Rattle.fa_session.proofs.RequestLemmas.{some_came, outstanding_found}
 use Rattle.fa_session.proofs.ShowsLemmas.{IsOnlyRequest, IsOnlyHead, IsMatched, head_unique, notice_answers_none, matched_answers, matched_only}
 

@@ -8,7 +8,7 @@ use Rattle.fa_session.specs.Answers.{IsOutstanding}
 use Rattle.fa_session.specs.Rules.{IsInit, IsInterrupt, IsInitAnswered, IsUniqueFree}
 use Rattle.fa_session.specs.Plain.{PlainSession, PlainWaiting}
 use Rattle.fa_session.specs.Shows.{Shows, IsNegotiated}
-use Rattle.fa_session.specs.Steps.{request_checked, waiting_for}
+use Rattle.fa_session.specs.parts.Steps.{request_checked, waiting_for}
 
 -- a session that counts messages shows some
 pub some_came : (c : List Message) (s : PlainSession) → Shows c s → (s.messages ≡ 0 → ⊥) → c ≡ [] → ⊥

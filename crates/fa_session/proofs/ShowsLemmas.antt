@@ -12,6 +12,7 @@ use Rattle.fa_bodies.specs.declared.replies.ReplyHead.{ReplyHead}
 use Rattle.fa_bodies.specs.declared.init.InitIn.{InitIn}
 use Rattle.fa_bodies.specs.declared.init.Negotiated.{Negotiated}
 use Rattle.fa_bodies.specs.Flags.{init_bits}
+use Rattle.fa_bodies.specs.declared.opcodes.TheConstants.{INTERRUPT}
 use Rattle.fa_bodies.specs.Requests.{PlainRequest, PlainBody, IsRequest, IsRequestBody, MayBeAnswered}
 use Rattle.fa_bodies.specs.Requests.PlainBody.{Forget, BatchForget, Init}
 use Rattle.fa_bodies.specs.Replies.{PlainReply, IsReplyHead, IsReply, IsSuccessBody}
@@ -21,8 +22,8 @@ use Rattle.fa_session.specs.Rules.{IsInit, IsInitAccepted}
 use Rattle.fa_session.specs.Allowed.{IsAllowed}
 use Rattle.fa_session.specs.Plain.{PlainSession, PlainWaiting}
 use Rattle.fa_session.specs.Shows.{Shows, IsNegotiated}
-use Rattle.fa_session.specs.Steps.{request_checked, waiting_for, flags_of, IsAsked, IsAnswered, noticed}
-use Rattle.fa_session.proofs.GrowthLemmas.{one_direction, asked_cases, waited, not_now, waits_now, waits_still, get_last, take_all_before, settled_still, allowed_more}
+use Rattle.fa_session.specs.parts.Steps.{request_checked, waiting_for, flags_of, NotesRequest, NotesReply, noticed}
+use Rattle.fa_session.proofs.CallerLemmas.{one_direction, asked_cases, waited, not_now, waits_now, waits_still, get_last, take_all_before, settled_still, allowed_more}
 use Rattle.fa_session.proofs.RequestLemmas.{outstanding_is}
 
 -- two numbers are equal or not
@@ -39,7 +40,7 @@ may_or_not (BatchForget count items) = inr (λ may. may)
 may_or_not other = inl tt
 
 -- a request that only forgets is no INTERRUPT
-no_interrupt : (opcode : ℕ) (bytes : List ℕ) (body : PlainBody) → IsRequestBody opcode bytes body → (MayBeAnswered body → ⊥) → opcode ≡ 36 → ⊥
+no_interrupt : (opcode : ℕ) (bytes : List ℕ) (body : PlainBody) → IsRequestBody opcode bytes body → (MayBeAnswered body → ⊥) → opcode ≡ INTERRUPT → ⊥
 no_interrupt opcode bytes (Forget nlookup) is forgets interrupt = omega (arith, is.0, interrupt)
 no_interrupt opcode bytes (BatchForget count items) is forgets interrupt = omega (arith, is.0, interrupt)
 no_interrupt opcode bytes other is forgets interrupt = forgets tt
@@ -61,7 +62,7 @@ request_answers_none : (c : List Message) (m : Message) (r : PlainRequest) → I
 request_answers_none c m r request p s answers = one_direction m request.is.0 answers.reply.1.0
 
 -- where a request may be answered, it is found by its unique from now on
-outstanding_kept : (c : List Message) (m : Message) (s new : PlainSession) (r : PlainRequest) → Shows c s → IsAsked s r new → IsOnlyRequest m r → MayBeAnswered r.body → (unique : ℕ) (w : PlainWaiting)
+outstanding_kept : (c : List Message) (m : Message) (s new : PlainSession) (r : PlainRequest) → Shows c s → NotesRequest s new r → IsOnlyRequest m r → MayBeAnswered r.body → (unique : ℕ) (w : PlainWaiting)
     → (waiting_for new unique ≡ Some w) ↔ (IsOutstanding (c ++ m ∷ []) w.at w.request × (w.request.unique ≡ unique))
 outstanding_kept c m s new r shows asked request may unique w =
     let law : waiting_for new unique ≡ cond (eqb unique r.unique) (Some (record { at = s.messages; request = r })) (waiting_for s unique) = asked.kept may unique in
@@ -94,7 +95,7 @@ outstanding_kept c m s new r shows asked request may unique w =
     ]
 
 -- where a request only forgets, the table stays
-outstanding_forgotten : (c : List Message) (m : Message) (s new : PlainSession) (r : PlainRequest) → Shows c s → IsAsked s r new → IsOnlyRequest m r → AllHold (request_checked c r) → (MayBeAnswered r.body → ⊥)
+outstanding_forgotten : (c : List Message) (m : Message) (s new : PlainSession) (r : PlainRequest) → Shows c s → NotesRequest s new r → IsOnlyRequest m r → AllHold (request_checked c r) → (MayBeAnswered r.body → ⊥)
     → (unique : ℕ) (w : PlainWaiting) → (waiting_for new unique ≡ Some w) ↔ (IsOutstanding (c ++ m ∷ []) w.at w.request × (w.request.unique ≡ unique))
 outstanding_forgotten c m s new r shows asked request hold forgets unique w =
     let found : waiting_for new unique ≡ waiting_for s unique =
@@ -112,7 +113,7 @@ outstanding_forgotten c m s new r shows asked request hold forgets unique w =
     )
 
 -- a session that took a request that keeps the rules
-pub shows_asked : (c : List Message) (m : Message) (s new : PlainSession) (r : PlainRequest) → Shows c s → IsAsked s r new → IsOnlyRequest m r → AllHold (request_checked c r) → IsAllowed c m
+pub shows_asked : (c : List Message) (m : Message) (s new : PlainSession) (r : PlainRequest) → Shows c s → NotesRequest s new r → IsOnlyRequest m r → AllHold (request_checked c r) → IsAllowed c m
     → Shows (c ++ m ∷ []) new
 shows_asked c m s new r shows asked request hold allowed = record {
   allowed = allowed_more c m shows.allowed allowed;
@@ -240,7 +241,7 @@ settled_answered c m s head w reply matched is accepted =
 
 -- a session that took the reply to a request
 pub shows_answered : (c : List Message) (m : Message) (s new : PlainSession) (head : ReplyHead) (w : PlainWaiting) (reply : PlainReply) → IsMatched c m s head w → IsReply w.request m.bytes reply
-    → IsInitAccepted w.request reply → IsAnswered s head.unique (flags_of w.request.body reply) new → IsAllowed c m → Shows (c ++ m ∷ []) new
+    → IsInitAccepted w.request reply → NotesReply s new head.unique (flags_of w.request.body reply) → IsAllowed c m → Shows (c ++ m ∷ []) new
 shows_answered c m s new head w reply matched is accepted answered allowed =
     let shows = matched.shows in
     record {

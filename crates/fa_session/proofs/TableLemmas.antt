@@ -15,8 +15,8 @@ use Rattle.fa_bodies.specs.Requests.{PlainRequest, MayBeAnswered}
 use Rattle.fa_session.specs.declared.session.Session.TheInside.{Inside}
 use Rattle.fa_session.specs.Plain.{PlainSession, PlainWaiting}
 use Rattle.fa_session.specs.Shows.{Shows, IsNegotiated}
-use Rattle.fa_session.specs.Steps.{waiting_for, IsAsked, IsAnswered}
-use Rattle.fa_session.specs.View.{waiting_shown, entries_shown, by_unique, session_shown}
+use Rattle.fa_session.specs.parts.Steps.{waiting_for, NotesRequest, NotesReply}
+use Rattle.fa_session.specs.parts.View.{waiting_shown, entries_shown, by_unique, session_shown}
 
 -- what a test chooses of two options shows what it chooses of what they show
 shown_by_test : (test : Bool) (one two : Option Waiting) → option_map waiting_shown (cond test one two) ≡ cond test (option_map waiting_shown one) (option_map waiting_shown two)
@@ -92,9 +92,9 @@ shown_remove old new at updates unique =
 pub answered_shown : (inside : Inside) (old new : PlainSession) (answered : ℕ) (flags : Option ℕ) (table : List (ℕ × Waiting))
     → session_shown inside ≡ old → new.messages ≡ inside.messages + 1 → new.negotiated ≡ option_or flags inside.negotiated → new.waiting ≡ by_unique table
     → ((unique : ℕ) → lookup (nat_eq unique) table ≡ cond (nat_eq answered unique) None (lookup (nat_eq unique) inside.waiting.entries))
-    → IsAnswered old answered flags new
+    → NotesReply old new answered flags
 answered_shown inside old new answered flags table view counted settled shown updates =
-    subst (λ (s : PlainSession). IsAnswered s answered flags new) view (record {
+    subst (λ (s : PlainSession). NotesReply s new answered flags) view (record {
       counted = counted;
       settled = settled;
       removed = λ unique. ap (find nat_cmp unique) shown ∙ shown_remove inside.waiting.entries table answered updates unique;
@@ -106,9 +106,9 @@ pub asked_shown : (inside : Inside) (old new : PlainSession) (r : PlainRequest) 
     → session_shown inside ≡ old → MayBeAnswered r.body → waiting_shown w ≡ record { at = inside.messages; request = r }
     → new.messages ≡ inside.messages + 1 → new.negotiated ≡ inside.negotiated → new.waiting ≡ by_unique table
     → ((unique : ℕ) → lookup (nat_eq unique) table ≡ cond (nat_eq r.unique unique) (Some w) (lookup (nat_eq unique) inside.waiting.entries))
-    → IsAsked old r new
+    → NotesRequest old new r
 asked_shown inside old new r w table view may waits counted settled shown updates =
-    subst (λ (s : PlainSession). IsAsked s r new) view (record {
+    subst (λ (s : PlainSession). NotesRequest s new r) view (record {
       counted = counted;
       settled = settled;
       kept = λ _ unique.

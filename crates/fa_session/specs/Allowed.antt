@@ -4,7 +4,7 @@ use Rattle.std.specs.Prelude.{◌≡◌, ◌≢◌, ℕ, List, [], ◌∷◌, �
 use Rattle.fa_capture.specs.declared.codes.TheConstants.{FIRST_NOT_INIT, SECOND_INIT, BEFORE_INIT_ANSWERED, INIT_REFUSED, VERSION, NEGOTIATED_FLAGS, UNIQUE_IN_USE, NO_REQUEST_WAITS, LEFT_OUT_SUCCEEDED, OPEN_WITHOUT_HANDLE, UNIQUE_ZERO, REPLY_BODY}
 use Rattle.fa_capture.specs.declared.packet.Direction.{Direction}
 use Rattle.fa_capture.specs.declared.packet.Direction.TheVariants.{ToServer, FromServer}
-use Rattle.fa_capture.specs.Checks.{AllHold}
+use Rattle.fa_capture.specs.Checks.{AllHold, checks_of}
 use Rattle.fa_capture.specs.Message.{Message}
 use Rattle.fa_bodies.specs.Requests.{PlainRequest, request_checks}
 use Rattle.fa_bodies.specs.Replies.{PlainReply, IsReply, reply_head_checks}
@@ -44,11 +44,6 @@ reply_rules =
     ∷ (LEFT_OUT_SUCCEEDED, IsLeftOutRefused)
     ∷ (OPEN_WITHOUT_HANDLE, λ r reply. IsOpenByMessage r.body reply)
     ∷ []
-
--- these rules as checks, each with its code
-abbrev pub checks_of : {S : Type 1} → (S → Type 0) → List (ℕ × S) → List (ℕ × Type 0)
-checks_of holds [] = []
-checks_of holds (rule ∷ rules) = (rule.0, holds rule.1) ∷ checks_of holds rules
 
 -- The checks of which request a message from the server answers, in their order: some message came before; a reply
 -- answers a request; and it is a reply to that request. A notification answers none.

@@ -52,3 +52,15 @@ AnswersAt c q p r = (m : Message) × (slice_get c q ≡ Some m) × Answers (take
 abbrev pub IsRepliedAt : List Message → ℕ → ℕ → PlainRequest → PlainReply → Type 0
 IsRepliedAt c q p r reply =
     (m : Message) × (slice_get c q ≡ Some m) × Answers (take q c) m p r × IsReply r m.bytes reply
+
+-- the request at p is answered by message q
+abbrev pub IsAnsweredBy : List Message → ℕ → ℕ → Type 0
+IsAnsweredBy c p q = (r : PlainRequest) × AnswersAt c q p r
+
+-- no message of the list answers the request at p
+abbrev pub IsUnanswered : List Message → ℕ → Type 0
+IsUnanswered c p = (q : ℕ) → IsAnsweredBy c p q → ⊥
+
+-- the request at p was answered, and its reply says this
+abbrev pub IsRepliedTo : List Message → ℕ → PlainRequest → PlainReply → Type 0
+IsRepliedTo c p r reply = (q : ℕ) × IsRepliedAt c q p r reply

@@ -1,7 +1,9 @@
 -- The rules of a session: what INIT and its answer must be, which uniques are free, and which replies some operations
 -- have.
-use Rattle.std.specs.Prelude.{◌≡◌, ◌≢◌, ℕ, min, negsuc, List}
+use Rattle.std.specs.Prelude.{◌≡◌, ◌≢◌, ℕ, min, List}
 use Rattle.fa_capture.specs.Message.{Message}
+use Rattle.fa_bodies.specs.declared.errno.TheConstants.{ENOSYS}
+use Rattle.fa_bodies.specs.declared.opcodes.TheConstants.{INTERRUPT}
 use Rattle.fa_bodies.specs.FlagBits.{writeback_cache, posix_acl}
 use Rattle.fa_bodies.specs.Flags.{HasFlag, init_bits}
 use Rattle.fa_bodies.specs.Requests.{PlainRequest, PlainBody, IsOneOf, changers}
@@ -15,9 +17,9 @@ abbrev pub IsInit : PlainBody → Type 0
 IsInit (Init i) = Unit {0}
 IsInit other = ⊥
 
--- The request is INTERRUPT (36 in enum fuse_opcode of fuse.h), which is read by its header alone.
+-- The request is INTERRUPT (enum fuse_opcode of fuse.h), which is read by its header alone.
 abbrev pub IsInterrupt : PlainRequest → Type 0
-IsInterrupt r = r.opcode ≡ 36
+IsInterrupt r = r.opcode ≡ INTERRUPT
 
 -- INIT was answered among these messages
 abbrev pub IsInitAnswered : List Message → Type 0
@@ -55,9 +57,9 @@ abbrev pub IsLeftOutRefused : PlainRequest → PlainReply → Type 0
 IsLeftOutRefused r Skipped = IsOneOf changers r.opcode → ⊥
 IsLeftOutRefused r other = Unit {0}
 
--- OPEN and OPENDIR are not answered by ENOSYS (negsuc 37 is -38), after which a kernel opens without a message
+-- OPEN and OPENDIR are not answered by ENOSYS (errno.h), after which a kernel opens without a message
 -- (FUSE_NO_OPEN_SUPPORT and FUSE_NO_OPENDIR_SUPPORT of fuse.h).
 abbrev pub IsOpenByMessage : PlainBody → PlainReply → Type 0
-IsOpenByMessage (Open o) (Refused error) = error ≢ negsuc 37
-IsOpenByMessage (Opendir o) (Refused error) = error ≢ negsuc 37
+IsOpenByMessage (Open o) (Refused error) = error ≢ ENOSYS
+IsOpenByMessage (Opendir o) (Refused error) = error ≢ ENOSYS
 IsOpenByMessage other reply = Unit {0}

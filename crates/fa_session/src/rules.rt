@@ -6,18 +6,16 @@ ghost use Rattle.fa_bodies.specs.Flags.{HasFlag, init_bits};
 ghost use Rattle.fa_bodies.specs.Requests.{body_shown, request_shown};
 ghost use Rattle.fa_bodies.specs.Replies.{reply_shown};
 ghost use Rattle.fa_session.specs.Rules.{IsInit, IsInterrupt};
-ghost use Rattle.fa_session.specs.Steps.{init_checked, reply_checked, flags_of};
+ghost use Rattle.fa_session.specs.parts.Steps.{init_checked, reply_checked, flags_of};
 
 use bitflags::Flags;
-use fa_bodies::{InitFlags, InitIn, Negotiated, Reply, Request, RequestBody, opcodes};
+use fa_bodies::{InitFlags, InitIn, Negotiated, Reply, Request, RequestBody, errno, opcodes};
 use fa_capture::codes;
 
 /// The major that both sides speak (`FUSE_KERNEL_VERSION` of `fuse.h`).
 const MAJOR: u32 = 7;
 /// The least of the minors of both sides (`FUSE_KERNEL_MINOR_VERSION` of `fuse.h` 7.31).
 const MINOR: u32 = 31;
-/// ENOSYS of errno.h, as a reply has it.
-const NOT_IMPLEMENTED: i32 = -38;
 
 /// Whether a request is INIT.
 pub(crate) fn is_init(body: &RequestBody<'_>) -> bool
@@ -73,7 +71,7 @@ pub(crate) fn check_reply(asked: &Request<'_>, reply: &Reply<'_>) -> Result<(), 
         (RequestBody::Init(_), Reply::Refused(_)) => Err(codes::INIT_REFUSED),
         (RequestBody::Init(init), Reply::Negotiated(answer)) => check_init_answer(init, answer),
         (_, Reply::Skipped) if opcodes::is_changer(asked.opcode) => Err(codes::LEFT_OUT_SUCCEEDED),
-        (RequestBody::Open(_) | RequestBody::Opendir(_), Reply::Refused(NOT_IMPLEMENTED)) => {
+        (RequestBody::Open(_) | RequestBody::Opendir(_), Reply::Refused(errno::ENOSYS)) => {
             Err(codes::OPEN_WITHOUT_HANDLE)
         }
         _ => Ok(()),

@@ -10,8 +10,8 @@ ghost use Rattle.fa_session.specs.Allowed.{IsAllowed};
 ghost use Rattle.fa_session.specs.Events.{event_shown, IsEvent};
 ghost use Rattle.fa_session.specs.Refusals.{IsRefusal};
 ghost use Rattle.fa_session.specs.Shows.{Shows};
-ghost use Rattle.fa_session.specs.Steps.{request_checked, waiting_for, IsAsked, IsMemoryWanted, IsAnswered, noticed};
-ghost use Rattle.fa_session.specs.View.{waiting_shown};
+ghost use Rattle.fa_session.specs.parts.Steps.{request_checked, waiting_for, NotesRequest, IsMemoryWanted, NotesReply, noticed};
+ghost use Rattle.fa_session.specs.parts.View.{waiting_shown};
 
 use crate::error::SessionError;
 use crate::event::Event;
@@ -43,7 +43,7 @@ impl<'a> Model for Session<'a> {
 
     ghost Value = { PlainSession };
 
-    ghost use Rattle.fa_session.specs.View.{session_shown, AreByUnique};
+    ghost use Rattle.fa_session.specs.parts.View.{session_shown, AreByUnique};
 
     ghost view = { session_shown };
 
@@ -207,7 +207,7 @@ impl<'a> Session<'a> {
     fn note_request(&mut self, request: &Request<'a>) -> Result<u32, SessionError>
         requires { self.old.messages < MAX_MESSAGES }
         ensures at { IfOk result (λ at. at ≡ self.old.messages) }
-        ensures noted { OnOk result (IsAsked self.old (request_shown request.now) self.new) }
+        ensures noted { OnOk result (NotesRequest self.old self.new (request_shown request.now)) }
         ensures memory { IfErr result (λ error. (error ≡ Memory) × IsMemoryWanted self.old (request_shown request.now)) }
         ensures unchanged { OnErr result (self.new ≡ self.old) }
     {
@@ -227,7 +227,7 @@ impl<'a> Session<'a> {
     fn note_reply(&mut self, unique: u64, flags: Option<u32>) -> u32
         requires { self.old.messages < MAX_MESSAGES }
         ensures at { result ≡ self.old.messages }
-        ensures noted { IsAnswered self.old unique flags self.new }
+        ensures noted { NotesReply self.old self.new unique flags }
     {
         self.waiting.swap_remove(&unique);
         self.negotiated = flags.or(self.negotiated);

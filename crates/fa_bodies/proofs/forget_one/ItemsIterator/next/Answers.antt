@@ -8,9 +8,12 @@ returns-then-self-lt-LEN-clause-steps c =
     (none, none)
 
 pub returns-clause-steps : goal.returns-clause-steps
-returns-clause-steps c = items_in-begins c.at.result.0 c.args.self.now.bytes.now c.at.result.1.now c.at.ensures
+returns-clause-steps c =
+    let item = c.at-nodeid.result.0 in
+    items_in-begins (item.nodeid, item.nlookup) c.args.self.now.bytes.now c.at-nodeid.result.1.now c.at-nodeid.ensures
 
 pub returns-clause-goes : goal.returns-clause-goes
 returns-clause-goes c =
-    let shorter = ap length (items_in-begins c.at.result.0 c.args.self.now.bytes.now c.at.result.1.now c.at.ensures) in
+    let item = c.at-nodeid.result.0 in
+    let shorter = ap length (items_in-begins (item.nodeid, item.nlookup) c.args.self.now.bytes.now c.at-nodeid.result.1.now c.at-nodeid.ensures) in
     search rules

@@ -3,8 +3,8 @@ use Rattle.std.proofs.lemmas.Result.{err_from_is_err_and}
 use Rattle.fa_capture.specs.Message.{message}
 use Rattle.fa_bodies.specs.Requests.{request_shown}
 use Rattle.fa_bodies.specs.Replies.{reply_shown}
-use Rattle.fa_session.specs.Steps.{IsAnswered}
-use Rattle.fa_session.specs.View.{waiting_shown}
+use Rattle.fa_session.specs.parts.Steps.{NotesReply}
+use Rattle.fa_session.specs.parts.View.{waiting_shown}
 use Rattle.fa_session.proofs.ShowsLemmas.{IsOnlyRequest, IsOnlyHead, IsMatched, shows_asked, shows_noticed, shows_answered, matched_answers}
 use Rattle.fa_session.proofs.MessageLemmas.{IsOnlyReply, request_fails, request_passes, none_waits, body_fails, reply_fails, reply_passes, notice_passes, newly_outstanding}
 use Rattle.fa_session.proofs.session.Session.accept.Goals as goal
@@ -153,7 +153,7 @@ returns-in_ok-check_reply-in-FromServer-clause-shows c =
       unique = c.in-Some.ensures.unique;
     } in
     shows_answered before m c.args.self.now _ arm.head w (reply_shown said.reply) matched said.ensures.found c.in_ok-check_reply-in-FromServer.ensures.ok.0
-    (subst (λ (flags : Option ℕ). IsAnswered c.args.self.now arm.head.unique flags c.note_reply-at.new.self) c.agreed_flags-flags.ensures c.note_reply-at.ensures.noted)
+    (subst (λ (flags : Option ℕ). NotesReply c.args.self.now c.note_reply-at.new.self arm.head.unique flags) c.agreed_flags-flags.ensures c.note_reply-at.ensures.noted)
     (reply_passes before m c.args.self.now arm.head w (reply_shown said.reply) arm.ensures.passes
     (λ zero. let yes = c.is_empty.ensures.1 zero in let no = c.if-is_empty.false in absurd cc) matched one c.in_ok-check_reply-in-FromServer.ensures.ok)
 

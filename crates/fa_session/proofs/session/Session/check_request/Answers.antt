@@ -1,7 +1,7 @@
 use Rattle.std.proofs.Common.{sym, ap, ◌∙◌, arith, option_map, is_some}
 use Rattle.std.specs.Prelude.{not}
 use Rattle.fa_bodies.specs.Requests.{request_shown}
-use Rattle.fa_session.specs.View.{waiting_shown}
+use Rattle.fa_session.specs.parts.View.{waiting_shown}
 use Rattle.fa_session.proofs.RequestLemmas.{headed_passes, headed_in_use, free_of_none, free_of_replaced, used_by_found}
 use Rattle.fa_session.proofs.session.Session.check_request.Goals as goal
 

@@ -2,7 +2,7 @@ use Rattle.std.proofs.Common.{refl, sym, subst}
 use Rattle.std.proofs.lemmas.Result.{err_from_is_err_and}
 use Rattle.fa_bodies.specs.Requests.{request_shown}
 use Rattle.fa_session.specs.Plain.{PlainSession}
-use Rattle.fa_session.specs.Steps.{IsAsked}
+use Rattle.fa_session.specs.parts.Steps.{NotesRequest}
 use Rattle.fa_session.proofs.TableLemmas.{asked_shown, none_shown}
 use Rattle.fa_session.proofs.session.Session.note_request.Goals as goal
 
@@ -13,5 +13,5 @@ returns-in_err-insert-clause-memory c =
 
 pub returns-clause-noted : goal.returns-clause-noted
 returns-clause-noted c =
-    subst (λ (s : PlainSession). IsAsked c.args.self.now (request_shown c.args.request.now) s) (sym c.next_number-2.ensures.counted)
+    subst (λ (s : PlainSession). NotesRequest c.args.self.now s (request_shown c.args.request.now)) (sym c.next_number-2.ensures.counted)
     (asked_shown c.self.inside c.args.self.now _ _ _ c.insert.new.self.entries c.self.view_is (c.if-not-may_be_answered.ensures.0 refl) refl refl refl refl c.in_ok-insert.ensures.updates.0)

@@ -1,8 +1,8 @@
 use Rattle.std.proofs.Common.{sym, ap, ◌∙◌}
 use Rattle.std.specs.Option.{option_map}
 use Rattle.fa_session.specs.Plain.{PlainSession}
-use Rattle.fa_session.specs.Steps.{waiting_for}
-use Rattle.fa_session.specs.View.{waiting_shown}
+use Rattle.fa_session.specs.parts.Steps.{waiting_for}
+use Rattle.fa_session.specs.parts.View.{waiting_shown}
 use Rattle.fa_session.proofs.TableLemmas.{find_by_unique}
 use Rattle.fa_session.proofs.session.Session.waiting_for.Goals as goal
 

@@ -1,4 +1,4 @@
--- One message more: what was so among the messages before stays so, and what the new one adds.
+-- What callers prove of one message more: what was so among the messages before stays so, and what the new one adds.
 use Rattle.std.proofs.Common.{◌≡◌, ℕ, zero, suc, ◌+◌, ◌<◌, ◌≤◌, ◌⊎◌, List, [], ◌∷◌, ◌++◌, length, take, Option, Some, None, refl, sym, ap, subst, ◌∙◌, inl, inr, arith}
 use Rattle.std.specs.Prelude.{slice_get}
 use Rattle.std.proofs.lemmas.Bool.{cases_lt}
@@ -108,6 +108,10 @@ waits_still c m p r waits other = record {
     | inr now ↦ other (subst (λ (y : Message). HasUnique y r.unique) now.1 has)
   ];
 }
+
+-- what answers now
+pub answered_now : (c : List Message) (m : Message) (p : ℕ) (r : PlainRequest) → Answers c m p r → AnswersAt (c ++ m ∷ []) (length c) p r
+answered_now c m p r answers = (m, get_last c m, subst (λ (x : List Message). Answers x m p r) (sym (take_all_before c m)) answers)
 
 -- what answered still answers
 pub answered_still : (c : List Message) (m : Message) (q p : ℕ) (r : PlainRequest) → AnswersAt c q p r → AnswersAt (c ++ m ∷ []) q p r

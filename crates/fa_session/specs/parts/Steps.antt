@@ -6,6 +6,7 @@ use Rattle.std.specs.Option.{option_or}
 use Rattle.std.specs.Ordering.{nat_cmp}
 use Rattle.std.specs.FinMap.{find}
 use Rattle.fa_capture.specs.declared.codes.TheConstants.{VERSION, NEGOTIATED_FLAGS}
+use Rattle.fa_capture.specs.Checks.{checks_of}
 use Rattle.fa_capture.specs.Message.{Message}
 use Rattle.fa_bodies.specs.declared.init.InitIn.{InitIn}
 use Rattle.fa_bodies.specs.declared.init.Negotiated.{Negotiated}
@@ -15,7 +16,7 @@ use Rattle.fa_bodies.specs.Requests.PlainBody.{Init}
 use Rattle.fa_bodies.specs.Replies.{PlainReply}
 use Rattle.fa_bodies.specs.Replies.PlainReply.{InitAnswer}
 use Rattle.fa_session.specs.Rules.{IsVersionRight, AreFlagsRight}
-use Rattle.fa_session.specs.Allowed.{checks_of, request_rules, reply_rules}
+use Rattle.fa_session.specs.Allowed.{request_rules, reply_rules}
 use Rattle.fa_session.specs.Plain.{PlainSession, PlainWaiting}
 
 -- the rules of a request that was read, as checks
@@ -48,7 +49,7 @@ abbrev pub IsMemoryWanted : PlainSession → PlainRequest → Type 0
 IsMemoryWanted s r = MayBeAnswered r.body × (waiting_for s r.unique ≡ None)
 
 -- the one more message is a request, which is outstanding from now on if it may be answered
-pub record IsAsked (old : PlainSession) (r : PlainRequest) (new : PlainSession) : Type 0 where
+pub record NotesRequest (old new : PlainSession) (r : PlainRequest) : Type 0 where
   pub counted : new.messages ≡ old.messages + 1
   pub settled : new.negotiated ≡ old.negotiated
   pub kept : MayBeAnswered r.body → (unique : ℕ)
@@ -57,7 +58,7 @@ pub record IsAsked (old : PlainSession) (r : PlainRequest) (new : PlainSession) 
   pub forgotten : (MayBeAnswered r.body → ⊥) → new.waiting ≡ old.waiting
 
 -- the one more message is the answer of the request with this unique, with these flags if the request is INIT
-pub record IsAnswered (old : PlainSession) (answered : ℕ) (flags : Option ℕ) (new : PlainSession) : Type 0 where
+pub record NotesReply (old new : PlainSession) (answered : ℕ) (flags : Option ℕ) : Type 0 where
   pub counted : new.messages ≡ old.messages + 1
   pub settled : new.negotiated ≡ option_or flags old.negotiated
   pub removed : (unique : ℕ) → waiting_for new unique ≡ cond (eqb unique answered) None (waiting_for old unique)

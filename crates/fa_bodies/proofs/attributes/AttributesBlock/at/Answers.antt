@@ -1,5 +1,5 @@
 use Rattle.std.proofs.Common.{arith, refl}
-use Rattle.fa_bodies.proofs.entry.AttributesBlock.at.Goals as goal
+use Rattle.fa_bodies.proofs.attributes.AttributesBlock.at.Goals as goal
 
 pub returns : goal.returns
 returns c = rw c.from_bits.ensures (

@@ -1,0 +1,32 @@
+//! How the program ends.
+
+ghost use Rattle.std.specs.Prelude.{◌≡◌};
+ghost use Rattle.fa_audit.specs.Status.{status_number};
+
+/// How a call of the program ends.
+#[derive(Clone, Copy, Debug, PartialEq, Eq, Hash)]
+pub enum Status {
+    /// The verdict is legal.
+    Legal = 0,
+    /// The capture has a fault.
+    Fault = 1,
+    /// The order is not shown to explain the capture.
+    NotShown = 2,
+    /// The order text is not in its grammar.
+    Text = 3,
+    /// The command line is no call, or is a call for help.
+    CommandLine = 4,
+    /// Reading, writing or memory failed.
+    Failed = 5,
+}
+
+impl Status {
+    /// The exit status of the process.
+    ///
+    /// Takes no memory, in constant time.
+    pub fn number(self) -> u8
+        ensures { result ≡ status_number self }
+    {
+        self as u8
+    }
+}

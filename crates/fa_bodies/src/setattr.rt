@@ -1,0 +1,74 @@
+//! What SETATTR asks for.
+
+ghost use Rattle.std.specs.Prelude.{refl};
+ghost use Rattle.fa_bodies.specs.Structs.{setattr_in};
+
+use crate::block::Block;
+use crate::fields::{skip, u32_at, u64_at};
+use crate::flags::FattrFlags;
+use crate::mode::Mode;
+use bitflags::Flags;
+
+/// The attributes to be set (`struct fuse_setattr_in`), of which those count that `valid` names. Times are seconds and
+/// nanoseconds, and `size` counts bytes.
+#[derive(Clone, Copy, Debug)]
+pub struct SetattrIn {
+    pub valid: FattrFlags,
+    pub fh: u64,
+    pub size: u64,
+    pub lock_owner: u64,
+    pub atime: u64,
+    pub mtime: u64,
+    pub ctime: u64,
+    pub atimensec: u32,
+    pub mtimensec: u32,
+    pub ctimensec: u32,
+    pub mode: Mode,
+    pub uid: u32,
+    pub gid: u32,
+}
+
+impl Block for SetattrIn {
+    const LEN: usize = 88;
+
+    ghost LEN = { 88 };
+
+    ghost fields = { setattr_in };
+
+    fn at(bytes: &[u8]) -> (SetattrIn, &[u8]) {
+        let (valid, rest) = u32_at(bytes);
+        let rest = skip(rest, 4);
+        let (fh, rest) = u64_at(rest);
+        let (size, rest) = u64_at(rest);
+        let (lock_owner, rest) = u64_at(rest);
+        let (atime, rest) = u64_at(rest);
+        let (mtime, rest) = u64_at(rest);
+        let (ctime, rest) = u64_at(rest);
+        let (atimensec, rest) = u32_at(rest);
+        let (mtimensec, rest) = u32_at(rest);
+        let (ctimensec, rest) = u32_at(rest);
+        let (mode, rest) = u32_at(rest);
+        let rest = skip(rest, 4);
+        let (uid, rest) = u32_at(rest);
+        let (gid, rest) = u32_at(rest);
+        let rest = skip(rest, 4);
+        let setattr = SetattrIn {
+            valid: FattrFlags::from_bits_retain(valid),
+            fh,
+            size,
+            lock_owner,
+            atime,
+            mtime,
+            ctime,
+            atimensec,
+            mtimensec,
+            ctimensec,
+            mode: Mode::from_bits(mode),
+            uid,
+            gid,
+        };
+        (setattr, rest)
+    }
+
+    ghost sized = { λ block. refl };
+}

@@ -1,0 +1,6 @@
+-- The vocabulary of the crate's private contracts.
+
+-- what the steps of a session tell and note
+pub mod Steps
+-- what a session's fields show
+pub mod View
