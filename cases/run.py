@@ -8,9 +8,11 @@ hold TEXT are run. README.md beside this script says what files a case has. Each
 'N passed, M failed', and the status is 1 where a case failed or none was run.
 """
 import argparse
+import bz2
 import os
 import subprocess
 import sys
+import tempfile
 
 HERE = os.path.dirname(os.path.abspath(__file__))
 PROGRAM = os.path.join(HERE, "..", "crates", "fa_audit", "out", "fa_audit")
@@ -21,8 +23,9 @@ SECONDS = 60
 def file_of(files, name, kind):
     """The file of this kind that a case has: its own, or that of the name without its last part, and so on."""
     while name:
-        if f"{name}.{kind}" in files:
-            return f"{name}.{kind}"
+        for file in (f"{name}.{kind}", f"{name}.{kind}.bz2"):
+            if file in files:
+                return file
         name = name.rpartition(".")[0]
     return None
 
@@ -44,11 +47,22 @@ def call_of(files, name):
     return words, [file for file in named.values() if file]
 
 
+def unpacked(word, room):
+    """A word of a call, where a packed file is one that was unpacked into this folder."""
+    if not word.endswith(b".bz2"):
+        return word
+    with open(os.path.join(room, "unpacked"), "wb") as opened:
+        opened.write(bz2.decompress(read(word.decode())))
+    return opened.name.encode()
+
+
 def differences(program, words, name, files):
     """What is not as the case expects it, a line each."""
     expected, _, status = read(f"{name}.expect").rpartition(b"status ")
     try:
-        ran = subprocess.run([program, *words], cwd=HERE, stdin=subprocess.DEVNULL, capture_output=True, timeout=SECONDS)
+        with tempfile.TemporaryDirectory() as room:
+            words = [unpacked(word, room) for word in words]
+            ran = subprocess.run([program, *words], cwd=HERE, stdin=subprocess.DEVNULL, capture_output=True, timeout=SECONDS)
     except (OSError, subprocess.TimeoutExpired) as error:
         return [str(error)]
     found = []
