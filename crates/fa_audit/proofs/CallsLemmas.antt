@@ -31,10 +31,9 @@ use Rattle.fa_audit.specs.Refusal.{IsMessageRefusal, IsRefusal}
 use Rattle.fa_audit.specs.Faults.{Passes, EachPasses, IsMessageFault, message_checks}
 use Rattle.fa_audit.specs.Replay.{IsTreeBody, IsTreeRequestAt}
 use Rattle.fa_audit.specs.Calls.{asked_at, AreAnswered, AreSoFar, AreCalls}
-use Rattle.fa_session.proofs.CallerLemmas.{get_kept, get_back, get_last, get_cases, take_before, take_all_before, one_direction, asked_before, asked_cases, waits_still, waits_now, answered_now}
 use Rattle.fa_audit.proofs.MessageLemmas.{passes_free, notice_is_no_reply}
 use Rattle.fa_audit.proofs.OneAnswerLists.{contains_cases, contains_first, contains_behind}
-use Rattle.fa_audit.proofs.OneAnswerRuns.{one_request_at, answered_asked, answer_after}
+use Rattle.fa_session.proofs.CallerLemmas.{get_kept, get_back, get_last, get_cases, take_before, take_all_before, one_direction, asked_before, asked_cases, waits_still, waits_now, answered_now, one_request, answered_asked, answer_after}
 
 -- ---- lists of numbers
 
@@ -236,11 +235,11 @@ so_far_notice one c m calls waiting so_far notice =
 -- the answer of a request that does not act on the tree
 pub so_far_answered_other : AnswersOne → RequestIsOne → (c : List Message) (m : Message) (asked : ℕ) (r : PlainRequest) (calls : List Call) (waiting : List ℕ) → AreSoFar c calls waiting → Answers c m asked r → (IsTreeBody r.body → ⊥)
     → AreSoFar (c ++ m ∷ []) calls waiting
-so_far_answered_other one one_request c m asked r calls waiting so_far answers other =
+so_far_answered_other one is_one c m asked r calls waiting so_far answers other =
     so_far_kept c m calls waiting so_far (λ also is tree. one_direction m is.0 answers.reply.1.0)
     (λ p w tree waits. answer_leaves one c m asked r answers p w
     (λ same. other (subst (λ (x : PlainRequest). IsTreeBody x.body)
-    (one_request_at one_request c asked w r (subst (λ (k : ℕ). IsRequestAt c k w) same waits.asked) answers.outstanding.asked) tree)) waits)
+    (one_request is_one c asked w r (subst (λ (k : ℕ). IsRequestAt c k w) same waits.asked) answers.outstanding.asked) tree)) waits)
 
 -- a call for a request that was answered before is none
 not_again : AnsweredOnce → (c : List Message) (m : Message) (asked : ℕ) (r : PlainRequest) (calls : List Call) → AreAnswered c calls → Answers c m asked r → (i : ℕ) (call : Call) → slice_get calls i ≡ Some call → call.at ≢ asked
@@ -297,7 +296,7 @@ waits_unanswered : RequestIsOne → (c : List Message) (p : ℕ) (r : PlainReque
 waits_unanswered one c p r waits q answered =
     let s = answered.0 in
     let at = answered.1 in
-    let same : s ≡ r = one_request_at one c p s r (answered_asked c q p s at) waits.asked in
+    let same : s ≡ r = one_request one c p s r (answered_asked c q p s at) waits.asked in
     waits.silent q at.0 (answer_after c q p s at) at.1 (inr (subst (λ (x : PlainRequest). IsReplyMessage at.0 x.unique) same at.2.reply))
 
 pub calls_done : RequestIsOne → (c : List Message) (calls : List Call) (waiting : List ℕ) → AreSoFar c calls waiting → AreCalls c calls waiting

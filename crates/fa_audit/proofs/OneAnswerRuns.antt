@@ -3,42 +3,23 @@
 use Rattle.std.proofs.Common.{◌≡◌, ◌≢◌, ℕ, ◌+◌, ◌<◌, ◌≤◌, ◌⊎◌, List, [], ◌∷◌, ◌++◌, length, take, drop, get_or, Some, sym, ap, subst, ◌∙◌, inl, inr, arith}
 use Rattle.std.specs.Prelude.{slice_get, All, AllPairs, Contains}
 use Rattle.std.proofs.lemmas.Bool.{cases_lt}
-use Rattle.std.proofs.lemmas.Option.{slice_get_within}
-use Rattle.std.proofs.lemmas.List.{length-take, map-append}
+use Rattle.std.proofs.lemmas.List.{map-append}
 use Rattle.std.proofs.lemmas.List.Elements.{Contains-append_cases}
 use Rattle.fa_capture.specs.Checks.{FirstFailure, AllHold}
 use Rattle.fa_capture.specs.Message.{Message}
 use Rattle.fa_bodies.specs.Laws.{RequestIsOne, ReplyIsOne}
 use Rattle.fa_bodies.specs.Requests.{PlainRequest}
 use Rattle.fa_bodies.specs.Replies.{PlainReply, IsReply}
-use Rattle.fa_session.specs.Answers.{IsRequestMessage, IsRequestAt, AnswersAt, IsAnsweredBy, IsRepliedTo}
+use Rattle.fa_session.specs.Answers.{AnswersAt, IsAnsweredBy, IsRepliedTo}
 use Rattle.fa_session.specs.Laws.{AnsweredOnce}
 use Rattle.fa_audit.specs.declared.order.Entry.{Entry}
 use Rattle.fa_audit.specs.Tree.{Tree, Step, step_checks}
 use Rattle.fa_audit.specs.Replay.{EntryFails, IsTreeRequestAt, numbers, IsChoice, IsValidOrder, EntryStep, Run, order_checks, EachPlaced, IsEntryAtFault, IsAnsweredUnplaced, LeavesOut, IsOrderAtFault}
 use Rattle.fa_capture.proofs.CallerLemmas.{no_failure, one_failure}
-use Rattle.fa_audit.proofs.OneAnswerLists.{get_from_take, same_parts, longer_front, contains_cases, contains_first, contains_behind, contains_longer, contains_front, contains_decided, parts_at, all_middle, pairs_before, pairs_behind}
+use Rattle.fa_session.proofs.CallerLemmas.{one_request, answered_asked, answer_after}
+use Rattle.fa_audit.proofs.OneAnswerLists.{same_parts, longer_front, contains_cases, contains_first, contains_behind, contains_longer, contains_front, contains_decided, parts_at, all_middle, pairs_before, pairs_behind}
 
 -- ---- answers
-
--- a message is one request
-pub one_request_at : RequestIsOne → (c : List Message) (p : ℕ) (r other : PlainRequest) → IsRequestAt c p r → IsRequestAt c p other → r ≡ other
-one_request_at one c p r other asked too =
-    let same : asked.0 ≡ too.0 = let here : slice_get c p ≡ Some asked.0 = asked.1 in let there : slice_get c p ≡ Some too.0 = too.1 in cc in
-    one too.0.bytes r other (subst (λ (m : Message). IsRequestMessage m r) same asked.2).1 too.2.1
-
--- what is answered was asked
-pub answered_asked : (c : List Message) (q p : ℕ) (r : PlainRequest) → AnswersAt c q p r → IsRequestAt c p r
-answered_asked c q p r at =
-    let asked : IsRequestAt (take q c) p r = at.2.outstanding.asked in
-    (asked.0, get_from_take q c p asked.0 asked.1, asked.2)
-
--- an answer stands after its request
-pub answer_after : (c : List Message) (q p : ℕ) (r : PlainRequest) → AnswersAt c q p r → p < q
-answer_after c q p r at =
-    let asked : IsRequestAt (take q c) p r = at.2.outstanding.asked in
-    let below : p < length (take q c) = slice_get_within (take q c) p asked.0 asked.1 in
-    omega (arith, below, length-take q c)
 
 -- a request that was answered has one reply
 abbrev pub RepliedOnce : Type 0
@@ -48,11 +29,11 @@ RepliedOnce =
 
 -- since one message answers it, which is one reply to it
 pub replied_once : RequestIsOne → ReplyIsOne → AnsweredOnce → RepliedOnce
-replied_once one_request one_reply once c p r other reply said at too =
+replied_once is_one one_reply once c p r other reply said at too =
     let first : AnswersAt c at.0 p r = (at.1.0, at.1.1, at.1.2) in
     let second : AnswersAt c too.0 p other = (too.1.0, too.1.1, too.1.2) in
     let place : at.0 ≡ too.0 = once c at.0 too.0 p r other first second in
-    let same : r ≡ other = one_request_at one_request c p r other (answered_asked c at.0 p r first) (answered_asked c too.0 p other second) in
+    let same : r ≡ other = one_request is_one c p r other (answered_asked c at.0 p r first) (answered_asked c too.0 p other second) in
     let here : slice_get c too.0 ≡ Some at.1.0 = subst (λ (k : ℕ). slice_get c k ≡ Some at.1.0) place at.1.1 in
     let there : slice_get c too.0 ≡ Some too.1.0 = too.1.1 in
     let message : at.1.0 ≡ too.1.0 = cc in

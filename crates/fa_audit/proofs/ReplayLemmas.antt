@@ -28,7 +28,8 @@ use Rattle.fa_audit.specs.Calls.{asked_at}
 use Rattle.fa_audit.specs.Placed.{IsOnRoot, StepAllows, StepRefuses, IsPlaced, IsOpen, IsFront, IsNonePlaced, ArePlaced, AreReplayed, IsCallAt, IsEarly, FailsAfter, IsNext, IsLeastLeft, IsExplained}
 use Rattle.fa_capture.proofs.CallerLemmas.{hold_later}
 use Rattle.fa_audit.proofs.OneAnswerLists.{parts_at, contains_cases}
-use Rattle.fa_audit.proofs.OneAnswerRuns.{answered_asked, placed_valid}
+use Rattle.fa_session.proofs.CallerLemmas.{answered_asked}
+use Rattle.fa_audit.proofs.OneAnswerRuns.{placed_valid}
 use Rattle.fa_audit.proofs.PlaceLemmas.{element_at, get_set_same, get_set_other, get_set_back, call_of, number_of_call}
 
 -- ---- nodes

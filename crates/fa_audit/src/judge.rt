@@ -7,7 +7,6 @@ ghost use Rattle.fa_audit.specs.Line.{IsCoded};
 ghost use Rattle.fa_audit.specs.declared.order.TheConstants.{MAX_TEXT_BYTES};
 
 use crate::calls::{Refusal, calls_of};
-use crate::laws;
 use crate::order::read_order;
 use crate::replay::{EntryFault, ReplayError, replay};
 use crate::verdict::{AuditError, Verdict};
@@ -69,8 +68,6 @@ pub fn audit(
 {
     // Tree texts can't be read yet.
     prove!(tree.is_none());
-    // A capture and an order have one answer at most, so the one that is found is it.
-    laws::one_answer();
     answer(alloc, capture, order)
 }
 

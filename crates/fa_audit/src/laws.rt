@@ -24,12 +24,7 @@ pub fn text_has_no_fault()
 /// A capture and an order have one answer at most.
 pub fn one_answer()
     ensures { OneAnswer }
-{
-    fa_capture::laws::one_reading();
-    fa_bodies::laws::request_is_one();
-    fa_bodies::laws::reply_is_one();
-    fa_session::laws::answered_once();
-}
+{}
 
 /// The limits of a text and of an input, as numbers.
 pub fn limits()

@@ -60,8 +60,6 @@ fn check_operation(packet: &Packet<'_>) -> Result<(), u16>
     ensures ok { OnOk result (AllHold (operation_checks (message packet.now))) }
     ensures fault { IfErr result (FirstFailure (operation_checks (message packet.now))) }
 {
-    // What is refused as a request is none.
-    fa_bodies::laws::request_passes_checks();
     match packet.direction {
         Direction::FromServer => Ok(()),
         Direction::ToServer => match request(packet) {
@@ -129,11 +127,6 @@ fn check_nodes(event: &Event<'_>) -> Result<(), u16>
     ensures ok { OnOk result ((c : List Message) (m : Message) → IsEvent c m (event_shown event.now) → AllHold (node_checks c m)) }
     ensures fault { IfErr result (λ code. (c : List Message) (m : Message) → IsEvent c m (event_shown event.now) → FirstFailure (node_checks c m) code) }
 {
-    // A message is one request at most, answers one at most, and says one thing to it.
-    fa_bodies::laws::request_is_one();
-    fa_bodies::laws::reply_head_is_one();
-    fa_bodies::laws::reply_is_one();
-    fa_session::laws::answers_one();
     match event {
         Event::Asked { request, .. } => {
             if names_known(request) {

@@ -1,3 +1,4 @@
+pub mod CallerLemmas
 pub mod FieldLaws
 pub mod StructLaws
 pub mod BodyLaws

@@ -1,4 +1,5 @@
 pub mod CallerLemmas
+pub mod ChecksLemmas
 pub mod FramingLemmas
 pub mod ReadingLemmas
 pub mod PullLemmas

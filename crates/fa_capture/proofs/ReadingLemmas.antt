@@ -20,7 +20,7 @@ use Rattle.fa_capture.specs.declared.packet.Packet.{Packet}
 use Rattle.fa_capture.specs.Message.{Message, message, messages}
 use Rattle.fa_capture.specs.Framing.{magic, direction_byte, record_spelling, capture_spelling, IsFramed, BeginsWith}
 use Rattle.fa_capture.specs.Reading.{HasMagic, stated_length, record_checks, IsRecord, ArePackets, IsFault, IsReading, OneReading}
-use Rattle.fa_capture.proofs.CallerLemmas.{no_failure, one_failure}
+use Rattle.fa_capture.proofs.ChecksLemmas.{no_failure, one_failure}
 use Rattle.fa_capture.proofs.FramingLemmas.{same_records, next_record}
 
 fit_by_limit : (ms : List Message) → AllByRecursion (λ m. length m.bytes ≤ MAX_MESSAGE_BYTES) ms → AllByRecursion (λ m. length m.bytes < 2 ^ 32) ms

@@ -1,161 +1,21 @@
--- What callers prove of one message more: what was so among the messages before stays so, and what the new one adds.
-use Rattle.std.proofs.Common.{◌≡◌, ℕ, zero, suc, ◌+◌, ◌<◌, ◌≤◌, ◌⊎◌, List, [], ◌∷◌, ◌++◌, length, take, Option, Some, None, refl, sym, ap, subst, ◌∙◌, inl, inr, arith}
-use Rattle.std.specs.Prelude.{slice_get}
-use Rattle.std.proofs.lemmas.Bool.{cases_lt}
-use Rattle.std.proofs.lemmas.Option.{slice_get_within}
-use Rattle.std.proofs.lemmas.List.{take-append-le, take_at, length-append}
-use Rattle.fa_capture.specs.declared.packet.Direction.TheVariants.{ToServer, FromServer}
-use Rattle.fa_capture.specs.Message.{Message}
-use Rattle.fa_bodies.specs.Requests.{MayBeAnswered, PlainRequest}
-use Rattle.fa_bodies.specs.Replies.{PlainReply}
-use Rattle.fa_session.specs.Answers.{IsRequestMessage, IsRequestAt, HasUnique, IsOutstanding, Answers, AnswersAt, IsRepliedAt}
-use Rattle.fa_session.specs.Rules.{IsInit}
-use Rattle.fa_session.specs.Allowed.{IsAllowed, EachAllowed}
-use Rattle.fa_session.specs.Shows.{IsNegotiated}
+-- The lemmas for the crates above.
+use Rattle.fa_bodies.proofs.CallerLemmas.{request_is_one, reply_head_is_one}
+use Rattle.fa_session.specs.Laws.{AnswersOne, AnsweredOnce}
+use Rattle.fa_session.proofs.LawsLemmas.{answers_one_lem, answered_once_lem}
+-- a list with one more, or cut off
+pub use Rattle.fa_session.proofs.GrowthLemmas.{get_kept, get_back, get_last, get_cases, take_before, take_all_before}
+pub use Rattle.fa_session.proofs.LawsLemmas.{get_of_front, get_in_front}
+-- one message more: requests, what is outstanding, answers, what is allowed
+pub use Rattle.fa_session.proofs.GrowthLemmas.{one_direction, asked_before, asked_still, asked_now, asked_cases}
+pub use Rattle.fa_session.proofs.GrowthLemmas.{waited, not_now, waits_now, waits_still}
+pub use Rattle.fa_session.proofs.GrowthLemmas.{answered_now, answered_still, answered_cases, replied_still, settled_still, allowed_more}
+-- requests and their answers
+pub use Rattle.fa_session.proofs.LawsLemmas.{one_request, answered_asked, answer_after}
 
--- ---- lists
+-- a message answers at most one request
+pub answers_one : AnswersOne
+answers_one = answers_one_lem request_is_one reply_head_is_one
 
--- what stands before the end stands there still
-pub get_kept : {X : Type 0} (xs ys : List X) (i : ℕ) (x : X) → slice_get xs i ≡ Some x → slice_get (xs ++ ys) i ≡ Some x
-get_kept [] ys i x is = absurd cc
-get_kept (y ∷ xs) ys zero x is = is
-get_kept (y ∷ xs) ys (suc i) x is = get_kept xs ys i x is
-
--- what stands before the end stood there
-pub get_back : {X : Type 0} (xs ys : List X) (i : ℕ) (x : X) → i < length xs → slice_get (xs ++ ys) i ≡ Some x → slice_get xs i ≡ Some x
-get_back [] ys i x within is = absurd (omega (arith, within))
-get_back (y ∷ xs) ys zero x within is = is
-get_back (y ∷ xs) ys (suc i) x within is = get_back xs ys i x (omega (arith, within)) is
-
--- the new one
-pub get_last : {X : Type 0} (xs : List X) (y : X) → slice_get (xs ++ y ∷ []) (length xs) ≡ Some y
-get_last [] y = refl
-get_last (x ∷ xs) y = get_last xs y
-
--- each place is one from before, or the new one
-pub get_cases : {X : Type 0} (xs : List X) (y : X) (i : ℕ) (x : X) → slice_get (xs ++ y ∷ []) i ≡ Some x → (i < length xs) ⊎ ((i ≡ length xs) × (x ≡ y))
-get_cases xs y i x is =
-    let within : i < length (xs ++ y ∷ []) = slice_get_within (xs ++ y ∷ []) i x is in
-    let counted : length (xs ++ y ∷ []) ≡ length xs + 1 = length-append xs (y ∷ []) in
-    elim (cases_lt i (length xs)) [
-      | inl below ↦ inl below
-      | inr above ↦ let here : i ≡ length xs = omega (arith, within, counted, above) in
-          let there : slice_get (xs ++ y ∷ []) (length xs) ≡ Some x = subst (λ (k : ℕ). slice_get (xs ++ y ∷ []) k ≡ Some x) here is in
-          let last : slice_get (xs ++ y ∷ []) (length xs) ≡ Some y = get_last xs y in
-          inr (here, cc)
-    ]
-
-pub take_before : {X : Type 0} (xs : List X) (y : X) (i : ℕ) → i ≤ length xs → take i (xs ++ y ∷ []) ≡ take i xs
-take_before xs y i within = take-append-le i xs (y ∷ []) within
-
-pub take_all_before : {X : Type 0} (xs : List X) (y : X) → take (length xs) (xs ++ y ∷ []) ≡ xs
-take_all_before xs y = take_at xs (y ∷ []) (length xs) refl
-
--- ---- messages
-
--- a message goes one way
-pub one_direction : (m : Message) → m.direction ≡ ToServer → m.direction ≡ FromServer → ⊥
-one_direction m to from = let clash : ToServer ≡ FromServer = sym to ∙ from in absurd cc
-
--- a request from before
-pub asked_before : (c : List Message) (m : Message) (p : ℕ) (r : PlainRequest) → p < length c → IsRequestAt (c ++ m ∷ []) p r → IsRequestAt c p r
-asked_before c m p r below asked = (asked.0, get_back c (m ∷ []) p asked.0 below asked.1, asked.2)
-
-pub asked_still : (c : List Message) (m : Message) (p : ℕ) (r : PlainRequest) → IsRequestAt c p r → IsRequestAt (c ++ m ∷ []) p r
-asked_still c m p r asked = (asked.0, get_kept c (m ∷ []) p asked.0 asked.1, asked.2)
-
--- the new message as a request
-pub asked_now : (c : List Message) (m : Message) (r : PlainRequest) → IsRequestMessage m r → IsRequestAt (c ++ m ∷ []) (length c) r
-asked_now c m r is = (m, get_last c m, is)
-
--- a request is one from before or the new message
-pub asked_cases : (c : List Message) (m : Message) (p : ℕ) (r : PlainRequest) → IsRequestAt (c ++ m ∷ []) p r → (p < length c) ⊎ ((p ≡ length c) × IsRequestMessage m r)
-asked_cases c m p r asked =
-    elim (get_cases c m p asked.0 asked.1) [
-      | inl below ↦ inl below
-      | inr here ↦ inr (here.0, subst (λ (x : Message). IsRequestMessage x r) here.1 asked.2)
-    ]
-
--- what is outstanding was so before, if it came before
-pub waited : (c : List Message) (m : Message) (p : ℕ) (r : PlainRequest) → p < length c → IsOutstanding (c ++ m ∷ []) p r → IsOutstanding c p r
-waited c m p r below waits = record {
-  asked = asked_before c m p r below waits.asked;
-  answerable = waits.answerable;
-  silent = λ q x after there. waits.silent q x after (get_kept c (m ∷ []) q x there);
-}
-
--- what is outstanding and came before does not have the unique of the new message
-pub not_now : (c : List Message) (m : Message) (p : ℕ) (r : PlainRequest) → p < length c → IsOutstanding (c ++ m ∷ []) p r → HasUnique m r.unique → ⊥
-not_now c m p r below waits has = waits.silent (length c) m below (get_last c m) has
-
--- a new request is outstanding
-pub waits_now : (c : List Message) (m : Message) (r : PlainRequest) → IsRequestMessage m r → MayBeAnswered r.body → IsOutstanding (c ++ m ∷ []) (length c) r
-waits_now c m r is answerable = record {
-  asked = asked_now c m r is;
-  answerable = answerable;
-  silent = λ q x after there. let within : q < length (c ++ m ∷ []) = slice_get_within (c ++ m ∷ []) q x there in
-      let counted : length (c ++ m ∷ []) ≡ length c + 1 = length-append c (m ∷ []) in
-      λ has. omega (arith, within, counted, after);
-}
-
--- what is outstanding stays so, if the new message has another unique
-pub waits_still : (c : List Message) (m : Message) (p : ℕ) (r : PlainRequest) → IsOutstanding c p r → (HasUnique m r.unique → ⊥) → IsOutstanding (c ++ m ∷ []) p r
-waits_still c m p r waits other = record {
-  asked = asked_still c m p r waits.asked;
-  answerable = waits.answerable;
-  silent = λ q x after there has. elim (get_cases c m q x there) [
-    | inl below ↦ waits.silent q x after (get_back c (m ∷ []) q x below there) has
-    | inr now ↦ other (subst (λ (y : Message). HasUnique y r.unique) now.1 has)
-  ];
-}
-
--- what answers now
-pub answered_now : (c : List Message) (m : Message) (p : ℕ) (r : PlainRequest) → Answers c m p r → AnswersAt (c ++ m ∷ []) (length c) p r
-answered_now c m p r answers = (m, get_last c m, subst (λ (x : List Message). Answers x m p r) (sym (take_all_before c m)) answers)
-
--- what answered still answers
-pub answered_still : (c : List Message) (m : Message) (q p : ℕ) (r : PlainRequest) → AnswersAt c q p r → AnswersAt (c ++ m ∷ []) q p r
-answered_still c m q p r at =
-    let below : q < length c = slice_get_within c q at.0 at.1 in
-    (at.0, get_kept c (m ∷ []) q at.0 at.1, subst (λ (x : List Message). Answers x at.0 p r) (sym (take_before c m q (omega (arith, below)))) at.2)
-
--- an answer is one from before or the new message
-pub answered_cases : (c : List Message) (m : Message) (q p : ℕ) (r : PlainRequest) → AnswersAt (c ++ m ∷ []) q p r → AnswersAt c q p r ⊎ ((q ≡ length c) × Answers c m p r)
-answered_cases c m q p r at =
-    elim (get_cases c m q at.0 at.1) [
-      | inl below ↦ inl (at.0, get_back c (m ∷ []) q at.0 below at.1, subst (λ (x : List Message). Answers x at.0 p r) (take_before c m q (omega (arith, below))) at.2)
-      | inr here ↦ inr (
-        here.0,
-        subst (λ (x : Message). Answers c x p r) here.1
-            (subst (λ (x : List Message). Answers x at.0 p r) (ap (λ (k : ℕ). take k (c ++ m ∷ [])) here.0 ∙ take_all_before c m) at.2),
-      )
-    ]
-
--- what was replied stays so
-pub replied_still : (c : List Message) (m : Message) (q p : ℕ) (r : PlainRequest) (reply : PlainReply) → IsRepliedAt c q p r reply → IsRepliedAt (c ++ m ∷ []) q p r reply
-replied_still c m q p r reply at =
-    let below : q < length c = slice_get_within c q at.0 at.1 in (
-      at.0,
-      get_kept c (m ∷ []) q at.0 at.1,
-      subst (λ (x : List Message). Answers x at.0 p r) (sym (take_before c m q (omega (arith, below)))) at.2,
-      at.3,
-    )
-
--- the flags that INIT settled stay, if the new message does not answer INIT
-pub settled_still : (c : List Message) (m : Message) (flags : Option ℕ) → ((p : ℕ) (r : PlainRequest) → Answers c m p r → IsInit r.body → ⊥) → IsNegotiated c flags → IsNegotiated (c ++ m ∷ []) flags
-settled_still c m None other none =
-    λ answered. elim (answered_cases c m answered.0 answered.1 answered.2 answered.3) [
-      | inl before ↦ none (answered.0, answered.1, answered.2, before, answered.4)
-      | inr now ↦ other answered.1 answered.2 now.1 answered.4
-    ]
-settled_still c m (Some flags) other settled =
-    (settled.0, settled.1, settled.2, settled.3, settled.4, replied_still c m settled.0 settled.1 settled.2 _ settled.5, settled.6, settled.7)
-
--- each message is allowed, and so is the new one
-pub allowed_more : (c : List Message) (m : Message) → EachAllowed c → IsAllowed c m → EachAllowed (c ++ m ∷ [])
-allowed_more c m each allowed i x there =
-    elim (get_cases c m i x there) [
-      | inl below ↦ subst (λ (b : List Message). IsAllowed b x) (sym (take_before c m i (omega (arith, below)))) (each i x (get_back c (m ∷ []) i x below there))
-      | inr now ↦ subst (λ (b : List Message). IsAllowed b x) (sym (ap (λ (k : ℕ). take k (c ++ m ∷ [])) now.0 ∙ take_all_before c m))
-          (subst (λ (y : Message). IsAllowed c y) (sym now.1) allowed)
-    ]
+-- a request is answered by at most one message
+pub answered_once : AnsweredOnce
+answered_once = answered_once_lem request_is_one

@@ -1,6 +1,6 @@
 -- What holds of answers: a message answers at most one request, a request is answered by at most one message, and
 -- among messages that are allowed each reply answers a request.
-use Rattle.std.proofs.Common.{◌≡◌, ℕ, zero, suc, ◌<◌, List, [], ◌∷◌, ◌++◌, length, take, Some, refl, sym, ap, subst, ◌∙◌, inl, inr, arith}
+use Rattle.std.proofs.Common.{◌≡◌, ℕ, zero, suc, ◌<◌, List, [], ◌∷◌, ◌++◌, length, take, Some, sym, ap, subst, ◌∙◌, inl, inr, arith}
 use Rattle.std.specs.Prelude.{slice_get}
 use Rattle.std.proofs.lemmas.Bool.{cases_lt}
 use Rattle.std.proofs.lemmas.List.{length-take}
@@ -40,10 +40,9 @@ one_there xs at x y one two = cc
 -- ---- requests and replies
 
 -- one message is at most one request
-pub one_request : RequestIsOne → (c : List Message) (p q : ℕ) (r s : PlainRequest) → p ≡ q → IsRequestAt c p r → IsRequestAt c q s → r ≡ s
-one_request one c p q r s same asked other =
-    let there : slice_get c p ≡ Some other.0 = ap (slice_get c) same ∙ other.1 in
-    let message : other.0 ≡ asked.0 = one_there c p other.0 asked.0 there asked.1 in
+pub one_request : RequestIsOne → (c : List Message) (p : ℕ) (r s : PlainRequest) → IsRequestAt c p r → IsRequestAt c p s → r ≡ s
+one_request one c p r s asked other =
+    let message : other.0 ≡ asked.0 = one_there c p other.0 asked.0 other.1 asked.1 in
     one asked.0.bytes r s asked.2.1 (subst (λ (m : Message). IsRequest m.bytes s) message other.2.1)
 
 -- a reply has one unique
@@ -67,15 +66,15 @@ answers_one_lem one_of_bytes one_head before m p q r s answers other =
         | inl later ↦ absurd (not_later before m q p s r (sym unique) other answers later)
         | inr not_later ↦
             let same : p ≡ q = omega (arith, not_earlier, not_later) in
-            (same, one_request one_of_bytes before p q r s same answers.outstanding.asked other.outstanding.asked)
+            (same, one_request one_of_bytes before p r s answers.outstanding.asked (subst (λ (k : ℕ). IsRequestAt before k s) (sym same) other.outstanding.asked))
       ]
     ]
 
 -- ---- answers
 
 -- the request of an answer is a message of the list
-asked_in : (c : List Message) (i p : ℕ) (r : PlainRequest) → AnswersAt c i p r → IsRequestAt c p r
-asked_in c i p r at =
+pub answered_asked : (c : List Message) (i p : ℕ) (r : PlainRequest) → AnswersAt c i p r → IsRequestAt c p r
+answered_asked c i p r at =
     let asked = at.2.outstanding.asked in
     (asked.0, get_of_front c i p asked.0 asked.1, asked.2)
 
@@ -94,7 +93,7 @@ not_again c i j p r at again later =
 -- a request is answered by at most one message
 pub answered_once_lem : RequestIsOne → AnsweredOnce
 answered_once_lem one_of_bytes c i j p r s at other =
-    let same : s ≡ r = one_request one_of_bytes c p p s r refl (asked_in c j p s other) (asked_in c i p r at) in
+    let same : s ≡ r = one_request one_of_bytes c p s r (answered_asked c j p s other) (answered_asked c i p r at) in
     let again : AnswersAt c j p r = subst (AnswersAt c j p) same other in
     elim (cases_lt i j) [
       | inl earlier ↦ absurd (not_again c i j p r at again earlier)

@@ -1,4 +1,5 @@
 pub mod CallerLemmas
+pub mod GrowthLemmas
 pub mod RequestLemmas
 pub mod ShowsLemmas
 pub mod MessageLemmas

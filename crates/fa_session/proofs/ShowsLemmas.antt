@@ -23,7 +23,7 @@ use Rattle.fa_session.specs.Allowed.{IsAllowed}
 use Rattle.fa_session.specs.Plain.{PlainSession, PlainWaiting}
 use Rattle.fa_session.specs.Shows.{Shows, IsNegotiated}
 use Rattle.fa_session.specs.parts.Steps.{request_checked, waiting_for, flags_of, NotesRequest, NotesReply, noticed}
-use Rattle.fa_session.proofs.CallerLemmas.{one_direction, asked_cases, waited, not_now, waits_now, waits_still, get_last, take_all_before, settled_still, allowed_more}
+use Rattle.fa_session.proofs.GrowthLemmas.{one_direction, asked_cases, waited, not_now, waits_now, waits_still, get_last, take_all_before, settled_still, allowed_more}
 use Rattle.fa_session.proofs.RequestLemmas.{outstanding_is}
 
 -- two numbers are equal or not

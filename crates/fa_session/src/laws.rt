@@ -5,17 +5,12 @@ ghost use Rattle.fa_session.specs.Laws.{AnswersOne, AnsweredOnce, EachReplyAnswe
 /// A message answers at most one request.
 pub fn answers_one()
     ensures { AnswersOne }
-{
-    fa_bodies::laws::request_is_one();
-    fa_bodies::laws::reply_head_is_one();
-}
+{}
 
 /// A request is answered by at most one message.
 pub fn answered_once()
     ensures { AnsweredOnce }
-{
-    fa_bodies::laws::request_is_one();
-}
+{}
 
 /// Among messages that are all allowed, each reply answers a request.
 pub fn each_reply_answers()

@@ -1,5 +1,5 @@
-use Rattle.fa_session.proofs.LawsLemmas.{answered_once_lem}
+use Rattle.fa_session.proofs.CallerLemmas.{answered_once}
 use Rattle.fa_session.proofs.laws.answered_once.Goals as goal
 
 pub returns : goal.returns
-returns c = answered_once_lem c.request_is_one.ensures
+returns c = answered_once

@@ -1,5 +1,5 @@
-use Rattle.fa_session.proofs.LawsLemmas.{answers_one_lem}
+use Rattle.fa_session.proofs.CallerLemmas.{answers_one}
 use Rattle.fa_session.proofs.laws.answers_one.Goals as goal
 
 pub returns : goal.returns
-returns c = answers_one_lem c.request_is_one.ensures c.reply_head_is_one.ensures
+returns c = answers_one
