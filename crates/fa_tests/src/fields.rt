@@ -1,0 +1,490 @@
+//! Where the fields of bodies stand. In a body whose bytes all differ, the number that is read shows its place.
+
+use crate::messages::{asked_bytes, said, to_server};
+use bitflags::Flags;
+use fa_bodies::{
+    Attributes, EntryOut, FattrFlags, FopenFlags, GetattrFlags, InitFlags, OpenFlags, OpenOut,
+    ReadIn, ReleaseIn, Reply, RequestBody, SetattrIn, request, sample,
+};
+use std::alloc::{AllocError, Global};
+
+/// Fields of a body as numbers, and 0 behind the last.
+type Numbers = [u64; 15];
+
+/// The offset of a field and its size.
+type Place = (usize, usize);
+
+/// These numbers, and 0 behind the last.
+fn numbers(listed: &[u64]) -> Numbers {
+    let mut all = [0; 15];
+    for (place, number) in all.iter_mut().zip(listed) {
+        *place = *number;
+    }
+    all
+}
+
+/// The number of so many bytes at this offset, low byte first.
+fn number_at(body: &[u8], (offset, size): Place) -> u64 {
+    let mut bytes = [0; 8];
+    for (place, byte) in bytes.iter_mut().zip(body.iter().skip(offset).take(size)) {
+        *place = *byte;
+    }
+    u64::from_le_bytes(bytes)
+}
+
+/// The numbers at these places.
+fn numbers_at(body: &[u8], places: &[Place]) -> Numbers {
+    let mut all = [0; 15];
+    for (number, place) in all.iter_mut().zip(places) {
+        *number = number_at(body, *place);
+    }
+    all
+}
+
+/// The bytes 0, 1, 2 and so on.
+fn counted(alloc: Global, len: usize) -> Result<Vec<u8>, AllocError> {
+    let mut body = Vec::new(alloc);
+    for byte in (0..=255).take(len) {
+        body.push(byte)?;
+    }
+    Ok(body)
+}
+
+fn of_setattr(s: &SetattrIn) -> Numbers {
+    numbers(&[
+        u64::from(s.valid.bits()),
+        s.fh,
+        s.size,
+        s.lock_owner,
+        s.atime,
+        s.mtime,
+        s.ctime,
+        u64::from(s.atimensec),
+        u64::from(s.mtimensec),
+        u64::from(s.ctimensec),
+        u64::from(s.mode.bits()),
+        u64::from(s.uid),
+        u64::from(s.gid),
+    ])
+}
+
+fn of_read(r: &ReadIn) -> Numbers {
+    let flags = u64::from(r.flags.bits());
+    numbers(&[
+        r.fh,
+        r.offset,
+        u64::from(r.size),
+        u64::from(r.read_flags),
+        r.lock_owner,
+        flags,
+    ])
+}
+
+fn of_release(r: &ReleaseIn) -> Numbers {
+    let flags = u64::from(r.flags.bits());
+    numbers(&[r.fh, flags, u64::from(r.release_flags), r.lock_owner])
+}
+
+/// The number of a body's operation, and the fields in it that are numbers. READLINK and what is read by the header alone
+/// have none.
+fn of_request(body: &RequestBody<'_>) -> (u32, Numbers) {
+    match *body {
+        RequestBody::Lookup { .. } => (1, numbers(&[])),
+        RequestBody::Forget { nlookup } => (2, numbers(&[nlookup])),
+        RequestBody::Getattr(g) => (3, numbers(&[u64::from(g.getattr_flags.bits()), g.fh])),
+        RequestBody::Setattr(s) => (4, of_setattr(&s)),
+        RequestBody::Readlink => (5, numbers(&[])),
+        RequestBody::Symlink { .. } => (6, numbers(&[])),
+        RequestBody::Unlink { .. } => (10, numbers(&[])),
+        RequestBody::Rmdir { .. } => (11, numbers(&[])),
+        RequestBody::Rename { newdir, .. } => (12, numbers(&[newdir])),
+        RequestBody::Link { oldnodeid, .. } => (13, numbers(&[oldnodeid])),
+        RequestBody::Open(o) => (14, numbers(&[u64::from(o.flags.bits())])),
+        RequestBody::Read(r) => (15, of_read(&r)),
+        RequestBody::Release(r) => (18, of_release(&r)),
+        RequestBody::Flush(f) => (25, numbers(&[f.fh, f.lock_owner])),
+        RequestBody::Opendir(o) => (27, numbers(&[u64::from(o.flags.bits())])),
+        RequestBody::Readdir(r) => (28, of_read(&r)),
+        RequestBody::Releasedir(r) => (29, of_release(&r)),
+        RequestBody::BatchForget { count, .. } => (42, numbers(&[u64::from(count)])),
+        RequestBody::Readdirplus(r) => (44, of_read(&r)),
+        _ => of_longer_request(body),
+    }
+}
+
+/// The same of the bodies with several fields of their own.
+fn of_longer_request(body: &RequestBody<'_>) -> (u32, Numbers) {
+    match *body {
+        RequestBody::Mknod {
+            mode,
+            rdev,
+            umask,
+            ..
+        } => {
+            (
+                8,
+                numbers(&[u64::from(mode.bits()), u64::from(rdev), u64::from(umask)]),
+            )
+        }
+        RequestBody::Mkdir { mode, umask, .. } => (
+            9,
+            numbers(&[u64::from(mode.bits()), u64::from(umask)]),
+        ),
+        RequestBody::Write {
+            fh,
+            offset,
+            size,
+            write_flags,
+            lock_owner,
+            flags,
+            ..
+        } => {
+            let flags = u64::from(flags.bits());
+            let listed = [
+                fh,
+                offset,
+                u64::from(size),
+                u64::from(write_flags),
+                lock_owner,
+                flags,
+            ];
+            (16, numbers(&listed))
+        }
+        RequestBody::Init(i) => {
+            let flags = u64::from(i.flags.bits());
+            let listed = [
+                u64::from(i.major),
+                u64::from(i.minor),
+                u64::from(i.max_readahead),
+                flags,
+            ];
+            (26, numbers(&listed))
+        }
+        RequestBody::Create {
+            flags,
+            mode,
+            umask,
+            ..
+        } => {
+            let flags = u64::from(flags.bits());
+            (
+                35,
+                numbers(&[flags, u64::from(mode.bits()), u64::from(umask)]),
+            )
+        }
+        _ => (0, numbers(&[])),
+    }
+}
+
+/// The names, the target, the payload or the items of a body, one behind the other.
+fn bytes_of<'a>(body: &RequestBody<'a>) -> (&'a [u8], &'a [u8]) {
+    match *body {
+        RequestBody::Lookup { name }
+        | RequestBody::Mknod { name, .. }
+        | RequestBody::Mkdir { name, .. }
+        | RequestBody::Unlink { name }
+        | RequestBody::Rmdir { name }
+        | RequestBody::Create { name, .. } => (name, b""),
+        RequestBody::Symlink { name, target } => (name, target),
+        RequestBody::Rename {
+            old_name,
+            new_name,
+            ..
+        } => (old_name, new_name),
+        RequestBody::Link { new_name, .. } => (new_name, b""),
+        RequestBody::Write { payload, .. } => (payload, b""),
+        RequestBody::BatchForget { items, .. } => (items, b""),
+        _ => (b"", b""),
+    }
+}
+
+const SETATTR: &[Place] = &[
+    (0, 4),
+    (8, 8),
+    (16, 8),
+    (24, 8),
+    (32, 8),
+    (40, 8),
+    (48, 8),
+    (56, 4),
+    (60, 4),
+    (64, 4),
+    (68, 4),
+    (76, 4),
+    (80, 4),
+];
+
+const READ: &[Place] = &[(0, 8), (8, 8), (16, 4), (20, 4), (24, 8), (32, 4)];
+
+const RELEASE: &[Place] = &[(0, 8), (8, 4), (12, 4), (16, 8)];
+
+const FLUSH: &[Place] = &[(0, 8), (16, 8)];
+
+const WHOLE: &[Place] = &[(0, 8)];
+
+const FLAGS: &[Place] = &[(0, 4)];
+
+/// An operation, the number of counted bytes at the front of its body, the places of its fields, what stands behind them,
+/// and what is read of that.
+type Body = (
+    u32,
+    usize,
+    &'static [Place],
+    &'static [u8],
+    (&'static [u8], &'static [u8]),
+);
+
+const BODIES: [Body; 23] = [
+    (1, 0, &[], b"name\0", (b"name", b"")),
+    (2, 8, WHOLE, b"", (b"", b"")),
+    (3, 16, &[(0, 4), (8, 8)], b"", (b"", b"")),
+    (4, 88, SETATTR, b"", (b"", b"")),
+    (5, 0, &[], b"", (b"", b"")),
+    (6, 0, &[], b"name\0/to a\0", (b"name", b"/to a")),
+    (8, 16, &[(0, 4), (4, 4), (8, 4)], b"name\0", (b"name", b"")),
+    (9, 8, &[(0, 4), (4, 4)], b"name\0", (b"name", b"")),
+    (10, 0, &[], b"name\0", (b"name", b"")),
+    (11, 0, &[], b"name\0", (b"name", b"")),
+    (12, 8, WHOLE, b"name\0other\0", (b"name", b"other")),
+    (13, 8, WHOLE, b"name\0", (b"name", b"")),
+    (14, 8, FLAGS, b"", (b"", b"")),
+    (15, 40, READ, b"", (b"", b"")),
+    (18, 24, RELEASE, b"", (b"", b"")),
+    (25, 24, FLUSH, b"", (b"", b"")),
+    (26, 16, &[(0, 4), (4, 4), (8, 4), (12, 4)], b"", (b"", b"")),
+    (
+        26,
+        16,
+        &[(0, 4), (4, 4), (8, 4), (12, 4)],
+        b"more",
+        (b"", b""),
+    ),
+    (27, 8, FLAGS, b"", (b"", b"")),
+    (28, 40, READ, b"", (b"", b"")),
+    (29, 24, RELEASE, b"", (b"", b"")),
+    (35, 16, &[(0, 4), (4, 4), (8, 4)], b"name\0", (b"name", b"")),
+    (44, 40, READ, b"", (b"", b"")),
+];
+
+/// A WRITE of three bytes. Its offset is within the limit, and each other byte behind the first 16 is its own place.
+#[rattlefmt::skip]
+const WRITE: [u8; 43] = [
+    // fh, offset
+    0x00, 0x01, 0x02, 0x03, 0x04, 0x05, 0x06, 0x07, 0x08, 0x09, 0x0a, 0x00, 0x00, 0x00, 0x00, 0x00,
+    // size, write_flags, lock_owner
+    0x03, 0x00, 0x00, 0x00, 0x14, 0x15, 0x16, 0x17, 0x18, 0x19, 0x1a, 0x1b, 0x1c, 0x1d, 0x1e, 0x1f,
+    // flags, padding, the bytes
+    0x20, 0x21, 0x22, 0x23, 0x24, 0x25, 0x26, 0x27, b'a', 0x00, b'c',
+];
+
+/// A BATCH_FORGET of one item.
+#[rattlefmt::skip]
+const BATCH_FORGET: [u8; 24] = [
+    // count, dummy
+    0x01, 0x00, 0x00, 0x00, 0x04, 0x05, 0x06, 0x07,
+    b'i', b'n', b' ', b's', b'i', b'x', b't', b'e', b'e', b'n', b' ', b'b', b'y', b't', b'e', b's',
+];
+
+/// Whether a request of this operation and body is read as the fields at these places and these bytes behind them.
+fn is_read(
+    alloc: Global,
+    opcode: u32,
+    body: &[u8],
+    places: &[Place],
+    behind: (&[u8], &[u8]),
+) -> Option<bool> {
+    let message = sample::request_bytes(alloc, 4, opcode, 1, body).ok()?;
+    let asked = request(&to_server(&message)).ok()?;
+    let (front, back) = bytes_of(&asked.body);
+    let (operation, found) = of_request(&asked.body);
+    let is_of = (asked.unique, asked.node, asked.opcode, operation) == (4, 1, opcode, opcode);
+    Some(is_of && found == numbers_at(body, places) && front == behind.0 && back == behind.1)
+}
+
+/// The same of a body whose front is counted bytes.
+fn is_read_counted(alloc: Global, (opcode, len, places, behind, bytes): Body) -> Option<bool> {
+    let mut body = counted(alloc, len).ok()?;
+    body.extend_from_slice(behind).ok()?;
+    is_read(alloc, opcode, &body, places, bytes)
+}
+
+#[test]
+fn fields_of_requests(rt: HostRuntime) {
+    for (number, body) in BODIES.iter().enumerate() {
+        assert!(rt;
+            is_read_counted(rt.alloc(), *body) == Some(true),
+            "row {number}"
+        );
+    }
+    let written = is_read(rt.alloc(), 16, &WRITE, READ, (b"a\0c", b""));
+    assert!(rt; written == Some(true));
+    let forgotten = is_read(
+        rt.alloc(),
+        42,
+        &BATCH_FORGET,
+        FLAGS,
+        (b"in sixteen bytes", b""),
+    );
+    assert!(rt; forgotten == Some(true));
+}
+
+fn of_entry(e: &EntryOut) -> Numbers {
+    numbers(&[
+        e.nodeid,
+        e.generation,
+        e.entry_valid,
+        e.attr_valid,
+        u64::from(e.entry_valid_nsec),
+        u64::from(e.attr_valid_nsec),
+    ])
+}
+
+fn of_attributes(a: &Attributes) -> Numbers {
+    numbers(&[
+        a.ino,
+        a.size,
+        a.blocks,
+        a.atime,
+        a.mtime,
+        a.ctime,
+        u64::from(a.atimensec),
+        u64::from(a.mtimensec),
+        u64::from(a.ctimensec),
+        u64::from(a.mode.bits()),
+        u64::from(a.nlink),
+        u64::from(a.uid),
+        u64::from(a.gid),
+        u64::from(a.rdev),
+        u64::from(a.blksize),
+    ])
+}
+
+fn of_open(o: &OpenOut) -> Numbers {
+    numbers(&[o.fh, u64::from(o.open_flags.bits())])
+}
+
+/// The fields of a success before its attributes, its attributes, and those of an open handle.
+fn of_reply(reply: &Reply<'_>) -> [Numbers; 3] {
+    let none = [0; 15];
+    match reply {
+        Reply::Entry(e) => [of_entry(e), of_attributes(&e.attr), none],
+        Reply::Created { entry, open } => [
+            of_entry(entry),
+            of_attributes(&entry.attr),
+            of_open(open),
+        ],
+        Reply::Attributes(a) => {
+            let valid = numbers(&[a.attr_valid, u64::from(a.attr_valid_nsec)]);
+            [valid, of_attributes(&a.attr), none]
+        }
+        Reply::Opened(o) => [none, none, of_open(o)],
+        Reply::Negotiated(n) => {
+            let flags = u64::from(n.flags.bits());
+            let listed = [
+                u64::from(n.major),
+                u64::from(n.minor),
+                u64::from(n.max_readahead),
+                flags,
+            ];
+            [numbers(&listed), none, none]
+        }
+        _ => [none, none, none],
+    }
+}
+
+const ENTRY: &[Place] = &[(0, 8), (8, 8), (16, 8), (24, 8), (32, 4), (36, 4)];
+
+/// `struct fuse_attr` behind the 40 bytes before it in an entry.
+const IN_ENTRY: &[Place] = &[
+    (40, 8),
+    (48, 8),
+    (56, 8),
+    (64, 8),
+    (72, 8),
+    (80, 8),
+    (88, 4),
+    (92, 4),
+    (96, 4),
+    (100, 4),
+    (104, 4),
+    (108, 4),
+    (112, 4),
+    (116, 4),
+    (120, 4),
+];
+/// `struct fuse_attr` behind the 16 bytes before it in the answer of GETATTR and SETATTR.
+const IN_ATTR: &[Place] = &[
+    (16, 8),
+    (24, 8),
+    (32, 8),
+    (40, 8),
+    (48, 8),
+    (56, 8),
+    (64, 4),
+    (68, 4),
+    (72, 4),
+    (76, 4),
+    (80, 4),
+    (84, 4),
+    (88, 4),
+    (92, 4),
+    (96, 4),
+];
+
+/// An operation, the bytes of its success, and the places of its fields.
+const SUCCESSES: [(u32, usize, [&[Place]; 3]); 11] = [
+    (1, 128, [ENTRY, IN_ENTRY, &[]]),
+    (3, 104, [&[(0, 8), (8, 4)], IN_ATTR, &[]]),
+    (4, 104, [&[(0, 8), (8, 4)], IN_ATTR, &[]]),
+    (6, 128, [ENTRY, IN_ENTRY, &[]]),
+    (8, 128, [ENTRY, IN_ENTRY, &[]]),
+    (9, 128, [ENTRY, IN_ENTRY, &[]]),
+    (13, 128, [ENTRY, IN_ENTRY, &[]]),
+    (14, 16, [&[], &[], &[(0, 8), (8, 4)]]),
+    (26, 64, [&[(0, 4), (4, 4), (8, 4), (12, 4)], &[], &[]]),
+    (27, 16, [&[], &[], &[(0, 8), (8, 4)]]),
+    (35, 144, [ENTRY, IN_ENTRY, &[(128, 8), (136, 4)]]),
+];
+
+/// Whether a success of this operation is read as the fields at these places.
+fn is_success_read(alloc: Global, opcode: u32, len: usize, places: [&[Place]; 3]) -> Option<bool> {
+    let asked = asked_bytes(alloc, opcode, 20).ok()?;
+    let body = counted(alloc, len).ok()?;
+    let message = sample::reply_bytes(alloc, 4, 0, &body).ok()?;
+    let reply = said(&request(&to_server(&asked)).ok()?, &message).ok()?;
+    let [before, attributes, behind] = places;
+    let expected = [
+        numbers_at(&body, before),
+        numbers_at(&body, attributes),
+        numbers_at(&body, behind),
+    ];
+    Some(of_reply(&reply) == expected)
+}
+
+#[test]
+fn fields_of_successes(rt: HostRuntime) {
+    for (opcode, len, places) in SUCCESSES {
+        let found = is_success_read(rt.alloc(), opcode, len, places);
+        assert!(rt; found == Some(true), "the answer of {opcode}");
+    }
+}
+
+/// Each flag is its bit of `fuse.h` or of the C library's open, and bits that no flag names are kept.
+#[test]
+fn flags_are_their_bits(rt: HostRuntime) {
+    for (bits, expected) in [
+        (InitFlags::ATOMIC_O_TRUNC.bits(), 0x8),
+        (InitFlags::WRITEBACK_CACHE.bits(), 0x1_0000),
+        (InitFlags::POSIX_ACL.bits(), 0x10_0000),
+        (GetattrFlags::FH.bits(), 0x1),
+        (FattrFlags::MODE.bits(), 0x1),
+        (FattrFlags::SIZE.bits(), 0x8),
+        (FattrFlags::FH.bits(), 0x40),
+        (OpenFlags::EXCL.bits(), 0x80),
+        (OpenFlags::TRUNC.bits(), 0x200),
+        (FopenFlags::DIRECT_IO.bits(), 0x1),
+        (InitFlags::from_bits_retain(0x8011_0008).bits(), 0x8011_0008),
+    ] {
+        assert_eq!(rt; bits, expected);
+    }
+}
