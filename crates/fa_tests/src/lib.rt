@@ -25,3 +25,5 @@ mod sessions;
 mod spelling;
 #[cfg(test)]
 mod streams;
+#[cfg(test)]
+mod tried;
