@@ -6,8 +6,6 @@
 #[cfg(test)]
 mod captures;
 #[cfg(test)]
-mod errno;
-#[cfg(test)]
 mod fields;
 #[cfg(test)]
 mod heads;

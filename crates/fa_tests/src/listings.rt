@@ -25,7 +25,7 @@ fn item_at(bytes: &[u8], place: usize) -> Option<(u64, u64)> {
     for _ in 0..place {
         walk.next()?;
     }
-    walk.next().map(|item| (item.nodeid, item.nlookup))
+    walk.next()
 }
 
 /// The walk ends before a rest of fewer than 16 bytes.

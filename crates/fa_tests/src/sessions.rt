@@ -1,13 +1,13 @@
 //! Sessions of a few messages. Where two rules are broken at once, the row shows which of them is told.
 
-use crate::errno::{EEXIST, ENOENT, ENOSYS, EPROTO};
 use crate::messages::{MISREAD, from_server, to_server};
 use crate::tried::{Seen, Told, Tried, UNSEEN};
 use Sent::*;
 use Told::{Answered, Asked, Notified, Refused};
 use bitflags::Flags;
+use fa_bodies::errno::{EEXIST, ENOENT, ENOSYS, EPROTO};
 use fa_bodies::sample::Sample;
-use fa_bodies::{InitFlags, opcodes};
+use fa_bodies::{InitFlags, ROOT_ID, opcodes};
 use fa_capture::{Direction, codes, read_capture};
 use fa_session::laws;
 use std::alloc::Global;
@@ -16,9 +16,6 @@ use std::alloc::Global;
 const EAGAIN: i32 = -11;
 /// ENOTTY.
 const ENOTTY: i32 = -25;
-
-/// The node id of the root.
-const ROOT: u64 = 1;
 
 /// A message. The first number is its unique, but of a notification its code.
 #[derive(Clone, Copy, Debug)]
@@ -51,14 +48,14 @@ fn with(sample: Sample, message: Sent) -> Sample {
     match message {
         Init(unique) => sample.init(unique),
         InitAnswer(unique) => sample.init_answer(unique),
-        Lookup(unique) => sample.lookup(unique, ROOT, b"a"),
-        Forget(unique) => sample.forget(unique, ROOT, 1),
+        Lookup(unique) => sample.lookup(unique, ROOT_ID, b"a"),
+        Forget(unique) => sample.forget(unique, ROOT_ID, 1),
         BatchForget(unique) => sample.batch_forget(unique, &[]),
-        Interrupt(unique) => sample.request(unique, opcodes::INTERRUPT, ROOT, b""),
-        Open(unique) => sample.open(unique, ROOT),
-        Opendir(unique) => sample.opendir(unique, ROOT),
-        Bare(unique, opcode) => sample.request(unique, opcode, ROOT, b""),
-        Request(unique, opcode, body) => sample.request(unique, opcode, ROOT, body),
+        Interrupt(unique) => sample.request(unique, opcodes::INTERRUPT, ROOT_ID, b""),
+        Open(unique) => sample.open(unique, ROOT_ID),
+        Opendir(unique) => sample.opendir(unique, ROOT_ID),
+        Bare(unique, opcode) => sample.request(unique, opcode, ROOT_ID, b""),
+        Request(unique, opcode, body) => sample.request(unique, opcode, ROOT_ID, body),
         Error(unique, error) => sample.error(unique, error),
         Success(unique, body) => sample.data(unique, body),
         Reply(unique, error, body) => sample.reply(unique, error, body),
@@ -580,7 +577,7 @@ fn versioned(alloc: Global, asked: (u32, u32, u32), answered: (u32, u32, u32)) -
         .init_with(2, asked.0, asked.1, asked_flags)
         .error(2, EPROTO)
         .init_answer_with(2, answered.0, answered.1, flags, 64)
-        .lookup(4, ROOT, b"a")
+        .lookup(4, ROOT_ID, b"a")
         .error(4, ENOENT)
 }
 
