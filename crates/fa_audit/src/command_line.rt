@@ -6,9 +6,6 @@ ghost use Rattle.fa_audit.specs.parts.CommandLine.{value_of};
 use clap::{Arg, ArgAction, ArgMatches, Command};
 use std::alloc::{AllocError, Global};
 
-#[cfg(test)]
-mod tests;
-
 /// The option that names the capture.
 const CAPTURE: &str = "capture";
 /// The option that names the order text.

@@ -13,9 +13,6 @@ use crate::verdict::{AuditError, Verdict};
 use fa_capture::read_capture;
 use std::alloc::Global;
 
-#[cfg(test)]
-mod tests;
-
 /// Judges a capture and an order.
 ///
 /// The capture is judged message by message, by the message grammar of fuse.h 7.31, the operations that are judged so

@@ -8,9 +8,6 @@ use crate::verdict::Verdict;
 use fa_capture::codes;
 use std::alloc::{AllocError, Global};
 
-#[cfg(test)]
-mod tests;
-
 /// The line of a verdict, without a line feed. The code that the verdict tells, if any, is one of [`codes`].
 ///
 /// - `legal: M messages, P placed, L left out`

@@ -33,9 +33,6 @@ use std::process::ExitCode;
 use std::rt::Files;
 use std::{env, io};
 
-#[cfg(test)]
-mod tests;
-
 fn main(rt: HostRuntime) -> ExitCode {
     let status = match check(&rt) {
         Ok(status) => status,

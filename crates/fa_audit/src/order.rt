@@ -15,9 +15,6 @@ ghost use Rattle.fa_audit.specs.declared.order.TextError.TheVariants.{Memory};
 
 use std::alloc::{AllocError, AllocFailed, Global};
 
-#[cfg(test)]
-mod tests;
-
 /// How many bytes a text may have.
 pub const MAX_TEXT_BYTES: usize = 268_435_456;
 
