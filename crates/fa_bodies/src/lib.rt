@@ -48,6 +48,3 @@ pub use replies::{Reply, ReplyHead};
 pub use requests::{ROOT_ID, Request, RequestBody};
 pub use setattr::SetattrIn;
 pub use walking::{entries, items};
-
-#[cfg(test)]
-mod tests;

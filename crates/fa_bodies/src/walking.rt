@@ -53,6 +53,3 @@ pub(crate) fn listing(plus: bool, bytes: &[u8]) -> Option<Entries<'_>>
         None
     }
 }
-
-#[cfg(test)]
-mod tests;

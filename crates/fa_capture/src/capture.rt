@@ -14,9 +14,6 @@ use crate::limits::{MAX_CAPTURE_BYTES, MAX_MESSAGE_BYTES, MAX_MESSAGES};
 use crate::packet::{Direction, Packet};
 use std::alloc::{AllocError, Global};
 
-#[cfg(test)]
-mod tests;
-
 /// What a capture begins with.
 pub const MAGIC: &[u8; 8] = b"FUSECAP1";
 

@@ -6,9 +6,6 @@
 ghost use Rattle.std.specs.Prelude.{◌≡◌, option_map};
 ghost use Rattle.fa_capture.specs.Codes.{text_of};
 
-#[cfg(test)]
-mod tests;
-
 /// no FUSECAP1 at the start
 pub const NO_MAGIC: u16 = 1;
 /// record cut off

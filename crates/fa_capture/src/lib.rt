@@ -21,6 +21,3 @@ pub use fault::CaptureFault;
 pub use input::{Input, MAX_READ_LIMIT, Pull, ReadError, read_all};
 pub use output::{Broken, Output};
 pub use packet::{Direction, Packet};
-
-#[cfg(test)]
-mod tests;

@@ -23,9 +23,6 @@ use indexmap::IndexMap;
 use std::alloc::Global;
 use std::marker::Model;
 
-#[cfg(test)]
-mod tests;
-
 /// What the messages of a capture leave open, one after the other: how many came, whether INIT was answered, and the
 /// requests that are outstanding.
 #[derive(Drop)]

@@ -167,12 +167,12 @@ const UNPADDED: [(u32, usize, usize); 12] = [
 
 /// How many entries are read from one with the number 1, the offset 2 and the type 3, this length of its name, and these
 /// bytes, and whether it is a listing. For READDIRPLUS node 7 stands before it.
-fn read_from(
+fn read_from<'x>(
     alloc: Global,
     plus: bool,
     namelen: u32,
-    name: &[u8],
-    padding: &[u8],
+    name: &'x [u8],
+    padding: &'x [u8],
 ) -> Option<(usize, bool)> {
     let front = if plus {
         [U64(7), Zeros(120)]

@@ -9,7 +9,6 @@ use fa_bodies::errno::{EEXIST, ENOENT, ENOSYS, EPROTO};
 use fa_bodies::sample::Sample;
 use fa_bodies::{InitFlags, ROOT_ID, opcodes};
 use fa_capture::{Direction, codes, read_capture};
-use fa_session::laws;
 use std::alloc::Global;
 
 /// EAGAIN.
@@ -18,7 +17,7 @@ const EAGAIN: i32 = -11;
 const ENOTTY: i32 = -25;
 
 /// A message. The first number is its unique, but of a notification its code.
-#[derive(Clone, Copy, Debug)]
+#[derive(Clone, Copy)]
 enum Sent {
     /// INIT, and its answer, of version 7.31 without flags.
     Init(u64),
@@ -200,8 +199,8 @@ const SHORT_ENTRY: &[u8; 127] = &[0; 127];
 
 const HANDLE: &[u8; 16] = &[0; 16];
 
-/// Behind INIT and its answer.
-const AFTER_INIT: [Row; 108] = [
+/// Which uniques are free. These rows stand behind INIT and its answer.
+const UNIQUES: [Row; 25] = [
     // Uniques in use.
     (&[Lookup(4), Forget(4)], codes::UNIQUE_IN_USE),
     (&[Lookup(4), BatchForget(4)], codes::UNIQUE_IN_USE),
@@ -234,6 +233,10 @@ const AFTER_INIT: [Row; 108] = [
     (&[Forget(4), Lookup(4)], 0),
     (&[Forget(4), Forget(4)], 0),
     (&[BatchForget(4), Lookup(4)], 0),
+];
+
+/// Which request a reply answers, and with which body. These rows stand behind INIT and its answer.
+const ANSWERS: [Row; 28] = [
     // Replies that answer no request.
     (&[Error(4, ENOENT)], codes::NO_REQUEST_WAITS),
     (&[Lookup(6), Error(4, ENOENT)], codes::NO_REQUEST_WAITS),
@@ -292,6 +295,10 @@ const AFTER_INIT: [Row; 108] = [
     (&[Interrupt(4), Success(4, b"x")], codes::REPLY_BODY),
     (&[Interrupt(4), Success(4, b"")], 0),
     (&[Bare(4, opcodes::STATFS), Success(4, b"x")], 0),
+];
+
+/// Which operations may succeed, and how. These rows stand behind INIT and its answer.
+const SUCCESSES: [Row; 33] = [
     // The operations that are left out are refused alone.
     (
         &[Bare(4, opcodes::IOCTL), Success(4, b"")],
@@ -342,6 +349,10 @@ const AFTER_INIT: [Row; 108] = [
     (&[Opendir(4), Error(4, -1)], 0),
     (&[CREATE, Error(4, ENOSYS)], 0),
     (&[Lookup(4), Error(4, ENOSYS)], 0),
+];
+
+/// Messages that are no requests, replies or notifications, and some that are. These rows stand behind INIT and its answer.
+const MESSAGES: [Row; 22] = [
     // Messages that are none: as they are, without the last byte, and with one byte more.
     (&[Raw(Direction::ToServer, READLINK)], 0),
     (
@@ -387,23 +398,43 @@ const AFTER_INIT: [Row; 108] = [
     (&[Notice(i32::MIN)], codes::NOTIFICATION),
 ];
 
+/// The number of the first row whose last message has another code, where there is one.
+fn first_wrong(alloc: Global, is_opened: bool, rows: &[Row]) -> Option<usize> {
+    for (number, (messages, code)) in rows.iter().enumerate() {
+        let mut sample = Sample::new(alloc);
+        if is_opened {
+            sample = sample.init(2).init_answer(2);
+        }
+        if last_code(alloc, with_all(sample, messages)) != Some(*code) {
+            return Some(number);
+        }
+    }
+    None
+}
+
 #[test]
-fn the_last_message_of_a_session(rt: HostRuntime) {
-    for (number, (messages, code)) in FROM_START.iter().enumerate() {
-        let sample = with_all(Sample::new(rt.alloc()), messages);
-        assert!(rt;
-            last_code(rt.alloc(), sample) == Some(*code),
-            "row {number} from the start"
-        );
-    }
-    for (number, (messages, code)) in AFTER_INIT.iter().enumerate() {
-        let opened = Sample::new(rt.alloc()).init(2).init_answer(2);
-        let sample = with_all(opened, messages);
-        assert!(rt;
-            last_code(rt.alloc(), sample) == Some(*code),
-            "row {number} after INIT"
-        );
-    }
+fn how_a_session_begins(rt: HostRuntime) {
+    assert_eq!(rt; first_wrong(rt.alloc(), false, &FROM_START), None);
+}
+
+#[test]
+fn which_uniques_are_free(rt: HostRuntime) {
+    assert_eq!(rt; first_wrong(rt.alloc(), true, &UNIQUES), None);
+}
+
+#[test]
+fn which_request_a_reply_answers(rt: HostRuntime) {
+    assert_eq!(rt; first_wrong(rt.alloc(), true, &ANSWERS), None);
+}
+
+#[test]
+fn which_operations_may_succeed(rt: HostRuntime) {
+    assert_eq!(rt; first_wrong(rt.alloc(), true, &SUCCESSES), None);
+}
+
+#[test]
+fn what_is_a_message(rt: HostRuntime) {
+    assert_eq!(rt; first_wrong(rt.alloc(), true, &MESSAGES), None);
 }
 
 /// What is told of each message. Those that are refused stand among them, and change nothing.
@@ -674,25 +705,29 @@ fn a_message_without_memory_is_handed_in_again(rt: HostRuntime) {
     let mut seen = [UNSEEN; 203];
     packets[1] = from_server(INIT_ANSWER);
     packets[202] = from_server(REFUSAL);
-    for (pair, message) in packets[2..202].chunks_exact_mut(2).zip(&messages) {
-        pair.fill(to_server(message));
+    for place in 0..100 {
+        packets[2 + 2 * place] = to_server(&messages[place]);
+        packets[3 + 2 * place] = to_server(&messages[place]);
     }
     Tried::new(rt.alloc()).tell_each(&packets, &mut seen);
     assert!(rt; seen[0].told == Asked(0) && seen[0].negotiated.is_none());
     assert!(rt; seen[1].told == Answered(1, 0) && seen[1].negotiated == Some(0));
     assert!(rt; seen[202].told == Answered(102, 2));
-    for (number, pair) in (2..102).zip(seen[2..202].chunks_exact(2)) {
-        let told = [Asked(number), Refused(codes::UNIQUE_IN_USE)];
+    for place in 0..100 {
         assert!(rt;
-            pair.iter().map(|seen| seen.told).eq(told),
-            "message {number}"
+            seen[2 + 2 * place].told == Asked(2 + place as u32),
+            "at {place}"
+        );
+        assert!(rt;
+            seen[3 + 2 * place].told == Refused(codes::UNIQUE_IN_USE),
+            "at {place}"
         );
     }
 }
 
 #[test]
 fn laws_do_nothing() {
-    laws::answers_one();
-    laws::answered_once();
-    laws::each_reply_answers();
+    fa_session::laws::answers_one();
+    fa_session::laws::answered_once();
+    fa_session::laws::each_reply_answers();
 }

@@ -11,7 +11,7 @@ use fa_session::{Event, Session, SessionError};
 use std::alloc::Global;
 
 /// What a session tells of a message.
-#[derive(Clone, Copy, Debug, PartialEq, Eq)]
+#[derive(Clone, Copy, PartialEq, Eq)]
 pub enum Told {
     /// A request, by its number.
     Asked(u32),
@@ -27,7 +27,7 @@ pub enum Told {
 
 /// What a session tells of a message, and the flags that are settled then. Of a request or its reply also the request's
 /// unique and node, and the error of a refusal; else these are 0.
-#[derive(Clone, Copy, Debug, PartialEq, Eq)]
+#[derive(Clone, Copy, PartialEq, Eq)]
 pub struct Seen {
     pub told: Told,
     pub negotiated: Option<u32>,
