@@ -62,7 +62,8 @@ def differences(program, words, name, files):
     try:
         with tempfile.TemporaryDirectory() as room:
             words = [unpacked(word, room) for word in words]
-            ran = subprocess.run([program, *words], cwd=HERE, stdin=subprocess.DEVNULL, capture_output=True, timeout=SECONDS)
+            how = {"cwd": HERE, "stdin": subprocess.DEVNULL, "capture_output": True, "timeout": SECONDS}
+            ran = subprocess.run([program, *words], **how)
     except (OSError, subprocess.TimeoutExpired) as error:
         return [str(error)]
     found = []
