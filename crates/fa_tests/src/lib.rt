@@ -1,6 +1,7 @@
-//! Tests of the libraries by what they offer, as tables. What the program answers is shown by the files in `cases`.
+//! Tests of captures, streams and messages by what their crates offer, as tables. What the program answers is shown by
+//! the files in `cases`.
 //!
-//! The expected values come from the formats (docs/formats.md), from `fuse.h` and from `errno.h`.
+//! The expected values come from the formats (docs/formats.md), and from `fuse.h`.
 #![tactic(auto)]
 
 #[cfg(test)]
@@ -18,10 +19,6 @@ mod replies;
 #[cfg(test)]
 mod requests;
 #[cfg(test)]
-mod sessions;
-#[cfg(test)]
 mod spelling;
 #[cfg(test)]
 mod streams;
-#[cfg(test)]
-mod tried;

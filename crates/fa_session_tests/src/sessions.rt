@@ -1,6 +1,5 @@
 //! Sessions of a few messages. Where two rules are broken at once, the row shows which of them is told.
 
-use crate::messages::{MISREAD, from_server, to_server};
 use crate::tried::{Seen, Told, Tried, UNSEEN};
 use Sent::*;
 use Told::{Answered, Asked, Notified, Refused};
@@ -8,13 +7,16 @@ use bitflags::Flags;
 use fa_bodies::errno::{EEXIST, ENOENT, ENOSYS, EPROTO};
 use fa_bodies::sample::Sample;
 use fa_bodies::{InitFlags, ROOT_ID, opcodes};
-use fa_capture::{Direction, codes, read_capture};
+use fa_capture::{Direction, Packet, codes, read_capture};
 use std::alloc::Global;
 
 /// EAGAIN.
 const EAGAIN: i32 = -11;
 /// ENOTTY.
 const ENOTTY: i32 = -25;
+
+/// The code of a session that tells something else than a code.
+const MISREAD: u16 = 999;
 
 /// A message. The first number is its unique, but of a notification its code.
 #[derive(Clone, Copy)]
@@ -695,19 +697,24 @@ fn readlinks() -> [[u8; 40]; 100] {
     messages
 }
 
+/// A message in this direction.
+fn packet(direction: Direction, bytes: &[u8]) -> Packet<'_> {
+    Packet { direction, bytes }
+}
+
 /// The session alone takes memory here. An ordinary run has ample memory, so only a run by
 /// `rt try --test --fail-alloc N`, which refuses the Nth allocation, shows what the session does without it: the message
 /// is handed in again, and what is told of it and of the others is the same.
 #[test]
 fn a_message_without_memory_is_handed_in_again(rt: HostRuntime) {
     let messages = readlinks();
-    let mut packets = [to_server(INIT); 203];
+    let mut packets = [packet(Direction::ToServer, INIT); 203];
     let mut seen = [UNSEEN; 203];
-    packets[1] = from_server(INIT_ANSWER);
-    packets[202] = from_server(REFUSAL);
+    packets[1] = packet(Direction::FromServer, INIT_ANSWER);
+    packets[202] = packet(Direction::FromServer, REFUSAL);
     for place in 0..100 {
-        packets[2 + 2 * place] = to_server(&messages[place]);
-        packets[3 + 2 * place] = to_server(&messages[place]);
+        packets[2 + 2 * place] = packet(Direction::ToServer, &messages[place]);
+        packets[3 + 2 * place] = packet(Direction::ToServer, &messages[place]);
     }
     Tried::new(rt.alloc()).tell_each(&packets, &mut seen);
     assert!(rt; seen[0].told == Asked(0) && seen[0].negotiated.is_none());
