@@ -1,24 +1,16 @@
-//! Tests of captures, streams and messages by what their crates offer, as tables. What the program answers is shown by
-//! the files in `cases`.
+//! Tests of streams, captures and sessions by what their crates offer, as tables. Those of single messages stand in
+//! `fa_message_tests`, and what the program answers is shown by the files in `cases`.
 //!
-//! The expected values come from the formats (docs/formats.md), and from `fuse.h`.
+//! The expected values come from the formats (docs/formats.md), from `fuse.h` and from `errno.h`.
 #![tactic(auto)]
 
 #[cfg(test)]
 mod captures;
 #[cfg(test)]
-mod fields;
+mod first;
 #[cfg(test)]
-mod heads;
-#[cfg(test)]
-mod listings;
-#[cfg(test)]
-mod messages;
-#[cfg(test)]
-mod replies;
-#[cfg(test)]
-mod requests;
-#[cfg(test)]
-mod spelling;
+mod sessions;
 #[cfg(test)]
 mod streams;
+#[cfg(test)]
+mod tried;

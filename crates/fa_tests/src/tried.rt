@@ -2,7 +2,7 @@
 
 ghost use Rattle.std.specs.Prelude.{◌≡◌, ◌+◌, ◌<◌, ◌≤◌};
 ghost use Rattle.fa_capture.specs.declared.limits.TheConstants.{MAX_MESSAGES};
-ghost use Rattle.fa_session_tests.specs.Tried.{ShowsAtMost};
+ghost use Rattle.fa_tests.specs.Tried.{ShowsAtMost};
 
 use fa_bodies::Reply;
 use fa_capture::Packet;

@@ -1,52 +1,10 @@
 //! Samples, against bytes written by hand.
 
-use crate::captures::FIRST;
-use crate::messages::{said, to_server};
 use bitflags::Flags;
 use fa_bodies::sample::Field::Bytes;
 use fa_bodies::sample::{self, Listed, Sample};
-use fa_bodies::{FopenFlags, GetattrFlags, OpenFlags, Reply, RequestBody, reply_head, request};
-use fa_capture::{Direction, read_capture};
-use std::alloc::Global;
-
-/// The bytes of a sample of one LOOKUP that is refused with ENOENT.
-fn first_sample(alloc: Global) -> Option<Vec<u8>> {
-    let sample = Sample::new(alloc).init(2).init_answer(2);
-    sample.lookup(4, 1, b"a").error(4, -2).capture().ok()
-}
-
-/// A direction and a length of message.
-type Shape = (Direction, usize);
-
-const SHAPES: [Shape; 4] = [
-    (Direction::ToServer, 56),
-    (Direction::FromServer, 80),
-    (Direction::ToServer, 42),
-    (Direction::FromServer, 16),
-];
-
-#[test]
-fn the_first_capture(rt: HostRuntime) {
-    let bytes = first_sample(rt.alloc()).expect(&rt, "memory");
-    assert!(rt; bytes.as_slice() == FIRST.as_slice());
-    let capture = read_capture(rt.alloc(), &FIRST).expect(&rt, "memory");
-    assert!(rt; capture.fault.is_none() && capture.packets.len() == 4);
-    for (packet, (direction, length)) in capture.packets.iter().zip(SHAPES) {
-        assert!(rt; packet.direction == direction && packet.bytes.len() == length);
-    }
-    let init = request(&to_server(&FIRST[13..69])).expect(&rt, "INIT");
-    assert!(rt; (init.unique, init.node, init.opcode) == (2, 0, 26));
-    let is_init = matches!(init.body, RequestBody::Init(asked)
-        if (asked.major, asked.minor, asked.max_readahead, asked.flags.bits()) == (7, 31, 0, 0));
-    assert!(rt; is_init);
-    let is_answer = matches!(said(&init, &FIRST[74..154]), Ok(Reply::Negotiated(agreed))
-        if (agreed.major, agreed.minor, agreed.max_readahead, agreed.flags.bits()) == (7, 31, 0, 0));
-    assert!(rt; is_answer);
-    let lookup = request(&to_server(&FIRST[159..201])).expect(&rt, "LOOKUP");
-    assert!(rt; (lookup.unique, lookup.node, lookup.opcode) == (4, 1, 1));
-    assert!(rt; matches!(lookup.body, RequestBody::Lookup { name: b"a" }));
-    assert!(rt; matches!(said(&lookup, &FIRST[206..]), Ok(Reply::Refused(-2))));
-}
+use fa_bodies::{FopenFlags, GetattrFlags, OpenFlags};
+use fa_capture::Direction;
 
 /// READ, READDIR and READDIRPLUS of 8 bytes at 7 by the handle 6.
 #[rattlefmt::skip]
