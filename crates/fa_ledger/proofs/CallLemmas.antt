@@ -1,0 +1,193 @@
+-- Messages have one list of calls at most.
+use Rattle.std.proofs.Common.{◌≡◌, ℕ, ◌<◌, Bool, true, false, List, [], ◌∷◌, length, take, get_or, Option, Some, None, refl, sym, ap, subst, ◌∙◌, inl, inr, arith}
+use Rattle.std.specs.Prelude.{◌↔◌, slice_get, map, option_map, IsTrue, All, Contains}
+use Rattle.std.proofs.lemmas.Bool.{cases_lt}
+use Rattle.std.proofs.lemmas.List.{length-map}
+use Rattle.std.proofs.lemmas.Option.{slice_get_within, slice_get-map, slice_get-get_or, same_Some}
+use Rattle.fa_bodies.specs.Requests.{PlainRequest}
+use Rattle.fa_bodies.specs.Replies.{PlainReply}
+use Rattle.fa_capture.specs.Message.{Message}
+use Rattle.fa_session.specs.Answers.{AnswersAt}
+use Rattle.fa_session.specs.Events.{PlainEvent}
+use Rattle.fa_session.specs.Events.PlainEvent.{Asked, Answered}
+use Rattle.fa_session.proofs.CallerLemmas.{answered_once}
+use Rattle.fa_ledger.specs.declared.key.Key.{Key}
+use Rattle.fa_ledger.specs.declared.name.NodeName.{NodeName}
+use Rattle.fa_ledger.specs.Events.{AreEvents}
+use Rattle.fa_ledger.specs.Keys.{key_used}
+use Rattle.fa_ledger.specs.Handles.{IsOpenSince, IsHandle, IsDirect}
+use Rattle.fa_ledger.specs.Calls.{PlainAnswer, PlainCall, IsHandleUsed, IsMark, IsAskedCall, IsAnswerOf, HasAnswer, IsCall, AreCallsOf, Truncates, OpensAnew}
+use Rattle.fa_ledger.specs.Laws.{CallsAreOne}
+use Rattle.fa_ledger.proofs.EventLemmas.{element_at, same_places, events_are_one}
+use Rattle.fa_ledger.proofs.RisingLemmas.{rising_is_one}
+
+-- ---- marks and options
+
+-- two marks of the same fact are one
+pub same_mark : (m n : Bool) (P : Type 0) → IsTrue m ↔ P → IsTrue n ↔ P → m ≡ n
+same_mark true true P is too = refl
+same_mark true false P is too = sym (too.1 (is.0 refl))
+same_mark false true P is too = is.1 (too.0 refl)
+same_mark false false P is too = refl
+
+same_some : {X : Type 0} (a b : Option X) → option_map (λ x. Some x) a ≡ option_map (λ x. Some x) b → a ≡ b
+same_some None None e = refl
+same_some None (Some y) e = absurd cc
+same_some (Some x) None e = absurd cc
+same_some (Some x) (Some y) e = same_Some (Some x) (Some y) e
+
+same_somes : {X : Type 0} (xs ys : List X) → map (λ x. Some x) xs ≡ map (λ x. Some x) ys → xs ≡ ys
+same_somes [] [] e = refl
+same_somes [] (y ∷ ys) e = absurd cc
+same_somes (x ∷ xs) [] e = absurd cc
+same_somes (x ∷ xs) (y ∷ ys) e =
+    let heads : x ≡ y = cc in
+    let tails : xs ≡ ys = same_somes xs ys (let parts : map (λ z. Some z) xs ≡ map (λ z. Some z) ys = cc in parts) in
+    cc
+
+-- ---- handles
+
+-- an open key is open since one event
+one_since : (es : List PlainEvent) (key : Key) (r s : ℕ) → IsOpenSince es key r → IsOpenSince es key s → r < s → ⊥
+one_since es key r s is too later =
+    let within : s < length es = slice_get_within es s too.opened.0 too.opened.1 in
+    let stays = is.stays s later (omega (arith, within)) in
+    omega (arith, stays, too.anew)
+
+pub since_is_one : (es : List PlainEvent) (key : Key) (r s : ℕ) → IsOpenSince es key r → IsOpenSince es key s → r ≡ s
+since_is_one es key r s is too =
+    elim (cases_lt r s) [
+      | inl later ↦ absurd (one_since es key r s is too later)
+      | inr not_later ↦ elim (cases_lt s r) [
+        | inl earlier ↦ absurd (one_since es key s r too is earlier)
+        | inr not_earlier ↦ omega (arith, not_later, not_earlier)
+      ]
+    ]
+
+pub handle_is_one : (es : List PlainEvent) (key : Key) (a b : ℕ) → IsHandle es key a → IsHandle es key b → a ≡ b
+handle_is_one es key a b is too =
+    let same = since_is_one es key is.since too.since is.stands too.stands in
+    let here : slice_get es too.since ≡ Some (Answered is.since a is.request is.reply) = subst (λ k. slice_get es k ≡ Some (Answered is.since a is.request is.reply)) same is.answer in
+    let there = too.answer in
+    let events : Some (Answered is.since a is.request is.reply) ≡ Some (Answered too.since b too.request too.reply) = sym here ∙ there in
+    cc
+
+used_is_one : (es : List PlainEvent) (k : Option Key) (x y : Option ℕ) → IsHandleUsed es k x → IsHandleUsed es k y → x ≡ y
+used_is_one es None x y is too = is ∙ sym too
+used_is_one es (Some key) x y is too =
+    is.1 ∙ ap (λ n. Some n) (handle_is_one es key is.0 too.0 is.2 too.2) ∙ sym too.1
+
+mark_is_one : (Such : Key → Type 0) (k : Option Key) (m n : Bool) → IsMark Such k m → IsMark Such k n → m ≡ n
+mark_is_one Such None m n is too = is ∙ sym too
+mark_is_one Such (Some key) m n is too = same_mark m n (Such key) is too
+
+-- ---- answers
+
+-- an event that is an answer answers
+answers_at : (c : List Message) (es : List PlainEvent) → AreEvents c es → (q at p : ℕ) (r : PlainRequest) (reply : PlainReply) → slice_get es q ≡ Some (Answered at p r reply) → AnswersAt c q p r
+answers_at c es are q at p r reply there =
+    let message = element_at c q (let within = slice_get_within es q (Answered at p r reply) there in omega (arith, within, are.counted)) in
+    let event = are.each q message.0 (Answered at p r reply) message.1 there in
+    (message.0, message.1, event.1)
+
+same_answer : (a b : PlainAnswer) → a.at ≡ b.at → a.reply ≡ b.reply → a.given ≡ b.given → a.opens ≡ b.opens → a ≡ b
+same_answer a b ats replies givens opens =
+    let made : ℕ → PlainReply → List NodeName → Bool → PlainAnswer = λ n r g o. record { at = n; reply = r; given = g; opens = o } in
+    let whole : made a.at a.reply a.given a.opens ≡ made b.at b.reply b.given b.opens = rw (ats, replies, givens, opens) refl in
+    whole
+
+answer_is_one : (c : List Message) (es : List PlainEvent) → AreEvents c es → (a b : PlainCall) → a.asked ≡ b.asked → a.request ≡ b.request
+    → (x y : PlainAnswer) → IsAnswerOf es a x → IsAnswerOf es b y → x ≡ y
+answer_is_one c es are a b asked requests x y is too =
+    let first = answers_at c es are x.at x.at a.asked a.request x.reply is.there in
+    let second = answers_at c es are y.at y.at b.asked b.request y.reply too.there in
+    let moved : AnswersAt c y.at a.asked b.request = subst (λ p. AnswersAt c y.at p b.request) (sym asked) second in
+    let ats : x.at ≡ y.at = answered_once c x.at y.at a.asked a.request b.request first moved in
+    let here : slice_get es y.at ≡ Some (Answered x.at a.asked a.request x.reply) = subst (λ k. slice_get es k ≡ Some (Answered x.at a.asked a.request x.reply)) ats is.there in
+    let events : Some (Answered x.at a.asked a.request x.reply) ≡ Some (Answered y.at b.asked b.request y.reply) = sym here ∙ too.there in
+    let replies : x.reply ≡ y.reply = cc in
+    let one : map (λ n. Some n) x.given ≡ map (λ n. Some n) y.given = sym is.given ∙ (rw (ats, requests, replies) refl) ∙ too.given in
+    same_answer x y ats replies (same_somes x.given y.given one) (same_mark x.opens y.opens (OpensAnew es y.at) (subst (λ k. IsTrue x.opens ↔ OpensAnew es k) ats is.opens) too.opens)
+
+answers_are_one : (c : List Message) (es : List PlainEvent) → AreEvents c es → (a b : PlainCall) → a.asked ≡ b.asked → a.request ≡ b.request
+    → (x y : Option PlainAnswer) → HasAnswer es a x → HasAnswer es b y → x ≡ y
+answers_are_one c es are a b asked requests None None is too = refl
+answers_are_one c es are a b asked requests None (Some y) is too =
+    let there : slice_get es y.at ≡ Some (Answered y.at a.asked a.request y.reply) = rw (asked, requests) too.there in
+    absurd (is y.at y.reply there)
+answers_are_one c es are a b asked requests (Some x) None is too =
+    let there : slice_get es x.at ≡ Some (Answered x.at b.asked b.request x.reply) = rw (← asked, ← requests) is.there in
+    absurd (too x.at x.reply there)
+answers_are_one c es are a b asked requests (Some x) (Some y) is too =
+    ap (λ answer. Some answer) (answer_is_one c es are a b asked requests x y is too)
+
+-- ---- calls
+
+same_fields : (a b : PlainCall) → a.asked ≡ b.asked → a.request ≡ b.request → a.node ≡ b.node → a.other ≡ b.other → a.handle ≡ b.handle → a.direct ≡ b.direct → a.truncates ≡ b.truncates → a.answer ≡ b.answer → a ≡ b
+same_fields a b asked request node other handle direct truncates answer =
+    let made : ℕ → PlainRequest → NodeName → Option NodeName → Option ℕ → Bool → Bool → Option PlainAnswer → PlainCall =
+    λ n r d o h x t w. record { asked = n; request = r; node = d; other = o; handle = h; direct = x; truncates = t; answer = w } in
+    let whole : made a.asked a.request a.node a.other a.handle a.direct a.truncates a.answer ≡ made b.asked b.request b.node b.other b.handle b.direct b.truncates b.answer =
+    rw (asked, request, node, other, handle, direct, truncates, answer) refl in
+    whole
+
+-- the call of a request is one
+pub call_is_one : (c : List Message) (es : List PlainEvent) → AreEvents c es → (a b : PlainCall) → IsCall es a → IsCall es b → a.asked ≡ b.asked → a ≡ b
+call_is_one c es are a b is too asked =
+    let here : slice_get es b.asked ≡ Some (Asked a.asked a.request) = subst (λ k. slice_get es k ≡ Some (Asked a.asked a.request)) asked is.there in
+    let events : Some (Asked a.asked a.request) ≡ Some (Asked b.asked b.request) = sym here ∙ too.there in
+    let requests : a.request ≡ b.request = cc in
+    let before = take b.asked es in
+    let mine : IsAskedCall (take b.asked es) a = subst (λ k. IsAskedCall (take k es) a) asked is.asked in
+    let yours = too.asked in
+    let nodes : a.node ≡ b.node = same_Some a.node b.node (sym mine.node ∙ (rw requests refl) ∙ yours.node) in
+    let others : a.other ≡ b.other = same_some a.other b.other (sym mine.other ∙ (rw requests refl) ∙ yours.other) in
+    let handles : a.handle ≡ b.handle = used_is_one before (key_used before b.request) a.handle b.handle (subst (λ r. IsHandleUsed before (key_used before r) a.handle) requests mine.handle) yours.handle in
+    let directs : a.direct ≡ b.direct = mark_is_one (IsDirect before) (key_used before b.request) a.direct b.direct (subst (λ r. IsMark (IsDirect before) (key_used before r) a.direct) requests mine.direct) yours.direct in
+    let truncations : a.truncates ≡ b.truncates = same_mark a.truncates b.truncates (Truncates before b.request.body) (subst (λ r. IsTrue a.truncates ↔ Truncates before r.body) requests mine.truncates) yours.truncates in
+    same_fields a b asked requests nodes others handles directs truncations (answers_are_one c es are a b asked requests a.answer b.answer is.answered too.answered)
+
+-- the numbers of calls
+abbrev numbers : List PlainCall → List ℕ
+numbers calls = map (λ call. call.asked) calls
+
+-- the call that has a number
+call_with : (calls : List PlainCall) (z : ℕ) → Contains (numbers calls) z → (k : ℕ) × (call : PlainCall) × (slice_get calls k ≡ Some call) × (call.asked ≡ z)
+call_with calls z has =
+    let below : has.0 < length calls = omega (arith, has.1, length-map calls (λ call. call.asked)) in
+    let call = element_at calls has.0 below in
+    let there : slice_get (numbers calls) has.0 ≡ Some call.0.asked = slice_get-map (λ x. x.asked) calls has.0 ∙ ap (option_map (λ x. x.asked)) call.1 in
+    let got : slice_get (numbers calls) has.0 ≡ Some (get_or (numbers calls) has.0 z) = slice_get-get_or (numbers calls) has.0 z has.1 in
+    let same : call.0.asked ≡ z = same_Some call.0.asked z (sym there ∙ got ∙ ap (λ n. Some n) has.2) in
+    (has.0, call.0, call.1, same)
+
+-- what stands at a place is a call
+call_at : (es : List PlainEvent) (calls : List PlainCall) → All (IsCall es) calls → (k : ℕ) (call : PlainCall) → slice_get calls k ≡ Some call → IsCall es call
+call_at es calls each k call there =
+    let within = slice_get_within calls k call there in
+    let got : slice_get calls k ≡ Some (get_or calls k call) = slice_get-get_or calls k call within in
+    let same : get_or calls k call ≡ call = same_Some (get_or calls k call) call (sym got ∙ there) in
+    subst (IsCall es) same (each k call within)
+
+-- the numbers of one list of calls are those of the other
+numbers_kept : (es : List PlainEvent) (calls others : List PlainCall) → AreCallsOf es calls → AreCallsOf es others → (z : ℕ) → Contains (numbers calls) z → Contains (numbers others) z
+numbers_kept es calls others are too z has =
+    let found = call_with calls z has in
+    let call = call_at es calls are.each found.0 found.1 found.2 in
+    let there : slice_get es z ≡ Some (Asked z found.1.request) = subst (λ n. slice_get es n ≡ Some (Asked n found.1.request)) found.3 call.there in
+    too.complete z found.1.request there call.asked.tree
+
+pub calls_of_are_one : (c : List Message) (es : List PlainEvent) → AreEvents c es → (calls others : List PlainCall) → AreCallsOf es calls → AreCallsOf es others → calls ≡ others
+calls_of_are_one c es are calls others is too =
+    let same : numbers calls ≡ numbers others = rising_is_one (numbers calls) (numbers others) is.rising too.rising (numbers_kept es calls others is too) (numbers_kept es others calls too is) in
+    let long : length calls ≡ length others = sym (length-map calls (λ x. x.asked)) ∙ ap length same ∙ length-map others (λ x. x.asked) in
+    same_places calls others long (λ k a b here there.
+    let first : slice_get (numbers calls) k ≡ Some a.asked = slice_get-map (λ x. x.asked) calls k ∙ ap (option_map (λ x. x.asked)) here in
+    let second : slice_get (numbers others) k ≡ Some b.asked = slice_get-map (λ x. x.asked) others k ∙ ap (option_map (λ x. x.asked)) there in
+    let asked : a.asked ≡ b.asked = same_Some a.asked b.asked (sym first ∙ ap (λ ns. slice_get ns k) same ∙ second) in
+    call_is_one c es are a b (call_at es calls is.each k a here) (call_at es others too.each k b there) asked)
+
+pub calls_are_one : CallsAreOne
+calls_are_one c calls others is too =
+    let same : is.events ≡ too.events = events_are_one c is.events too.events is.are too.are in
+    calls_of_are_one c too.events too.are calls others (subst (λ es. AreCallsOf es calls) same is.exact) too.exact

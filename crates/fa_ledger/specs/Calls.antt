@@ -1,0 +1,137 @@
+-- The calls of messages: each tree request with what it names, and its answer.
+use Rattle.std.specs.Prelude.{◌≡◌, ◌↔◌, ℕ, ◌+◌, Bool, false, List, slice_get, take, map, All, Contains, Option, None, Some, IsTrue, option_map}
+use Rattle.std.specs.List.Sorted.{IsStrictlyIncreasing}
+use Rattle.fa_bodies.specs.declared.handles.OpenOut.{OpenOut}
+use Rattle.fa_bodies.specs.declared.init.InitIn.{InitIn}
+use Rattle.fa_bodies.specs.declared.init.Negotiated.{Negotiated}
+use Rattle.fa_bodies.specs.FlagBits.{atomic_o_trunc, o_trunc}
+use Rattle.fa_bodies.specs.Flags.{HasFlag, init_bits, open_bits}
+use Rattle.fa_bodies.specs.Requests.{PlainRequest, PlainBody}
+use Rattle.fa_bodies.specs.Requests.PlainBody.{Lookup, Forget, Getattr, Setattr, Readlink, Symlink, Mknod, Mkdir, Unlink, Rmdir, Rename, Link, Open, Read, Write, Release, Flush, Init, Opendir, Readdir, Releasedir, Create, BatchForget, Readdirplus, Passed}
+use Rattle.fa_bodies.specs.Replies.{PlainReply}
+use Rattle.fa_bodies.specs.Replies.PlainReply.{InitAnswer}
+use Rattle.fa_capture.specs.Message.{Message}
+use Rattle.fa_session.specs.Events.{PlainEvent}
+use Rattle.fa_session.specs.Events.PlainEvent.{Asked, Answered}
+use Rattle.fa_ledger.specs.declared.key.Key.{Key}
+use Rattle.fa_ledger.specs.declared.name.NodeName.{NodeName}
+use Rattle.fa_ledger.specs.Events.{AreEvents}
+use Rattle.fa_ledger.specs.Counts.{nodes_given}
+use Rattle.fa_ledger.specs.Kinds.{IsTreeRequest}
+use Rattle.fa_ledger.specs.Names.{name_at, nodes_named}
+use Rattle.fa_ledger.specs.Keys.{key_used}
+use Rattle.fa_ledger.specs.Handles.{times_opened, times_closed, OpensAt, IsHandle, IsDirect}
+
+-- The answer of a tree request: the number of its message, what it says, the names of the nodes that it gives, and whether
+-- it opens a file handle anew.
+pub record PlainAnswer : Type 0 where
+  pub at : ℕ
+  pub reply : PlainReply
+  pub given : List NodeName
+  pub opens : Bool
+
+-- A tree request as it was sent: the number of its message, what it asks for, the names of the nodes that it names (the
+-- second is the new directory of RENAME and the file of LINK), the name of the file handle that it uses, if any, and
+-- whether that one is direct; whether its success empties a file that is there. And its answer, if it has one.
+pub record PlainCall : Type 0 where
+  pub asked : ℕ
+  pub request : PlainRequest
+  pub node : NodeName
+  pub other : Option NodeName
+  pub handle : Option ℕ
+  pub direct : Bool
+  pub truncates : Bool
+  pub answer : Option PlainAnswer
+
+-- both sides set this flag at INIT (`flags` of struct fuse_init_in and struct fuse_init_out of fuse.h)
+abbrev pub IsNegotiatedFlag : List PlainEvent → ℕ → Type 0
+IsNegotiatedFlag es flag =
+    (at asked : ℕ) × (r : PlainRequest) × (i : InitIn) × (answer : Negotiated)
+    × (slice_get es at ≡ Some (Answered at asked r (InitAnswer answer))) × (r.body ≡ Init i)
+    × HasFlag (init_bits i.flags) flag × HasFlag (init_bits answer.flags) flag
+
+-- Success empties a file that is there: CREATE with O_TRUNC (POSIX open), and OPEN with O_TRUNC where FUSE_ATOMIC_O_TRUNC
+-- (fuse.h) was negotiated before.
+abbrev pub Truncates : List PlainEvent → PlainBody → Type 0
+Truncates es (Lookup name) = ⊥
+Truncates es (Forget nlookup) = ⊥
+Truncates es (Getattr g) = ⊥
+Truncates es (Setattr s) = ⊥
+Truncates es Readlink = ⊥
+Truncates es (Symlink name target) = ⊥
+Truncates es (Mknod mode rdev umask name) = ⊥
+Truncates es (Mkdir mode umask name) = ⊥
+Truncates es (Unlink name) = ⊥
+Truncates es (Rmdir name) = ⊥
+Truncates es (Rename newdir old_name new_name) = ⊥
+Truncates es (Link oldnodeid new_name) = ⊥
+Truncates es (Open o) = HasFlag (open_bits o.flags) o_trunc × IsNegotiatedFlag es atomic_o_trunc
+Truncates es (Read r) = ⊥
+Truncates es (Write fh offset size write_flags lock_owner flags payload) = ⊥
+Truncates es (Release r) = ⊥
+Truncates es (Flush f) = ⊥
+Truncates es (Init i) = ⊥
+Truncates es (Opendir o) = ⊥
+Truncates es (Readdir r) = ⊥
+Truncates es (Releasedir r) = ⊥
+Truncates es (Create flags mode umask name) = HasFlag (open_bits flags) o_trunc
+Truncates es (BatchForget count items) = ⊥
+Truncates es (Readdirplus r) = ⊥
+Truncates es Passed = ⊥
+
+-- the file handle that a request uses after these events: its name, or none
+abbrev pub IsHandleUsed : List PlainEvent → Option Key → Option ℕ → Type 0
+IsHandleUsed es None handle = handle ≡ None
+IsHandleUsed es (Some key) handle = (name : ℕ) × (handle ≡ Some name) × IsHandle es key name
+
+-- the mark of a handle that is used stands exactly where this holds of its key
+abbrev pub IsMark : (Key → Type 0) → Option Key → Bool → Type 0
+IsMark Such None mark = mark ≡ false
+IsMark Such (Some key) mark = IsTrue mark ↔ Such key
+
+-- what a call says of its request, after the events before it
+pub record IsAskedCall (before : List PlainEvent) (call : PlainCall) : Type 0 where
+  pub tree : IsTreeRequest call.request.body
+  pub node : name_at before call.request.node ≡ Some call.node
+  pub other : option_map (λ node. name_at before node) (slice_get (nodes_named call.request) 1) ≡ option_map (λ name. Some name) call.other
+  pub handle : IsHandleUsed before (key_used before call.request) call.handle
+  pub direct : IsMark (IsDirect before) (key_used before call.request) call.direct
+  pub truncates : IsTrue call.truncates ↔ Truncates before call.request.body
+
+-- the answer opens a handle anew: its key stood at zero before
+abbrev pub OpensAnew : List PlainEvent → ℕ → Type 0
+OpensAnew es q = (key : Key) × (out : OpenOut) × OpensAt es q key out × (times_opened (take q es) key ≡ times_closed (take q es) key)
+
+-- what a call says of the answer to its request
+pub record IsAnswerOf (es : List PlainEvent) (call : PlainCall) (answer : PlainAnswer) : Type 0 where
+  pub there : slice_get es answer.at ≡ Some (Answered answer.at call.asked call.request answer.reply)
+  pub given : map (λ node. name_at (take (answer.at + 1) es) node) (nodes_given call.request.body answer.reply) ≡ map (λ name. Some name) answer.given
+  pub opens : IsTrue answer.opens ↔ OpensAnew es answer.at
+
+-- the request is not answered
+abbrev pub HasNoAnswer : List PlainEvent → PlainCall → Type 0
+HasNoAnswer es call = (q : ℕ) (reply : PlainReply) → slice_get es q ≡ Some (Answered q call.asked call.request reply) → ⊥
+
+-- this is the answer of the call, or it has none
+abbrev pub HasAnswer : List PlainEvent → PlainCall → Option PlainAnswer → Type 0
+HasAnswer es call None = HasNoAnswer es call
+HasAnswer es call (Some answer) = IsAnswerOf es call answer
+
+-- this is the call of its request
+pub record IsCall (es : List PlainEvent) (call : PlainCall) : Type 0 where
+  pub there : slice_get es call.asked ≡ Some (Asked call.asked call.request)
+  pub asked : IsAskedCall (take call.asked es) call
+  pub answered : HasAnswer es call call.answer
+
+-- The calls of events: each tree request once, by rising numbers.
+pub record AreCallsOf (es : List PlainEvent) (calls : List PlainCall) : Type 0 where
+  pub rising : IsStrictlyIncreasing (map (λ call. call.asked) calls)
+  pub each : All (IsCall es) calls
+  pub complete : (p : ℕ) (r : PlainRequest) → slice_get es p ≡ Some (Asked p r) → IsTreeRequest r.body
+      → Contains (map (λ call. call.asked) calls) p
+
+-- The calls of messages that the session allows.
+pub record AreCalls (c : List Message) (calls : List PlainCall) : Type 0 where
+  pub events : List PlainEvent
+  pub are : AreEvents c events
+  pub exact : AreCallsOf events calls

@@ -1,0 +1,19 @@
+-- What the crate's contracts speak of, in the order in which it reads best.
+
+-- the events of messages, and sums over them
+pub mod Events
+pub mod Sums
+-- lookup counts, and the names of nodes
+pub mod Counts
+pub mod Names
+-- keys of file handles, and which of them are open
+pub mod Keys
+pub mod Handles
+-- which messages pass, good captures and first faults
+pub mod Passing
+-- the calls of messages, and what an order may say of them
+pub mod Kinds
+pub mod Calls
+pub mod Choices
+-- what follows from the definitions alone
+pub mod Laws

@@ -1,0 +1,20 @@
+//! Keys of file handles.
+
+use crate::name::NodeName;
+
+/// What a file handle is open on.
+#[derive(Clone, Copy, Debug, PartialEq, Eq, Hash)]
+pub enum HandleKind {
+    /// A file, by OPEN or CREATE.
+    File,
+    /// A directory, by OPENDIR.
+    Directory,
+}
+
+/// What an open file handle is known by: servers may give one number to handles of several nodes.
+#[derive(Clone, Copy, Debug, PartialEq, Eq, Hash)]
+pub struct Key {
+    pub node: NodeName,
+    pub fh: u64,
+    pub kind: HandleKind,
+}
