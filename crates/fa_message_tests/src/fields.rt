@@ -114,51 +114,26 @@ fn of_request(body: &RequestBody<'_>) -> (u32, Numbers) {
 
 /// The same of the bodies with several fields of their own.
 fn of_longer_request(body: &RequestBody<'_>) -> (u32, Numbers) {
-    match *body {
+    match body {
         RequestBody::Mknod {
             mode,
             rdev,
             umask,
             ..
         } => {
-            (
-                8,
-                numbers(&[u64::from(mode.bits()), u64::from(rdev), u64::from(umask)]),
-            )
+            let mode = u64::from(mode.bits());
+            (8, numbers(&[mode, u64::from(*rdev), u64::from(*umask)]))
         }
-        RequestBody::Mkdir { mode, umask, .. } => (
-            9,
-            numbers(&[u64::from(mode.bits()), u64::from(umask)]),
-        ),
-        RequestBody::Write {
-            fh,
-            offset,
-            size,
-            write_flags,
-            lock_owner,
-            flags,
-            ..
-        } => {
-            let flags = u64::from(flags.bits());
-            let listed = [
-                fh,
-                offset,
-                u64::from(size),
-                u64::from(write_flags),
-                lock_owner,
-                flags,
-            ];
-            (16, numbers(&listed))
+        RequestBody::Mkdir { mode, umask, .. } => {
+            (9, numbers(&[u64::from(mode.bits()), u64::from(*umask)]))
         }
         RequestBody::Init(i) => {
             let flags = u64::from(i.flags.bits());
-            let listed = [
-                u64::from(i.major),
-                u64::from(i.minor),
-                u64::from(i.max_readahead),
-                flags,
-            ];
-            (26, numbers(&listed))
+            let version = [u64::from(i.major), u64::from(i.minor)];
+            (
+                26,
+                numbers(&[version[0], version[1], u64::from(i.max_readahead), flags]),
+            )
         }
         RequestBody::Create {
             flags,
@@ -169,11 +144,37 @@ fn of_longer_request(body: &RequestBody<'_>) -> (u32, Numbers) {
             let flags = u64::from(flags.bits());
             (
                 35,
-                numbers(&[flags, u64::from(mode.bits()), u64::from(umask)]),
+                numbers(&[flags, u64::from(mode.bits()), u64::from(*umask)]),
             )
         }
-        _ => (0, numbers(&[])),
+        _ => of_write(body),
     }
+}
+
+/// The same of WRITE.
+fn of_write(body: &RequestBody<'_>) -> (u32, Numbers) {
+    let RequestBody::Write {
+        fh,
+        offset,
+        size,
+        write_flags,
+        lock_owner,
+        flags,
+        ..
+    } = *body
+    else {
+        return (0, numbers(&[]));
+    };
+    let flags = u64::from(flags.bits());
+    let listed = [
+        fh,
+        offset,
+        u64::from(size),
+        u64::from(write_flags),
+        lock_owner,
+        flags,
+    ];
+    (16, numbers(&listed))
 }
 
 /// The names, the target, the payload or the items of a body, one behind the other.

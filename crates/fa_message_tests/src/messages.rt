@@ -77,12 +77,12 @@ fn asking(alloc: Global, opcode: u32, size: u32) -> Result<Vec<u8>, AllocError> 
             &[Field::Zeros(16), Field::U32(size), Field::Zeros(zeros)],
         );
     }
-    match BODIES.iter().find(|row| row.0 == opcode) {
-        Some((_, zeros, names)) => {
-            sample::spelled(alloc, &[Field::Zeros(*zeros), Field::Bytes(names)])
+    for (of, zeros, names) in BODIES {
+        if of == opcode {
+            return sample::spelled(alloc, &[Field::Zeros(zeros), Field::Bytes(names)]);
         }
-        None => Ok(Vec::new(alloc)),
     }
+    Ok(Vec::new(alloc))
 }
 
 /// What a message from the server says to a request, its head included.

@@ -180,20 +180,33 @@ const NAMES: [(&[u8], u16); 14] = [
     (b"\0a", 13),
 ];
 
-/// The rule for names holds wherever a request has one, and a body that ends sooner is refused.
+/// The rule for names holds wherever a request has one.
 #[test]
 fn names_in_requests(rt: HostRuntime) {
     for (opcode, zeros, before, behind) in PLACES {
         for (name, code) in NAMES {
             let fields = [Zeros(zeros), Bytes(before), Name(name), Bytes(behind)];
             let found = code_of(rt.alloc(), opcode, &fields);
-            assert_eq!(rt;
-                found,
-                Some(code),
-                "{opcode} with a name of {} bytes",
-                name.len()
-            );
+            let len = name.len();
+            assert_eq!(rt; found, Some(code), "{opcode} with a name of {len} bytes");
         }
+    }
+}
+
+/// A body that ends sooner is refused.
+#[test]
+fn bodies_that_are_cut(rt: HostRuntime) {
+    for (opcode, zeros, before, behind) in PLACES {
+        for len in 0..=zeros {
+            let fields = [Zeros(len)];
+            assert_eq!(rt; code_of(rt.alloc(), opcode, &fields), Some(13), "{opcode}");
+        }
+        for len in 0..before.len() {
+            let fields = [Zeros(zeros), Bytes(&before[..len])];
+            assert_eq!(rt; code_of(rt.alloc(), opcode, &fields), Some(13), "{opcode}");
+        }
+        let fields = [Zeros(zeros), Bytes(before), Bytes(b"a")];
+        assert_eq!(rt; code_of(rt.alloc(), opcode, &fields), Some(13), "{opcode}");
         for len in 0..behind.len() {
             let fields = [
                 Zeros(zeros),
@@ -201,33 +214,8 @@ fn names_in_requests(rt: HostRuntime) {
                 Name(b"a"),
                 Bytes(&behind[..len]),
             ];
-            assert_eq!(rt;
-                code_of(rt.alloc(), opcode, &fields),
-                Some(13),
-                "{opcode} cut"
-            );
+            assert_eq!(rt; code_of(rt.alloc(), opcode, &fields), Some(13), "{opcode}");
         }
-        for len in 0..before.len() {
-            let fields = [Zeros(zeros), Bytes(&before[..len])];
-            assert_eq!(rt;
-                code_of(rt.alloc(), opcode, &fields),
-                Some(13),
-                "{opcode} cut"
-            );
-        }
-        for len in 0..=zeros {
-            assert_eq!(rt;
-                code_of(rt.alloc(), opcode, &[Zeros(len)]),
-                Some(13),
-                "{opcode} cut"
-            );
-        }
-        let fields = [Zeros(zeros), Bytes(before), Bytes(b"a")];
-        assert_eq!(rt;
-            code_of(rt.alloc(), opcode, &fields),
-            Some(13),
-            "{opcode} unended"
-        );
     }
 }
 
