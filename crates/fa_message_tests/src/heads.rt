@@ -1,7 +1,7 @@
 //! The headers of messages.
 
-use crate::messages::{from_server, head_code, request_code};
-use fa_bodies::{reply_head, sample};
+use crate::messages::{from_server, head_code, request_code, to_server};
+use fa_bodies::{reply_head, request, sample};
 use std::alloc::Global;
 
 /// An INIT. The bytes of each field behind the opcode are its own, and the high bits of `unique`, `nodeid`,
@@ -113,7 +113,7 @@ fn head_with(alloc: Global, unique: u64, error: i32, len: usize) -> Option<(u64,
 }
 
 /// The head of a reply has an error from -999 to 0, and that of a notification one of five codes. The body is not looked
-/// at.
+/// at. Each field of a header stands at its place.
 #[test]
 fn errors_and_notifications(rt: HostRuntime) {
     for (unique, error, code) in HEADS {
@@ -127,6 +127,8 @@ fn errors_and_notifications(rt: HostRuntime) {
             assert!(rt; head == Some(expected), "{error} of {unique}");
         }
     }
+    let asked = request(&to_server(&INIT_REQUEST)).expect(&rt, "INIT");
+    assert!(rt; (asked.unique, asked.node) == (0xf807_0605_0403_0201, 0xf00f_0e0d_0c0b_0a09));
     assert!(rt; head_of(&REFUSAL) == (0xd857_5655_5453_5251, -742, 0));
     assert!(rt; head_of(&INIT_ANSWER) == (0xf807_0605_0403_0201, 0, 0));
 }
