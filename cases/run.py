@@ -56,19 +56,28 @@ def unpacked(word, room):
     return opened.name.encode()
 
 
+def run(program, words, output):
+    """Runs the program in this folder. What it writes goes to the file `output`, where one is named."""
+    how = {"cwd": HERE, "stdin": subprocess.DEVNULL, "stderr": subprocess.PIPE, "timeout": SECONDS}
+    if output is None:
+        return subprocess.run([program, *words], stdout=subprocess.PIPE, **how)
+    with open(output, "wb") as opened:
+        return subprocess.run([program, *words], stdout=opened, **how)
+
+
 def differences(program, words, name, files):
     """What is not as the case expects it, a line each."""
     expected, _, status = read(f"{name}.expect").rpartition(b"status ")
+    output = read(f"{name}.output").strip() if f"{name}.output" in files else None
     try:
         with tempfile.TemporaryDirectory() as room:
-            words = [unpacked(word, room) for word in words]
-            how = {"cwd": HERE, "stdin": subprocess.DEVNULL, "capture_output": True, "timeout": SECONDS}
-            ran = subprocess.run([program, *words], **how)
+            ran = run(program, [unpacked(word, room) for word in words], output)
     except (OSError, subprocess.TimeoutExpired) as error:
         return [str(error)]
     found = []
-    if ran.stdout != expected:
-        found.append(f"standard output: expected {expected!r}, found {ran.stdout[:400]!r}")
+    written = ran.stdout or b""
+    if written != expected:
+        found.append(f"standard output: expected {expected!r}, found {written[:400]!r}")
     if ran.returncode != int(status):
         found.append(f"status: expected {int(status)}, found {ran.returncode}")
     if f"{name}.stderr" in files and ran.stderr != read(f"{name}.stderr"):
@@ -87,7 +96,7 @@ def main():
     used, passed, failed = set(OWN_FILES), 0, 0
     for name in names:
         words, its_files = call_of(files, name)
-        used |= {*its_files, f"{name}.expect", f"{name}.stderr"}
+        used |= {*its_files, f"{name}.expect", f"{name}.stderr", f"{name}.output"}
         if given.only not in name:
             continue
         found = differences(program, words, name, files)

@@ -12,9 +12,6 @@ use fa_bodies::errno::{EEXIST, EISDIR, ENOTDIR, ENOTEMPTY};
 use fa_capture::codes;
 use std::alloc::{AllocError, Global};
 
-#[cfg(test)]
-mod tests;
-
 /// The first entry of an order that is at fault.
 #[derive(Clone, Copy, Debug, PartialEq, Eq)]
 pub struct EntryFault {

@@ -14,9 +14,6 @@ use fa_capture::{Broken, Input, Output, ReadError, read_all};
 use std::alloc::{AllocError, AllocFailed, Global};
 use thiserror::Error;
 
-#[cfg(test)]
-mod tests;
-
 /// How many bytes an input may have.
 pub const MAX_INPUT_BYTES: usize = 268_435_456;
 
