@@ -65,7 +65,7 @@ since_stays es node g since =
 
 -- ---- names
 
-not_root : (node : ℕ) → node ≢ ROOT_ID → (node == ROOT_ID) ≡ false
+pub not_root : (node : ℕ) → node ≢ ROOT_ID → (node == ROOT_ID) ≡ false
 not_root node other = false_or_true (node == ROOT_ID) (λ is. other (grind (arith, nat_tests, is)))
 
 named : (node : ℕ) (t : Option ℕ) (g : ℕ) → option_map (λ h. Given node h) t ≡ Some (Given node g) → t ≡ Some g
