@@ -1,18 +1,22 @@
 -- The calls of messages: each tree request with what it names, and its answer.
-use Rattle.std.specs.Prelude.{◌≡◌, ◌↔◌, ℕ, ◌+◌, Bool, false, List, slice_get, take, map, All, Contains, Option, None, Some, IsTrue, option_map}
+use Rattle.std.specs.Prelude.{◌≡◌, ◌↔◌, ℕ, ◌+◌, Bool, false, List, [], ◌∷◌, slice_get, take, map, All, Contains, Option, None, Some, IsTrue, option_map}
 use Rattle.std.specs.List.Sorted.{IsStrictlyIncreasing}
 use Rattle.fa_bodies.specs.declared.handles.OpenOut.{OpenOut}
 use Rattle.fa_bodies.specs.declared.init.InitIn.{InitIn}
 use Rattle.fa_bodies.specs.declared.init.Negotiated.{Negotiated}
 use Rattle.fa_bodies.specs.FlagBits.{atomic_o_trunc, o_trunc}
 use Rattle.fa_bodies.specs.Flags.{HasFlag, init_bits, open_bits}
-use Rattle.fa_bodies.specs.Requests.{PlainRequest, PlainBody}
+use Rattle.fa_bodies.specs.Requests.{PlainRequest, PlainBody, request_shown}
 use Rattle.fa_bodies.specs.Requests.PlainBody.{Lookup, Forget, Getattr, Setattr, Readlink, Symlink, Mknod, Mkdir, Unlink, Rmdir, Rename, Link, Open, Read, Write, Release, Flush, Init, Opendir, Readdir, Releasedir, Create, BatchForget, Readdirplus, Passed}
-use Rattle.fa_bodies.specs.Replies.{PlainReply}
+use Rattle.fa_bodies.specs.Replies.{PlainReply, reply_shown}
 use Rattle.fa_bodies.specs.Replies.PlainReply.{InitAnswer}
 use Rattle.fa_capture.specs.Message.{Message}
 use Rattle.fa_session.specs.Events.{PlainEvent}
 use Rattle.fa_session.specs.Events.PlainEvent.{Asked, Answered}
+use Rattle.fa_ledger.specs.declared.call.Answer.{Answer}
+use Rattle.fa_ledger.specs.declared.call.Call.{Call}
+use Rattle.fa_ledger.specs.declared.call.Given.{Given}
+use Rattle.fa_ledger.specs.declared.call.Given.TheVariants.{Nothing, One, Several}
 use Rattle.fa_ledger.specs.declared.key.Key.{Key}
 use Rattle.fa_ledger.specs.declared.name.NodeName.{NodeName}
 use Rattle.fa_ledger.specs.Events.{AreEvents}
@@ -135,3 +139,28 @@ pub record AreCalls (c : List Message) (calls : List PlainCall) : Type 0 where
   pub events : List PlainEvent
   pub are : AreEvents c events
   pub exact : AreCallsOf events calls
+
+-- ---- what the code's words show
+
+-- the names in what an answer gives
+abbrev pub given_shown : Given → List NodeName
+given_shown Nothing = []
+given_shown (One name) = name ∷ []
+given_shown (Several names) = names.items
+
+-- what an answer shows
+abbrev pub answer_shown : Answer → PlainAnswer
+answer_shown a = record { at = a.at; reply = reply_shown a.reply; given = given_shown a.given; opens = a.opens }
+
+-- what a call shows
+abbrev pub call_shown : Call → PlainCall
+call_shown c = record {
+  asked = c.asked;
+  request = request_shown c.request;
+  node = c.node;
+  other = c.other;
+  handle = c.handle;
+  direct = c.direct;
+  truncates = c.truncates;
+  answer = option_map answer_shown c.answer;
+}

@@ -2,8 +2,11 @@
 //! open, and the tree requests with their answers.
 #![tactic(auto)]
 
+mod call;
 mod key;
 pub mod laws;
 mod name;
+mod placing;
 
+pub use call::{Answer, Call, Given};
 pub use name::NodeName;

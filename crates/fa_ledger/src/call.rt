@@ -1,0 +1,70 @@
+//! Calls: the requests that act on the tree, each with what it names and with its answer.
+
+ghost use Rattle.std.specs.Prelude.{◌↔◌, IsTrue};
+ghost use Rattle.fa_ledger.specs.Calls.{call_shown};
+ghost use Rattle.fa_ledger.specs.Choices.{Allows};
+
+use crate::name::NodeName;
+use crate::placing::may_be_placed;
+use fa_bodies::{Reply, Request};
+
+/// The names of the nodes that an answer gives, in its order.
+#[derive(Debug, Drop)]
+pub enum Given {
+    /// It gives none.
+    Nothing,
+    /// One: LOOKUP, SYMLINK, MKNOD, MKDIR, LINK, CREATE.
+    One(NodeName),
+    /// Those of the entries of a READDIRPLUS.
+    Several(Vec<NodeName>),
+}
+
+/// The answer to a tree request.
+#[derive(Debug, Drop)]
+pub struct Answer<'a> {
+    /// The number of its message.
+    pub at: u32,
+    /// What the server says.
+    pub reply: Reply<'a>,
+    /// The nodes that it gives.
+    pub given: Given,
+    /// Whether it opens a file handle that was not open.
+    pub opens: bool,
+}
+
+/// A tree request, with its answer where it has one.
+#[derive(Debug, Drop)]
+pub struct Call<'a> {
+    /// The number of the request's message.
+    pub asked: u32,
+    /// What it asks for.
+    pub request: Request<'a>,
+    /// The node of its header, by name.
+    pub node: NodeName,
+    /// The new directory of a RENAME, and the file of a LINK.
+    pub other: Option<NodeName>,
+    /// The file handle that it uses: the number of the request whose answer opened it.
+    pub handle: Option<u32>,
+    /// Whether that handle is open for direct input and output (`FOPEN_DIRECT_IO` of `fuse.h`).
+    pub direct: bool,
+    /// Whether its success empties a file that is there (`O_TRUNC` of POSIX `open`).
+    pub truncates: bool,
+    /// Its answer.
+    pub answer: Option<Answer<'a>>,
+}
+
+impl Call<'_> {
+    /// Whether an order may name the request with this count of bytes written, or without one: an answered request
+    /// without one; one that was not answered and changes the tree without one as well, but for a WRITE, which has a
+    /// count of at most its size; one that only reads, and was not answered, not at all (this profile).
+    ///
+    /// Takes no memory, in constant time.
+    pub fn allows(&self, wrote: Option<u32>) -> bool
+        ensures { IsTrue result ↔ Allows (call_shown self.now) wrote }
+    {
+        match &self.answer {
+            Some(_) => wrote.is_none(),
+            None => may_be_placed(&self.request.body, wrote),
+        }
+    }
+}
