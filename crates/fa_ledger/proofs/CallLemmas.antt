@@ -84,7 +84,7 @@ mark_is_one Such (Some key) m n is too = same_mark m n (Such key) is too
 -- ---- answers
 
 -- an event that is an answer answers
-answers_at : (c : List Message) (es : List PlainEvent) → AreEvents c es → (q at p : ℕ) (r : PlainRequest) (reply : PlainReply) → slice_get es q ≡ Some (Answered at p r reply) → AnswersAt c q p r
+pub answers_at : (c : List Message) (es : List PlainEvent) → AreEvents c es → (q at p : ℕ) (r : PlainRequest) (reply : PlainReply) → slice_get es q ≡ Some (Answered at p r reply) → AnswersAt c q p r
 answers_at c es are q at p r reply there =
     let message = element_at c q (let within = slice_get_within es q (Answered at p r reply) there in omega (arith, within, are.counted)) in
     let event = are.each q message.0 (Answered at p r reply) message.1 there in
@@ -148,11 +148,11 @@ call_is_one c es are a b is too asked =
     same_fields a b asked requests nodes others handles directs truncations (answers_are_one c es are a b asked requests a.answer b.answer is.answered too.answered)
 
 -- the numbers of calls
-abbrev numbers : List PlainCall → List ℕ
+abbrev pub numbers : List PlainCall → List ℕ
 numbers calls = map (λ call. call.asked) calls
 
 -- the call that has a number
-call_with : (calls : List PlainCall) (z : ℕ) → Contains (numbers calls) z → (k : ℕ) × (call : PlainCall) × (slice_get calls k ≡ Some call) × (call.asked ≡ z)
+pub call_with : (calls : List PlainCall) (z : ℕ) → Contains (numbers calls) z → (k : ℕ) × (call : PlainCall) × (slice_get calls k ≡ Some call) × (call.asked ≡ z)
 call_with calls z has =
     let below : has.0 < length calls = omega (arith, has.1, length-map calls (λ call. call.asked)) in
     let call = element_at calls has.0 below in
@@ -162,7 +162,7 @@ call_with calls z has =
     (has.0, call.0, call.1, same)
 
 -- what stands at a place is a call
-call_at : (es : List PlainEvent) (calls : List PlainCall) → All (IsCall es) calls → (k : ℕ) (call : PlainCall) → slice_get calls k ≡ Some call → IsCall es call
+pub call_at : (es : List PlainEvent) (calls : List PlainCall) → All (IsCall es) calls → (k : ℕ) (call : PlainCall) → slice_get calls k ≡ Some call → IsCall es call
 call_at es calls each k call there =
     let within = slice_get_within calls k call there in
     let got : slice_get calls k ≡ Some (get_or calls k call) = slice_get-get_or calls k call within in

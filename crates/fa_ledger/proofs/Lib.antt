@@ -6,3 +6,10 @@ pub mod GoodLemmas
 pub mod EventLemmas
 pub mod RisingLemmas
 pub mod CallLemmas
+pub mod KeyLemmas
+pub mod NodeLemmas
+pub mod CallStepLemmas
+pub mod CallListLemmas
+pub mod TableLemmas
+pub mod GivingLemmas
+pub mod TakingLemmas

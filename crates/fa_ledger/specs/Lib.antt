@@ -15,5 +15,10 @@ pub mod Passing
 pub mod Kinds
 pub mod Calls
 pub mod Choices
+-- what a ledger shows of messages
+pub mod Plain
+pub mod Shows
 -- what follows from the definitions alone
 pub mod Laws
+-- what private contracts alone speak of
+pub mod parts

@@ -3,9 +3,12 @@
 #![tactic(auto)]
 
 mod call;
+mod call_list;
+mod handles;
 mod key;
 pub mod laws;
 mod name;
+mod nodes;
 mod placing;
 
 pub use call::{Answer, Call, Given};

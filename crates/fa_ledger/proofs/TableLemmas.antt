@@ -1,0 +1,73 @@
+-- What a table has after a write, in the words of the steps.
+use Rattle.std.proofs.Common.{◌≡◌, ℕ, Bool, true, false, cond, List, [], ◌∷◌, Option, None, Some, Result, Ok, Err, refl, sym, ◌∙◌, arith}
+use Rattle.std.specs.Prelude.{◌==◌, ◌&&◌, nat_eq, IsOk, OnOk, OnErr}
+use Rattle.std.proofs.lemmas.Bool.Decides.{nat_tests}
+use Rattle.std.specs.Map.{lookup}
+use Rattle.fa_ledger.specs.contracts.key.KeyPartialEq.TheImpl as derived
+use Rattle.fa_ledger.specs.contracts.key.HandleKindPartialEq.TheImpl as derived_kind
+use Rattle.fa_ledger.specs.contracts.name.NodeNamePartialEq.TheImpl as derived_name
+use Rattle.fa_ledger.specs.declared.handles.Handle.{Handle}
+use Rattle.fa_ledger.specs.declared.key.HandleKind.{HandleKind}
+use Rattle.fa_ledger.specs.declared.key.HandleKind.TheVariants.{File, Directory}
+use Rattle.fa_ledger.specs.declared.key.Key.{Key}
+use Rattle.fa_ledger.specs.declared.name.NodeName.{NodeName}
+use Rattle.fa_ledger.specs.declared.name.NodeName.TheVariants.{Root, Given}
+use Rattle.fa_ledger.specs.Keys.{key_eq, name_eq, kind_eq}
+use Rattle.fa_ledger.specs.parts.Steps.{closed_once}
+
+-- an insertion that fails only where this holds, and where this holds does not fail
+pub inserted : {A E : Type 0} (r : Result A E) (Absent : Type 0) → OnErr r Absent → (Absent → IsOk r) → IsOk r
+inserted (Ok v) Absent fails room = refl
+inserted (Err e) Absent fails room = room fails
+
+-- what an insertion that did not fail ensures
+pub wrote_ok : {A E : Type 0} (r : Result A E) (Wrote : Type 0) (v : A) → r ≡ Ok v → OnOk r Wrote → Wrote
+wrote_ok (Ok v) Wrote w is wrote = wrote
+wrote_ok (Err e) Wrote w is wrote = absurd cc
+
+-- ---- the derived equality of keys is that of the definitions
+
+numbers_alike : (m n : ℕ) → nat_eq m n ≡ (m == n)
+numbers_alike m n = grind (arith, nat_tests)
+
+names_alike : (a b : NodeName) → derived_name.eq-value.it a b ≡ name_eq a b
+names_alike Root Root = refl
+names_alike Root (Given id by) = refl
+names_alike (Given id by) Root = refl
+names_alike (Given id by) (Given other since) = rw (numbers_alike id other, numbers_alike by since) refl
+
+kinds_alike : (a b : HandleKind) → derived_kind.eq-value.it a b ≡ kind_eq a b
+kinds_alike File File = refl
+kinds_alike File Directory = refl
+kinds_alike Directory File = refl
+kinds_alike Directory Directory = refl
+
+both_ways : (a b c : Bool) → (a && (b && c)) ≡ (a && b && c)
+both_ways true b c = refl
+both_ways false b c = refl
+
+keys_alike : (a b : Key) → derived.eq-value.it a b ≡ key_eq a b
+keys_alike a b =
+    rw (names_alike a.node b.node, numbers_alike a.fh b.fh, kinds_alike a.kind b.kind)
+    (both_ways (name_eq a.node b.node) (a.fh == b.fh) (kind_eq a.kind b.kind))
+
+-- what two tests that agree find
+found_alike : {K V : Type 0} (test other : K → Bool) (es : List (K × V)) → ((k : K) → test k ≡ other k) → lookup test es ≡ lookup other es
+found_alike test other [] same = refl
+found_alike test other (e ∷ es) same = rw (same e.0, found_alike test other es same) refl
+
+-- what a table has at a key
+pub at_key : (key : Key) (es : List (Key × Handle)) → lookup (derived.eq-value.it key) es ≡ lookup (key_eq key) es
+at_key key es = found_alike (derived.eq-value.it key) (key_eq key) es (keys_alike key)
+
+-- what a table has at each key after a write at one
+pub after_write : (key : Key) (old new : List (Key × Handle)) (w x : Option Handle) → w ≡ x
+    → ((other : Key) → lookup (derived.eq-value.it other) new ≡ cond (derived.eq-value.it key other) w (lookup (derived.eq-value.it other) old))
+    → (other : Key) → lookup (key_eq other) new ≡ cond (key_eq key other) x (lookup (key_eq other) old)
+after_write key old new w x same wrote other =
+    sym (at_key other new) ∙ wrote other ∙ (rw (keys_alike key other, at_key other old, same) refl)
+
+-- nothing is left of a key that is not open
+pub nothing_closed : (x : Option Handle) (h : Handle) → x ≡ None → closed_once x ≡ Some h → ⊥
+nothing_closed None h none some = absurd cc
+nothing_closed (Some x) h none some = absurd cc

@@ -1,0 +1,15 @@
+use Rattle.std.proofs.Common.{◌≡◌, ℕ, ◌+◌, List, ◌++◌, length}
+use Rattle.std.specs.Prelude.{nat_eq}
+use Rattle.indexmap.specs.IndexMap.{get}
+use Rattle.fa_bodies.specs.Items.{items_in, items_left}
+use Rattle.fa_ledger.specs.Counts.{total_taken}
+use Rattle.fa_ledger.specs.parts.Steps.{raised, but_root}
+use Rattle.fa_ledger.proofs.nodes.Nodes.raise_all.Given as goal
+
+-- the items so far are given back
+abbrev pub invariant-loop-id : goal.invariant-loop-id
+invariant-loop-id l =
+    (goal.iterator-loop-id).can_next l.id-iterator
+    × (goal.iterator-loop-id).is_finite l.id-iterator
+    × ((front : List (ℕ × ℕ)) × (items_in l.bytes ≡ front ++ items_left l.id-iterator) × (length front + l.left ≡ l.done)
+    × ((node : ℕ) → get nat_eq l.self.known node ≡ raised (total_taken node (but_root front)) (get nat_eq l.initial.self.known node)))

@@ -1,0 +1,6 @@
+-- The vocabulary of the crate's private contracts.
+
+-- what an event does to a node, to a key and to the calls
+pub mod Steps
+-- the list of the calls
+pub mod CallParts

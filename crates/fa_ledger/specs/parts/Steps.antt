@@ -1,0 +1,112 @@
+-- What one event does to a node, to a key and to the calls.
+use Rattle.std.specs.Prelude.{◌≡◌, ℕ, zero, suc, ◌+◌, ◌-◌, ◌<◌, ◌≤◌, ◌==◌, Bool, true, false, ◌||◌, ◌⊎◌, not, filter, nat_eq, if◌then◌else◌, List, ◌∷◌, ◌++◌, map, count_by, Option, None, Some, is_none, option_map}
+use Rattle.std.specs.List.{list_any}
+use Rattle.std.specs.Map.{lookup}
+use Rattle.std.specs.Option.{option_map_or}
+use Rattle.fa_bodies.specs.declared.requests.TheConstants.{ROOT_ID}
+use Rattle.fa_ledger.specs.declared.handles.Handle.{Handle}
+use Rattle.fa_ledger.specs.declared.name.NodeName.{NodeName}
+use Rattle.fa_ledger.specs.declared.name.NodeName.TheVariants.{Root, Given}
+use Rattle.fa_ledger.specs.declared.nodes.Lookups.{Lookups}
+use Rattle.fa_ledger.specs.Counts.{total_taken}
+use Rattle.fa_ledger.specs.Calls.{PlainCall, PlainAnswer}
+
+-- a node that is given so often by the reply at this number
+abbrev pub given_again : ℕ → ℕ → Option Lookups → Option Lookups
+given_again at zero node = node
+given_again at (suc n) None = Some (record { count = suc n; by = at })
+given_again at (suc n) (Some l) = Some (record { count = l.count + suc n; by = l.by })
+
+-- the name of a node that stands so, if it is known
+abbrev pub named_by : ℕ → Option Lookups → Option NodeName
+named_by id node = (if id == ROOT_ID then Some Root else option_map (λ l. Given id l.by) node)
+
+-- the name of a node that stood so, once the reply at this number has given it
+abbrev pub given_to : ℕ → ℕ → Option Lookups → NodeName
+given_to id at node = Given id (option_map_or (λ l. l.by) node at)
+
+-- the name is one of this node, as a test
+abbrev pub is_named : ℕ → NodeName → Bool
+is_named node Root = false
+is_named node (Given id by) = id == node
+
+-- how often names have this node
+abbrev pub times_named : ℕ → List NodeName → ℕ
+times_named node names = count_by (is_named node) names
+
+-- the table has not the node of the name, as a test
+abbrev pub is_new : List (ℕ × Lookups) → NodeName → Bool
+is_new known Root = false
+is_new known (Given id by) = is_none (lookup (nat_eq id) known)
+
+-- the table has not the node of some of the names, as a test
+abbrev pub some_new : List (ℕ × Lookups) → List NodeName → Bool
+some_new known names = list_any (is_new known) names
+
+-- how many lookups are left of a node
+abbrev pub count_left : Option Lookups → ℕ
+count_left node = option_map_or (λ l. l.count) node 0
+
+-- a node with so many lookups less, and with so many more, even where none is left
+abbrev pub lowered : ℕ → Option Lookups → Option Lookups
+lowered n node = option_map (λ l. record { count = l.count - n; by = l.by }) node
+
+abbrev pub raised : ℕ → Option Lookups → Option Lookups
+raised n node = option_map (λ l. record { count = l.count + n; by = l.by }) node
+
+-- a node, if a lookup is left of it
+abbrev pub left_over : Option Lookups → Option Lookups
+left_over None = None
+left_over (Some l) = (if l.count == 0 then None else Some l)
+
+-- what a table has of a node
+abbrev pub lookup_of : List (ℕ × Lookups) → ℕ → Option Lookups
+lookup_of known node = lookup (nat_eq node) known
+
+-- a node in the table, of which items were taken that sum up to this, stays there if a lookup is left of it or none was taken
+abbrev pub IsDropped : ℕ → Option Lookups → Option Lookups → Type 0
+IsDropped taken old new = (new ≡ left_over old) ⊎ ((new ≡ old) × (taken ≡ 0))
+
+-- the items of nodes other than the root, of which a forget takes nothing
+abbrev pub but_root : List (ℕ × ℕ) → List (ℕ × ℕ)
+but_root items = filter (λ item. not (item.0 == ROOT_ID)) items
+
+-- no item takes more than is left of its node once the earlier items are taken
+abbrev pub AreWithin : (ℕ → Option Lookups) → List (ℕ × ℕ) → Type 0
+AreWithin nodes items =
+    (earlier later : List (ℕ × ℕ)) (node nlookup : ℕ) → items ≡ earlier ++ (node, nlookup) ∷ later
+    → total_taken node earlier + nlookup ≤ count_left (nodes node)
+
+-- a node of which so many lookups are taken back: it goes where none is left
+abbrev pub IsTakenFrom : ℕ → Option Lookups → Option Lookups → Type 0
+IsTakenFrom n None new = (n ≡ 0) × (new ≡ None)
+IsTakenFrom n (Some l) None = n ≡ l.count
+IsTakenFrom n (Some l) (Some m) = (0 < m.count) × (n + m.count ≡ l.count) × (m.by ≡ l.by)
+
+-- a key that the answer to a request opens once more
+abbrev pub opened_again : (asked : ℕ) → (direct : Bool) → Option Handle → Handle
+opened_again asked direct None = record { openings = 1; name = asked; shared = false; direct = direct }
+opened_again asked direct (Some h) =
+    record { openings = h.openings + 1; name = h.name; shared = true; direct = h.direct || direct }
+
+-- a key of which one opening is closed: it goes where none is left
+abbrev pub closed_once : Option Handle → Option Handle
+closed_once None = None
+closed_once (Some h) =
+    (if h.openings == 1 then None else Some (record { openings = h.openings - 1; name = h.name; shared = h.shared; direct = h.direct }))
+
+-- the calls, where the one of this request has this answer
+abbrev pub with_answer : List PlainCall → ℕ → PlainAnswer → List PlainCall
+with_answer calls asked answer =
+    map (λ call. (if call.asked == asked
+    then record {
+      asked = call.asked;
+      request = call.request;
+      node = call.node;
+      other = call.other;
+      handle = call.handle;
+      direct = call.direct;
+      truncates = call.truncates;
+      answer = Some answer;
+    }
+    else call)) calls

@@ -1,0 +1,97 @@
+//! The calls so far, in the order of their requests.
+
+ghost use Rattle.std.specs.Prelude.{◌≡◌, ℕ, List, [], ◌∷◌, ◌++◌, map, None, OnOk, OnErr, IfSome, IfNone};
+ghost use Rattle.std.specs.List.Sorted.{IsStrictlyIncreasing};
+ghost use Rattle.fa_ledger.specs.Calls.{PlainCall, answer_shown, call_shown};
+ghost use Rattle.fa_ledger.specs.parts.CallParts.{IsNewNumber, Waits, WaitsAt};
+ghost use Rattle.fa_ledger.specs.parts.Steps.{with_answer};
+
+use crate::call::{Answer, Call};
+use crate::name::NodeName;
+use indexmap::IndexMap;
+use std::alloc::{AllocError, Global};
+use std::marker::Model;
+
+/// The calls so far, and which of them wait for an answer.
+#[derive(Drop)]
+pub(crate) struct CallList<'a> {
+    /// The calls, by rising numbers of their requests.
+    list: Vec<Call<'a>>,
+    /// Of each that waits for an answer, by the number of its request, its place in the list.
+    waiting: IndexMap<u32, usize>,
+}
+
+impl<'a> Model for CallList<'a> {
+    ghost use Rattle.std.specs.Prelude.{List};
+    ghost use Rattle.fa_ledger.specs.Calls.{PlainCall};
+
+    ghost Value = { List PlainCall };
+
+    ghost use Rattle.fa_ledger.specs.parts.CallParts.{calls_shown, ArePlaces};
+
+    ghost view = { calls_shown };
+
+    ghost invariant = { ArePlaces };
+}
+
+impl<'a> CallList<'a> {
+    /// No calls. What it stores later takes memory from `alloc`.
+    pub fn new(alloc: Global) -> Self
+        ensures { result ≡ [] }
+    {
+        CallList {
+            list: Vec::new(alloc),
+            waiting: IndexMap::new(alloc),
+        }
+    }
+
+    /// Adds a call that waits for its answer.
+    pub fn push(&mut self, call: Call<'a>) -> Result<(), AllocError>
+        requires waits { call.answer ≡ None }
+        requires later { IsNewNumber self.old call.asked }
+        ensures pushed { OnOk result (self.new ≡ self.old ++ call_shown call.entry ∷ []) }
+        ensures unchanged { OnErr result (self.new ≡ self.old) }
+    {
+        let asked = call.asked;
+        let place = self.list.len();
+        // With room in the table first, a push that fails leaves both as they were.
+        self.waiting.reserve(1)?;
+        self.list.push(call)?;
+        self.waiting.insert(asked, place).unwrap();
+        Ok(())
+    }
+
+    /// The node of the call that waits under this number.
+    ///
+    /// Takes no memory, in expected constant time.
+    pub fn node_of(&self, asked: u32) -> Option<NodeName>
+        ensures some { IfSome result (λ node. (place : ℕ) × (call : PlainCall) × WaitsAt self.now asked place call × (call.node ≡ node)) }
+        ensures none { IfNone result ((place : ℕ) (call : PlainCall) → WaitsAt self.now asked place call → ⊥) }
+    {
+        let place = *self.waiting.get(&asked)?;
+        Some(self.list[place].node)
+    }
+
+    /// Notes the answer of the call that waits under this number.
+    ///
+    /// Takes no memory, in expected constant time.
+    pub fn answer(&mut self, asked: u32, answer: Answer<'a>)
+        requires waits { Waits self.old asked }
+        requires rising { IsStrictlyIncreasing (map (λ call. call.asked) self.old) }
+        ensures { self.new ≡ with_answer self.old asked (answer_shown answer.entry) }
+    {
+        let place = self.waiting.swap_remove(&asked).unwrap();
+        self.list[place].answer = Some(answer);
+    }
+
+    /// The calls.
+    pub fn into_list(self) -> Vec<Call<'a>>
+        ensures { map call_shown result.items ≡ self.entry }
+    {
+        let CallList {
+            list,
+            waiting: _waiting,
+        } = self;
+        list
+    }
+}

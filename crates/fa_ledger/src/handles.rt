@@ -1,0 +1,125 @@
+//! The file handles that are open.
+
+ghost use Rattle.std.specs.Prelude.{◌≡◌, [], ◌<◌, cond, OnOk, OnErr, IfSome, IsNone, None, Some, is_none};
+ghost use Rattle.indexmap.specs.IndexMap.{get, spare, IsUnchanged};
+ghost use Rattle.fa_capture.specs.declared.limits.TheConstants.{MAX_MESSAGES};
+ghost use Rattle.fa_ledger.specs.declared.key.Key.{Key};
+ghost use Rattle.fa_ledger.specs.Keys.{key_eq};
+ghost use Rattle.fa_ledger.specs.parts.Steps.{opened_again, closed_once};
+
+use crate::key::Key;
+use indexmap::IndexMap;
+use std::alloc::{AllocError, Global};
+
+/// What is known of a key that is open.
+#[derive(Clone, Copy, Debug)]
+pub(crate) struct Handle {
+    /// How many openings were not closed, more than none.
+    pub openings: u32,
+    /// The number of the request whose answer opened the key when it last stood at zero.
+    pub name: u32,
+    /// Whether it stood above one since then.
+    pub shared: bool,
+    /// Whether an opening since then was for direct input and output.
+    pub direct: bool,
+}
+
+/// The keys that are open.
+#[derive(Drop)]
+pub(crate) struct Handles {
+    pub opened: IndexMap<Key, Handle>,
+}
+
+impl Handles {
+    /// No key is open. The table takes memory from `alloc` later.
+    pub fn new(alloc: Global) -> Self
+        ensures { result.opened.entries ≡ [] }
+    {
+        Handles {
+            opened: IndexMap::new(alloc),
+        }
+    }
+
+    /// How a key is open, if it is.
+    pub fn get(&self, key: &Key) -> Option<Handle>
+        ensures { result ≡ get key_eq self.now.opened key.now }
+    {
+        self.opened.get(key).copied()
+    }
+
+    /// Makes room for a key, so that it can be opened without memory.
+    pub fn reserve(&mut self, key: &Key) -> Result<(), AllocError>
+        ensures kept { IsUnchanged self.old.opened self.new.opened }
+        ensures room { OnOk result (get key_eq self.old.opened key.now ≡ None → 0 < spare self.new.opened) }
+        ensures wanted { OnErr result (get key_eq self.old.opened key.now ≡ None) }
+    {
+        match self.get(key) {
+            Some(_) => Ok(()),
+            None => self.opened.reserve(1),
+        }
+    }
+
+    /// Opens a key once more, by the answer to the request of this number: whether it was not open.
+    pub fn open(&mut self, key: Key, asked: u32, direct: bool) -> bool
+        requires room { get key_eq self.old.opened key ≡ None → 0 < spare self.old.opened }
+        requires few { IfSome (get key_eq self.old.opened key) (λ handle. handle.openings < MAX_MESSAGES) }
+        ensures anew { result ≡ is_none (get key_eq self.old.opened key) }
+        ensures opened { (other : Key) → get key_eq self.new.opened other ≡ cond (key_eq key other) (Some (opened_again asked direct (get key_eq self.old.opened key))) (get key_eq self.old.opened other) }
+    {
+        let old = self.get(&key);
+        let handle = opened_again(old, asked, direct);
+        self.opened.insert(key, handle).unwrap();
+        old.is_none()
+    }
+
+    /// Closes one opening of a key.
+    pub fn close(&mut self, key: &Key)
+        requires { IfSome (get key_eq self.old.opened key.now) (λ handle. 0 < handle.openings) }
+        ensures { (other : Key) → get key_eq self.new.opened other ≡ cond (key_eq key.now other) (closed_once (get key_eq self.old.opened key.now)) (get key_eq self.old.opened other) }
+    {
+        match closed_once(self.get(key)) {
+            Some(handle) => {
+                self.opened.insert(*key, handle).unwrap();
+            }
+            None => {
+                self.opened.swap_remove(key);
+            }
+        }
+    }
+}
+
+/// A key that the answer to the request of this number opens once more.
+fn opened_again(old: Option<Handle>, asked: u32, direct: bool) -> Handle
+    requires { IfSome old (λ handle. handle.openings < MAX_MESSAGES) }
+    ensures { result ≡ opened_again asked direct old }
+{
+    match old {
+        Some(handle) => Handle {
+            openings: handle.openings + 1,
+            shared: true,
+            direct: handle.direct || direct,
+            ..handle
+        },
+        None => Handle {
+            openings: 1,
+            name: asked,
+            shared: false,
+            direct,
+        },
+    }
+}
+
+/// A key of which one opening is closed, if it is still open then.
+fn closed_once(old: Option<Handle>) -> Option<Handle>
+    requires { IfSome old (λ handle. 0 < handle.openings) }
+    ensures { result ≡ closed_once old }
+{
+    let handle = old?;
+    if handle.openings == 1 {
+        return None;
+    }
+    Some(Handle {
+        openings: handle.openings - 1,
+        ..handle
+    })
+}
