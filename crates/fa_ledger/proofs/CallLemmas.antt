@@ -11,6 +11,7 @@ use Rattle.fa_session.specs.Answers.{AnswersAt}
 use Rattle.fa_session.specs.Events.{PlainEvent}
 use Rattle.fa_session.specs.Events.PlainEvent.{Asked, Answered}
 use Rattle.fa_session.proofs.CallerLemmas.{answered_once}
+use Rattle.fa_ledger.specs.declared.call.Listing.{Listing}
 use Rattle.fa_ledger.specs.declared.key.Key.{Key}
 use Rattle.fa_ledger.specs.declared.name.NodeName.{NodeName}
 use Rattle.fa_ledger.specs.Events.{AreEvents}
@@ -123,12 +124,12 @@ answers_are_one c es are a b asked requests (Some x) (Some y) is too =
 
 -- ---- calls
 
-same_fields : (a b : PlainCall) → a.asked ≡ b.asked → a.request ≡ b.request → a.node ≡ b.node → a.other ≡ b.other → a.handle ≡ b.handle → a.direct ≡ b.direct → a.truncates ≡ b.truncates → a.answer ≡ b.answer → a ≡ b
-same_fields a b asked request node other handle direct truncates answer =
-    let made : ℕ → PlainRequest → NodeName → Option NodeName → Option ℕ → Bool → Bool → Option PlainAnswer → PlainCall =
-    λ n r d o h x t w. record { asked = n; request = r; node = d; other = o; handle = h; direct = x; truncates = t; answer = w } in
-    let whole : made a.asked a.request a.node a.other a.handle a.direct a.truncates a.answer ≡ made b.asked b.request b.node b.other b.handle b.direct b.truncates b.answer =
-    rw (asked, request, node, other, handle, direct, truncates, answer) refl in
+same_fields : (a b : PlainCall) → a.asked ≡ b.asked → a.request ≡ b.request → a.node ≡ b.node → a.other ≡ b.other → a.handle ≡ b.handle → a.direct ≡ b.direct → a.truncates ≡ b.truncates → a.listing ≡ b.listing → a.answer ≡ b.answer → a ≡ b
+same_fields a b asked request node other handle direct truncates listing answer =
+    let made : ℕ → PlainRequest → NodeName → Option NodeName → Option ℕ → Bool → Bool → Option Listing → Option PlainAnswer → PlainCall =
+    λ n r d o h x t l w. record { asked = n; request = r; node = d; other = o; handle = h; direct = x; truncates = t; listing = l; answer = w } in
+    let whole : made a.asked a.request a.node a.other a.handle a.direct a.truncates a.listing a.answer ≡ made b.asked b.request b.node b.other b.handle b.direct b.truncates b.listing b.answer =
+    rw (asked, request, node, other, handle, direct, truncates, listing, answer) refl in
     whole
 
 -- the call of a request is one
@@ -145,7 +146,7 @@ call_is_one c es are a b is too asked =
     let handles : a.handle ≡ b.handle = used_is_one before (key_used before b.request) a.handle b.handle (subst (λ r. IsHandleUsed before (key_used before r) a.handle) requests mine.handle) yours.handle in
     let directs : a.direct ≡ b.direct = mark_is_one (IsDirect before) (key_used before b.request) a.direct b.direct (subst (λ r. IsMark (IsDirect before) (key_used before r) a.direct) requests mine.direct) yours.direct in
     let truncations : a.truncates ≡ b.truncates = same_mark a.truncates b.truncates (Truncates before b.request.body) (subst (λ r. IsTrue a.truncates ↔ Truncates before r.body) requests mine.truncates) yours.truncates in
-    same_fields a b asked requests nodes others handles directs truncations (answers_are_one c es are a b asked requests a.answer b.answer is.answered too.answered)
+    same_fields a b asked requests nodes others handles directs truncations (mine.listing ∙ sym yours.listing) (answers_are_one c es are a b asked requests a.answer b.answer is.answered too.answered)
 
 -- the numbers of calls
 abbrev pub numbers : List PlainCall → List ℕ

@@ -161,6 +161,7 @@ answered_by answer call = record {
   handle = call.handle;
   direct = call.direct;
   truncates = call.truncates;
+  listing = call.listing;
   answer = Some answer;
 }
 
@@ -178,7 +179,7 @@ call_answered es p r reply call answer is asked request at said given opens =
     let whole : take (answer.at + 1) more ≡ more = take_all (answer.at + 1) more (omega (arith, at, long)) in
     record {
       there = get_kept es (e ∷ []) call.asked _ is.there;
-      asked = record { tree = mine.tree; node = mine.node; other = mine.other; handle = mine.handle; direct = mine.direct; truncates = mine.truncates };
+      asked = record { tree = mine.tree; node = mine.node; other = mine.other; handle = mine.handle; direct = mine.direct; truncates = mine.truncates; listing = mine.listing };
       answered = record {
         there = rw (at, said, asked, request) (get_last es e);
         given = rw (whole, said, request) given;

@@ -34,7 +34,7 @@ same_places (x ∷ xs) (y ∷ ys) long each =
 
 -- ---- one event
 
-notice_no_reply : (m : Message) (unique : ℕ) → IsNotificationMessage m → IsReplyMessage m unique → ⊥
+pub notice_no_reply : (m : Message) (unique : ℕ) → IsNotificationMessage m → IsReplyMessage m unique → ⊥
 notice_no_reply m unique notice reply =
     let same : notice.0 ≡ reply.0 = reply_head_is_one m.bytes notice.0 reply.0 notice.1.1 reply.1.1 in
     reply.3 (sym reply.2 ∙ ap (λ (h : ReplyHead). h.unique) (sym same) ∙ notice.2)

@@ -1,11 +1,21 @@
 -- Nodes that are given: which of them are new.
-use Rattle.std.proofs.Common.{◌≡◌, ℕ, zero, suc, true, List, Option, None, Some, refl}
-use Rattle.std.specs.Prelude.{nat_eq, is_none}
+use Rattle.std.proofs.Common.{append_assoc, ◌≡◌, ◌≢◌, ℕ, zero, suc, true, false, List, [], ◌∷◌, ◌++◌, length, Option, None, Some, refl, sym, ap, subst, ◌∙◌, arith}
+use Rattle.std.specs.Prelude.{nat_eq, is_none, map, All, slice_index_or, ◌==◌, if◌then◌else◌}
 use Rattle.std.specs.Map.{lookup}
+use Rattle.std.specs.Option.{option_eq}
+use Rattle.std.proofs.lemmas.Bool.Decides.{nat_tests}
+use Rattle.std.proofs.lemmas.List.{append-nil, length-append, map-append}
+use Rattle.std.proofs.lemmas.List.Elements.{All-nil, All-push}
+use Rattle.fa_bodies.specs.declared.entry.EntryOut.{EntryOut}
+use Rattle.fa_bodies.specs.declared.requests.TheConstants.{ROOT_ID}
+use Rattle.fa_bodies.specs.Dirents.{PlainDirent}
 use Rattle.fa_ledger.specs.declared.name.NodeName.{NodeName}
 use Rattle.fa_ledger.specs.declared.name.NodeName.TheVariants.{Root, Given}
 use Rattle.fa_ledger.specs.declared.nodes.Lookups.{Lookups}
-use Rattle.fa_ledger.specs.parts.Steps.{given_again, times_named, is_new}
+use Rattle.fa_ledger.specs.Counts.{is_dots, node_of, nodes_of_entry, nodes_of_listing}
+use Rattle.fa_ledger.specs.Passing.{MayBeGiven}
+use Rattle.fa_ledger.proofs.TakingLemmas.{no_item}
+use Rattle.fa_ledger.specs.parts.Steps.{as_list, given_again, times_named, is_new}
 
 -- a node that is new after others were given was new before
 pub new_before : (at n : ℕ) (x : Option Lookups) → is_none (given_again at n x) ≡ true → is_none x ≡ true
@@ -19,3 +29,96 @@ pub name_new_before : (at : ℕ) (known now : List (ℕ × Lookups)) (given : Li
     → is_new now name ≡ true → is_new known name ≡ true
 name_new_before at known now given Root stands new = new
 name_new_before at known now given (Given id by) stands new = new_before at (times_named id given) (lookup (nat_eq id) known) (rw (stands id) at new)
+
+-- ---- listings
+
+listing_both : (xs ys : List PlainDirent) → nodes_of_listing (xs ++ ys) ≡ nodes_of_listing xs ++ nodes_of_listing ys
+listing_both [] ys = refl
+listing_both (d ∷ xs) ys = ap (λ ns. nodes_of_entry d.entry d.name ++ ns) (listing_both xs ys) ∙ sym (append_assoc (nodes_of_entry d.entry d.name) (nodes_of_listing xs) (nodes_of_listing ys))
+
+-- what a listing gives, with one entry more
+pub listing_more : (front : List PlainDirent) (d : PlainDirent) → nodes_of_listing (front ++ d ∷ []) ≡ nodes_of_listing front ++ nodes_of_entry d.entry d.name
+listing_more front d = listing_both front (d ∷ []) ∙ ap (λ ns. nodes_of_listing front ++ ns) (append-nil (nodes_of_entry d.entry d.name))
+
+-- what a listing gives, about one of its entries
+pub listing_around : (all front rest : List PlainDirent) (d : PlainDirent) → all ≡ front ++ d ∷ rest
+    → nodes_of_listing all ≡ nodes_of_listing front ++ (nodes_of_entry d.entry d.name ++ nodes_of_listing rest)
+listing_around all front rest d is = ap nodes_of_listing is ∙ listing_both front (d ∷ rest)
+
+node_not_zero : (node id : ℕ) → (if node == 0 then [] else node ∷ []) ≡ id ∷ [] → id ≢ 0
+node_not_zero node id is =
+    elim (node == 0) as (λ b. (node == 0) ≡ b → (if b then [] else node ∷ []) ≡ id ∷ [] → id ≢ 0) [
+      | true ↦ λ test none. absurd cc
+      | false ↦ λ test own. λ zero_id. let same : node ≡ id = cc in grind (arith, nat_tests, test, same, zero_id)
+    ] refl is
+
+-- an entry gives no 0
+entry_not_zero : (o : Option EntryOut) (name : List ℕ) (id : ℕ) → nodes_of_entry o name ≡ id ∷ [] → id ≢ 0
+entry_not_zero None name id is = absurd cc
+entry_not_zero (Some entry) name id is =
+    elim (is_dots name) as (λ b. (if b then [] else node_of entry) ≡ id ∷ [] → id ≢ 0) [
+      | true ↦ λ none. absurd cc
+      | false ↦ λ own. node_not_zero entry.nodeid id own
+    ] is
+
+-- what an entry gives may be given, if it is not the root
+pub entry_may : (o : Option EntryOut) (name : List ℕ) (r : Option ℕ) → as_list r ≡ nodes_of_entry o name → (r ≡ Some ROOT_ID → ⊥) → All MayBeGiven (nodes_of_entry o name)
+entry_may o name None is other = subst (All MayBeGiven) is (All-nil MayBeGiven)
+entry_may o name (Some id) is other =
+    subst (All MayBeGiven) is (All-push MayBeGiven [] id (All-nil MayBeGiven) (entry_not_zero o name id (sym is), λ root. other (ap (λ x. Some x) root)))
+
+-- ---- the test of the root
+
+pub is_root : (r : Option ℕ) → option_eq nat_eq r (Some ROOT_ID) ≡ true → r ≡ Some ROOT_ID
+is_root None is = absurd cc
+is_root (Some id) is = let same : id ≡ ROOT_ID = grind (arith, nat_tests, is) in ap (λ x. Some x) same
+
+pub not_the_root : (r : Option ℕ) → option_eq nat_eq r (Some ROOT_ID) ≡ false → r ≡ Some ROOT_ID → ⊥
+not_the_root None not is = absurd cc
+not_the_root (Some id) not is = let same : id ≡ ROOT_ID = cc in grind (arith, nat_tests, not, same)
+
+-- what holds of each holds of one in the middle
+item_at : {X : Type 0} (xs ys : List X) (x d : X) → slice_index_or (xs ++ x ∷ ys) (length xs) d ≡ x
+item_at [] ys x d = refl
+item_at (z ∷ xs) ys x d = item_at xs ys x d
+
+pub all_at : {X : Type 0} (P : X → Type 0) (xs ys : List X) (x : X) → All P (xs ++ x ∷ ys) → P x
+all_at P xs ys x each =
+    subst P (item_at xs ys x x) (each (length xs) x (let long = length-append xs (x ∷ ys) in omega (arith, long)))
+
+-- an entry that gives the root gives what may not be given
+pub root_may_not : (all front rest : List PlainDirent) (d : PlainDirent) (r : Option ℕ) → all ≡ front ++ d ∷ rest → as_list r ≡ nodes_of_entry d.entry d.name → r ≡ Some ROOT_ID
+    → All MayBeGiven (nodes_of_listing all) → ⊥
+root_may_not all front rest d r is gives root each =
+    let own : ROOT_ID ∷ [] ≡ nodes_of_entry d.entry d.name = ap as_list (sym root) ∙ gives in
+    let around : nodes_of_listing all ≡ nodes_of_listing front ++ ROOT_ID ∷ nodes_of_listing rest =
+    listing_around all front rest d is ∙ ap (λ ns. nodes_of_listing front ++ (ns ++ nodes_of_listing rest)) (sym own) in
+    (all_at MayBeGiven (nodes_of_listing front) (nodes_of_listing rest) ROOT_ID (subst (All MayBeGiven) around each)).1 refl
+
+-- ---- names of a listing's nodes
+
+-- an entry that gives none adds no name
+pub none_listed : (f : ℕ → NodeName) (front : List PlainDirent) (d : PlainDirent) (r : Option ℕ) (names : List NodeName) → names ≡ map f (nodes_of_listing front)
+    → as_list r ≡ nodes_of_entry d.entry d.name → r ≡ None → names ≡ map f (nodes_of_listing (front ++ d ∷ []))
+none_listed f front d r names so_far gives none =
+    let nothing : [] ≡ nodes_of_entry d.entry d.name = ap as_list (sym none) ∙ gives in
+    let whole : nodes_of_listing (front ++ d ∷ []) ≡ nodes_of_listing front =
+    listing_more front d ∙ ap (λ ns. nodes_of_listing front ++ ns) (sym nothing) ∙ append-nil (nodes_of_listing front) in
+    so_far ∙ ap (map f) (sym whole)
+
+-- an entry that gives a node adds its name
+pub one_listed : (f : ℕ → NodeName) (front : List PlainDirent) (d : PlainDirent) (r : Option ℕ) (id : ℕ) (names : List NodeName) → names ≡ map f (nodes_of_listing front)
+    → as_list r ≡ nodes_of_entry d.entry d.name → r ≡ Some id → names ++ f id ∷ [] ≡ map f (nodes_of_listing (front ++ d ∷ []))
+one_listed f front d r id names so_far gives some =
+    let own : id ∷ [] ≡ nodes_of_entry d.entry d.name = ap as_list (sym some) ∙ gives in
+    let whole : nodes_of_listing (front ++ d ∷ []) ≡ nodes_of_listing front ++ id ∷ [] = listing_more front d ∙ ap (λ ns. nodes_of_listing front ++ ns) (sym own) in
+    ap (λ ns. ns ++ f id ∷ []) so_far ∙ sym (map-append f (nodes_of_listing front) (id ∷ [])) ∙ ap (map f) (sym whole)
+
+-- a listing with an entry that gives a node gives some
+pub some_listed : (all front rest : List PlainDirent) (d : PlainDirent) (r : Option ℕ) (id : ℕ) → all ≡ front ++ d ∷ rest → as_list r ≡ nodes_of_entry d.entry d.name → r ≡ Some id
+    → nodes_of_listing all ≢ []
+some_listed all front rest d r id is gives some nothing =
+    let own : id ∷ [] ≡ nodes_of_entry d.entry d.name = ap as_list (sym some) ∙ gives in
+    let around : nodes_of_listing all ≡ nodes_of_listing front ++ id ∷ nodes_of_listing rest =
+    listing_around all front rest d is ∙ ap (λ ns. nodes_of_listing front ++ (ns ++ nodes_of_listing rest)) (sym own) in
+    no_item (nodes_of_listing front) id (nodes_of_listing rest) (sym nothing ∙ around)

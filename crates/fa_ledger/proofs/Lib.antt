@@ -13,3 +13,7 @@ pub mod CallListLemmas
 pub mod TableLemmas
 pub mod GivingLemmas
 pub mod TakingLemmas
+pub mod LedgerLemmas
+pub mod ReplyLemmas
+pub mod ReplyBookLemmas
+pub mod RequestBookLemmas

@@ -11,7 +11,7 @@ use Rattle.fa_capture.specs.Message.{Message}
 use Rattle.fa_bodies.specs.declared.entry.EntryOut.{EntryOut}
 use Rattle.fa_bodies.specs.declared.requests.TheConstants.{ROOT_ID}
 use Rattle.fa_bodies.specs.Dirents.{PlainDirent}
-use Rattle.fa_bodies.specs.Requests.{PlainBody, IsRequestBody}
+use Rattle.fa_bodies.specs.Requests.{PlainRequest, PlainBody, IsRequestBody}
 use Rattle.fa_bodies.specs.Requests.PlainBody.{Lookup, Forget, Getattr, Setattr, Readlink, Symlink, Mknod, Mkdir, Unlink, Rmdir, Rename, Link, Open, Read, Write, Release, Flush, Init, Opendir, Readdir, Releasedir, Create, BatchForget, Readdirplus, Passed}
 use Rattle.fa_bodies.specs.Replies.{PlainReply, IsSuccessBody}
 use Rattle.fa_bodies.specs.Replies.PlainReply.{Refused, Empty, Entry, Created, Attributes, Opened, Written, Bytes, Listed, InitAnswer, Skipped}
@@ -227,18 +227,22 @@ given_few opcode asked request body (Listed ds) is says = omega (arith, listing_
 given_few opcode asked request body (InitAnswer n) is says = omega arith
 given_few opcode asked request body Skipped is says = omega arith
 
+-- a reply gives at most 2 ^ 32 nodes
+pub reply_few : (before : List Message) (m : Message) (at asked : ℕ) (r : PlainRequest) (reply : PlainReply) → IsEvent before m (Answered at asked r reply) → length (nodes_given r.body reply) ≤ 4294967296
+reply_few before m at asked r reply is =
+    let request = is.1.outstanding.asked.2.1 in
+    elim is.2.body [
+      | inl success ↦ given_few r.opcode r.body request.body_bytes is.2.head.body_bytes reply request.body success.1
+      | inr refused ↦
+          let none : nodes_given r.body reply ≡ [] = rw refused.2 refl in
+          omega (arith, ap length none)
+    ]
+
 -- an event gives a node at most 2 ^ 32 times
 pub times_within : (before : List Message) (m : Message) (e : PlainEvent) (node : ℕ) → IsEvent before m e → times_given node e ≤ 4294967296
 times_within before m (Asked at r) node is = omega arith
 times_within before m (Answered at asked r reply) node is =
-    let few : count_by (λ given. given == node) (nodes_given r.body reply) ≤ length (nodes_given r.body reply) = count_by-le-length (λ given. given == node) (nodes_given r.body reply) in
-    let request = is.1.outstanding.asked.2.1 in
-    elim is.2.body [
-      | inl success ↦ omega (arith, few, given_few r.opcode r.body request.body_bytes is.2.head.body_bytes reply request.body success.1)
-      | inr refused ↦
-          let none : nodes_given r.body reply ≡ [] = rw refused.2 refl in
-          omega (arith, few, ap length none)
-    ]
+    omega (arith, count_by-le-length (λ given. given == node) (nodes_given r.body reply), reply_few before m at asked r reply is)
 times_within before m (Notice at) node is = omega arith
 
 -- where each of some events gives a node so often at most, all of them do

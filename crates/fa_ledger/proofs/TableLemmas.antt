@@ -1,6 +1,6 @@
 -- What a table has after a write, in the words of the steps.
 use Rattle.std.proofs.Common.{◌≡◌, ℕ, Bool, true, false, cond, List, [], ◌∷◌, Option, None, Some, Result, Ok, Err, refl, sym, ◌∙◌, arith}
-use Rattle.std.specs.Prelude.{◌==◌, ◌&&◌, nat_eq, IsOk, OnOk, OnErr}
+use Rattle.std.specs.Prelude.{◌==◌, ◌&&◌, nat_eq, IsOk, OnOk, OnErr, IfErr}
 use Rattle.std.proofs.lemmas.Bool.Decides.{nat_tests}
 use Rattle.std.specs.Map.{lookup}
 use Rattle.fa_ledger.specs.contracts.key.KeyPartialEq.TheImpl as derived
@@ -71,3 +71,14 @@ after_write key old new w x same wrote other =
 pub nothing_closed : (x : Option Handle) (h : Handle) → x ≡ None → closed_once x ≡ Some h → ⊥
 nothing_closed None h none some = absurd cc
 nothing_closed (Some x) h none some = absurd cc
+
+-- ---- results
+
+-- what a result ensures ensures what follows from it
+pub ok_also : {A E : Type 0} (r : Result A E) (P Q : Type 0) → (P → Q) → OnOk r P → OnOk r Q
+ok_also (Ok v) P Q so holds = so holds
+ok_also (Err e) P Q so holds = tt
+
+pub err_also : {A E : Type 0} (r : Result A E) (P Q : E → Type 0) → ((e : E) → P e → Q e) → IfErr r P → IfErr r Q
+err_also (Ok v) P Q so holds = tt
+err_also (Err e) P Q so holds = so e holds

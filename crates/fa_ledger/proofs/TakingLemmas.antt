@@ -109,7 +109,7 @@ first_of (y ∷ front) rest x (suc n) long = let found = first_of front rest x n
 first_more : {X : Type 0} (all front rest : List X) (x : X) (n : ℕ) → all ≡ front ++ x ∷ rest → length front < n → (more : List X) × (take n all ≡ front ++ x ∷ more)
 first_more all front rest x n is long = let found = first_of front rest x n long in (found.0, ap (take n) is ∙ found.1)
 
-no_item : {X : Type 0} (earlier : List X) (y : X) (later : List X) → [] ≡ earlier ++ y ∷ later → ⊥
+pub no_item : {X : Type 0} (earlier : List X) (y : X) (later : List X) → [] ≡ earlier ++ y ∷ later → ⊥
 no_item [] y later is = absurd cc
 no_item (e ∷ earlier) y later is = absurd cc
 

@@ -16,6 +16,7 @@ use Rattle.fa_session.specs.Events.PlainEvent.{Asked, Answered}
 use Rattle.fa_ledger.specs.declared.call.Answer.{Answer}
 use Rattle.fa_ledger.specs.declared.call.Call.{Call}
 use Rattle.fa_ledger.specs.declared.call.Given.{Given}
+use Rattle.fa_ledger.specs.declared.call.Listing.{Listing}
 use Rattle.fa_ledger.specs.declared.call.Given.TheVariants.{Nothing, One, Several}
 use Rattle.fa_ledger.specs.declared.key.Key.{Key}
 use Rattle.fa_ledger.specs.declared.name.NodeName.{NodeName}
@@ -36,7 +37,8 @@ pub record PlainAnswer : Type 0 where
 
 -- A tree request as it was sent: the number of its message, what it asks for, the names of the nodes that it names (the
 -- second is the new directory of RENAME and the file of LINK), the name of the file handle that it uses, if any, and
--- whether that one is direct; whether its success empties a file that is there. And its answer, if it has one.
+-- whether that one is direct; whether its success empties a file that is there; what a listing goes on from, which is not
+-- said of any call yet. And its answer, if it has one.
 pub record PlainCall : Type 0 where
   pub asked : ℕ
   pub request : PlainRequest
@@ -45,6 +47,7 @@ pub record PlainCall : Type 0 where
   pub handle : Option ℕ
   pub direct : Bool
   pub truncates : Bool
+  pub listing : Option Listing
   pub answer : Option PlainAnswer
 
 -- both sides set this flag at INIT (`flags` of struct fuse_init_in and struct fuse_init_out of fuse.h)
@@ -101,6 +104,7 @@ pub record IsAskedCall (before : List PlainEvent) (call : PlainCall) : Type 0 wh
   pub handle : IsHandleUsed before (key_used before call.request) call.handle
   pub direct : IsMark (IsDirect before) (key_used before call.request) call.direct
   pub truncates : IsTrue call.truncates ↔ Truncates before call.request.body
+  pub listing : call.listing ≡ None
 
 -- the answer opens a handle anew: its key stood at zero before
 abbrev pub OpensAnew : List PlainEvent → ℕ → Type 0
@@ -162,5 +166,6 @@ call_shown c = record {
   handle = c.handle;
   direct = c.direct;
   truncates = c.truncates;
+  listing = c.listing;
   answer = option_map answer_shown c.answer;
 }

@@ -18,6 +18,7 @@ pub mod Choices
 -- what a ledger shows of messages
 pub mod Plain
 pub mod Shows
+pub mod Refusals
 -- what follows from the definitions alone
 pub mod Laws
 -- what private contracts alone speak of

@@ -4,3 +4,7 @@
 pub mod Steps
 -- the list of the calls
 pub mod CallParts
+-- the books of a ledger
+pub mod BookParts
+-- what a ledger's fields show
+pub mod View

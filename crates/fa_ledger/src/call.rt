@@ -1,12 +1,13 @@
 //! Calls: the requests that act on the tree, each with what it names and with its answer.
 
-ghost use Rattle.std.specs.Prelude.{◌↔◌, IsTrue};
-ghost use Rattle.fa_ledger.specs.Calls.{call_shown};
+ghost use Rattle.std.specs.Prelude.{◌≡◌, ◌↔◌, IsTrue};
+ghost use Rattle.fa_ledger.specs.Calls.{call_shown, given_shown};
 ghost use Rattle.fa_ledger.specs.Choices.{Allows};
 
 use crate::name::NodeName;
 use crate::placing::may_be_placed;
 use fa_bodies::{Reply, Request};
+use std::slice;
 
 /// The names of the nodes that an answer gives, in its order.
 #[derive(Debug, Drop)]
@@ -17,6 +18,21 @@ pub enum Given {
     One(NodeName),
     /// Those of the entries of a READDIRPLUS.
     Several(Vec<NodeName>),
+}
+
+impl Given {
+    /// The names, as a slice.
+    ///
+    /// Takes no memory, in constant time.
+    pub fn names(&self) -> &[NodeName]
+        ensures { result.now ≡ given_shown self.now }
+    {
+        match self {
+            Given::Nothing => &[],
+            Given::One(name) => slice::from_ref(name),
+            Given::Several(names) => names,
+        }
+    }
 }
 
 /// The answer to a tree request.
@@ -30,6 +46,17 @@ pub struct Answer<'a> {
     pub given: Given,
     /// Whether it opens a file handle that was not open.
     pub opens: bool,
+}
+
+/// What a READDIR or READDIRPLUS goes on from.
+#[derive(Clone, Copy, Debug, PartialEq, Eq)]
+pub struct Listing {
+    /// The number of the earlier such request whose listing it continues, and how many of that one's entries count.
+    pub before: Option<(u32, u32)>,
+    /// Whether no earlier reply has the offset that it begins at.
+    pub adrift: bool,
+    /// Whether the handle was opened more than once.
+    pub shared: bool,
 }
 
 /// A tree request, with its answer where it has one.
@@ -49,6 +76,8 @@ pub struct Call<'a> {
     pub direct: bool,
     /// Whether its success empties a file that is there (`O_TRUNC` of POSIX `open`).
     pub truncates: bool,
+    /// What a READDIR or READDIRPLUS goes on from. None for every call, as this is not judged yet.
+    pub listing: Option<Listing>,
     /// Its answer.
     pub answer: Option<Answer<'a>>,
 }

@@ -1,13 +1,16 @@
 //! The file handles that are open.
 
-ghost use Rattle.std.specs.Prelude.{◌≡◌, [], ◌<◌, cond, OnOk, OnErr, IfSome, IsNone, None, Some, is_none};
+ghost use Rattle.std.specs.Prelude.{◌≡◌, [], ◌<◌, cond, OnOk, OnErr, IfSome, IsTrue, None, Some, is_none};
 ghost use Rattle.indexmap.specs.IndexMap.{get, spare, IsUnchanged};
 ghost use Rattle.fa_capture.specs.declared.limits.TheConstants.{MAX_MESSAGES};
+ghost use Rattle.fa_ledger.specs.declared.handles.Handle.{Handle};
 ghost use Rattle.fa_ledger.specs.declared.key.Key.{Key};
 ghost use Rattle.fa_ledger.specs.Keys.{key_eq};
-ghost use Rattle.fa_ledger.specs.parts.Steps.{opened_again, closed_once};
+ghost use Rattle.fa_ledger.specs.parts.Steps.{opened_again, closed_once, opens_new, IsOpenedBy};
 
 use crate::key::Key;
+use bitflags::Flags;
+use fa_bodies::{FopenFlags, OpenOut};
 use indexmap::IndexMap;
 use std::alloc::{AllocError, Global};
 
@@ -47,20 +50,33 @@ impl Handles {
         self.opened.get(key).copied()
     }
 
-    /// Makes room for a key, so that it can be opened without memory.
-    pub fn reserve(&mut self, key: &Key) -> Result<(), AllocError>
+    /// Makes room for the key that a success opens, if any, so that it can be noted without memory.
+    pub fn reserve(&mut self, opened: &Option<(Key, OpenOut)>) -> Result<(), AllocError>
         ensures kept { IsUnchanged self.old.opened self.new.opened }
-        ensures room { OnOk result (get key_eq self.old.opened key.now ≡ None → 0 < spare self.new.opened) }
-        ensures wanted { OnErr result (get key_eq self.old.opened key.now ≡ None) }
+        ensures room { OnOk result (IsTrue (opens_new self.old.opened.entries opened.now) → 0 < spare self.new.opened) }
+        ensures wanted { OnErr result (IsTrue (opens_new self.old.opened.entries opened.now)) }
     {
-        match self.get(key) {
-            Some(_) => Ok(()),
-            None => self.opened.reserve(1),
+        match opened {
+            Some((key, _)) if self.get(key).is_none() => self.opened.reserve(1),
+            _ => Ok(()),
         }
     }
 
+    /// Notes the key that the answer to the request of this number opens, if any: whether it opens one that was not open.
+    pub fn note_opened(&mut self, asked: u32, opened: Option<(Key, OpenOut)>) -> bool
+        requires room { IsTrue (opens_new self.old.opened.entries opened) → 0 < spare self.old.opened }
+        requires few { (key : Key) (handle : Handle) → get key_eq self.old.opened key ≡ Some handle → handle.openings < MAX_MESSAGES }
+        ensures anew { result ≡ opens_new self.old.opened.entries opened }
+        ensures noted { IsOpenedBy asked opened self.old.opened.entries self.new.opened.entries }
+    {
+        let Some((key, out)) = opened else {
+            return false;
+        };
+        self.open(key, asked, out.open_flags.contains(FopenFlags::DIRECT_IO))
+    }
+
     /// Opens a key once more, by the answer to the request of this number: whether it was not open.
-    pub fn open(&mut self, key: Key, asked: u32, direct: bool) -> bool
+    fn open(&mut self, key: Key, asked: u32, direct: bool) -> bool
         requires room { get key_eq self.old.opened key ≡ None → 0 < spare self.old.opened }
         requires few { IfSome (get key_eq self.old.opened key) (λ handle. handle.openings < MAX_MESSAGES) }
         ensures anew { result ≡ is_none (get key_eq self.old.opened key) }

@@ -2,14 +2,23 @@
 //! open, and the tree requests with their answers.
 #![tactic(auto)]
 
+mod books;
 mod call;
 mod call_list;
+mod calls;
+mod error;
+mod giving;
 mod handles;
 mod key;
 pub mod laws;
+mod ledger;
 mod name;
+mod naming;
 mod nodes;
 mod placing;
 
-pub use call::{Answer, Call, Given};
+pub use call::{Answer, Call, Given, Listing};
+pub use calls::Calls;
+pub use error::LedgerError;
+pub use ledger::Ledger;
 pub use name::NodeName;

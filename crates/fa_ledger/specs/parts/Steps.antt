@@ -1,15 +1,52 @@
 -- What one event does to a node, to a key and to the calls.
-use Rattle.std.specs.Prelude.{◌≡◌, ℕ, zero, suc, ◌+◌, ◌-◌, ◌<◌, ◌≤◌, ◌==◌, Bool, true, false, ◌||◌, ◌⊎◌, not, filter, nat_eq, if◌then◌else◌, List, ◌∷◌, ◌++◌, map, count_by, Option, None, Some, is_none, option_map}
+use Rattle.std.specs.Prelude.{cond, ◌≡◌, ℕ, zero, suc, ◌+◌, ◌-◌, ◌<◌, ◌≤◌, ◌==◌, Bool, true, false, ◌||◌, ◌⊎◌, not, filter, nat_eq, if◌then◌else◌, List, [], ◌∷◌, ◌++◌, map, count_by, Option, None, Some, is_none, option_map}
 use Rattle.std.specs.List.{list_any}
 use Rattle.std.specs.Map.{lookup}
 use Rattle.std.specs.Option.{option_map_or}
 use Rattle.fa_bodies.specs.declared.requests.TheConstants.{ROOT_ID}
+use Rattle.fa_bodies.specs.declared.handles.OpenOut.{OpenOut}
+use Rattle.fa_bodies.specs.FlagBits.{atomic_o_trunc, fopen_direct_io}
+use Rattle.fa_bodies.specs.Flags.{HasFlag, init_bits, fopen_bits}
+use Rattle.fa_bodies.specs.Requests.{PlainBody}
+use Rattle.fa_bodies.specs.Requests.PlainBody.{Init, Open, Opendir, Create}
+use Rattle.fa_bodies.specs.Replies.{PlainReply}
+use Rattle.fa_bodies.specs.Replies.PlainReply.{Created, Opened, Listed, InitAnswer}
 use Rattle.fa_ledger.specs.declared.handles.Handle.{Handle}
+use Rattle.fa_ledger.specs.declared.key.HandleKind.TheVariants.{File, Directory}
+use Rattle.fa_ledger.specs.declared.key.Key.{Key}
 use Rattle.fa_ledger.specs.declared.name.NodeName.{NodeName}
 use Rattle.fa_ledger.specs.declared.name.NodeName.TheVariants.{Root, Given}
+use Rattle.fa_ledger.specs.declared.naming.Named.{Named}
 use Rattle.fa_ledger.specs.declared.nodes.Lookups.{Lookups}
 use Rattle.fa_ledger.specs.Counts.{total_taken}
+use Rattle.fa_ledger.specs.Keys.{key_eq, has_flag}
 use Rattle.fa_ledger.specs.Calls.{PlainCall, PlainAnswer}
+
+-- the nodes that are named, as a list
+abbrev pub named_list : Named → List ℕ
+named_list named = named.node ∷ option_map_or (λ other. other ∷ []) named.other []
+
+-- what is there, as a list
+abbrev pub as_list : Option ℕ → List ℕ
+as_list None = []
+as_list (Some n) = n ∷ []
+
+-- the reply is a listing
+abbrev pub IsListing : PlainReply → Type 0
+IsListing (Listed ds) = Unit {0}
+IsListing other = ⊥
+
+-- the key that a success opens, and how, where its request named this node and the reply gives these
+abbrev pub opened_with : NodeName → List NodeName → PlainBody → PlainReply → Option (Key × OpenOut)
+opened_with node given (Open o) (Opened out) = Some (record { node = node; fh = out.fh; kind = File }, out)
+opened_with node given (Opendir o) (Opened out) = Some (record { node = node; fh = out.fh; kind = Directory }, out)
+opened_with node (given ∷ []) (Create flags mode umask name) (Created entry out) = Some (record { node = given; fh = out.fh; kind = File }, out)
+opened_with node given body reply = None
+
+-- both sides of INIT set FUSE_ATOMIC_O_TRUNC
+abbrev pub SettlesTruncation : PlainBody → PlainReply → Type 0
+SettlesTruncation (Init i) (InitAnswer n) = HasFlag (init_bits i.flags) atomic_o_trunc × HasFlag (init_bits n.flags) atomic_o_trunc
+SettlesTruncation other reply = ⊥
 
 -- a node that is given so often by the reply at this number
 abbrev pub given_again : ℕ → ℕ → Option Lookups → Option Lookups
@@ -89,6 +126,18 @@ opened_again asked direct None = record { openings = 1; name = asked; shared = f
 opened_again asked direct (Some h) =
     record { openings = h.openings + 1; name = h.name; shared = true; direct = h.direct || direct }
 
+-- a success opens a key that is not open, as a test
+abbrev pub opens_new : List (Key × Handle) → Option (Key × OpenOut) → Bool
+opens_new opened which = option_map_or (λ w. is_none (lookup (key_eq w.0) opened)) which false
+
+-- the keys that are open before and after the answer to a request opens this one, if any
+abbrev pub IsOpenedBy : (asked : ℕ) → Option (Key × OpenOut) → List (Key × Handle) → List (Key × Handle) → Type 0
+IsOpenedBy asked None old new = (other : Key) → lookup (key_eq other) new ≡ lookup (key_eq other) old
+IsOpenedBy asked (Some which) old new =
+    (other : Key) → lookup (key_eq other) new
+    ≡ cond (key_eq which.0 other) (Some (opened_again asked (has_flag (fopen_bits which.1.open_flags) fopen_direct_io) (lookup (key_eq which.0) old)))
+    (lookup (key_eq other) old)
+
 -- a key of which one opening is closed: it goes where none is left
 abbrev pub closed_once : Option Handle → Option Handle
 closed_once None = None
@@ -107,6 +156,7 @@ with_answer calls asked answer =
       handle = call.handle;
       direct = call.direct;
       truncates = call.truncates;
+      listing = call.listing;
       answer = Some answer;
     }
     else call)) calls

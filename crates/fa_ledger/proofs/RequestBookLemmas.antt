@@ -1,0 +1,302 @@
+-- A request that is noted in the books: what it leaves, what it takes, what it closes and what it adds.
+use Rattle.std.proofs.Common.{◌≡◌, ℕ, ◌<◌, ◌≤◌, Bool, true, false, cond, List, [], ◌∷◌, ◌++◌, length, Option, None, Some, refl, sym, ap, subst, ◌∙◌, inl, inr, arith}
+use Rattle.std.specs.Prelude.{◌↔◌, nat_eq, All, IsTrue, MatchOption, IsSomeAnd, option_and_then}
+use Rattle.std.specs.Borrow.{Bor}
+use Rattle.std.specs.Map.{lookup}
+use Rattle.fa_capture.specs.declared.codes.TheConstants.{FORGOTTEN_TOO_OFTEN, CLOSED_HANDLE}
+use Rattle.fa_capture.specs.Checks.{AllHold, FirstFailure}
+use Rattle.fa_capture.specs.Message.{Message}
+use Rattle.fa_bodies.specs.FlagBits.{atomic_o_trunc}
+use Rattle.fa_bodies.specs.declared.requests.RequestBody.{RequestBody}
+use Rattle.fa_bodies.specs.declared.requests.RequestBody.TheVariants as declared
+use Rattle.fa_bodies.specs.Requests.{PlainRequest, PlainBody, body_shown}
+use Rattle.fa_bodies.specs.Requests.PlainBody.{Forget, Release, Init, Releasedir, BatchForget, Passed}
+use Rattle.fa_bodies.specs.Replies.PlainReply.{InitAnswer}
+use Rattle.fa_session.specs.Events.{PlainEvent}
+use Rattle.fa_session.specs.Events.PlainEvent.{Asked, Answered}
+use Rattle.fa_session.proofs.CallerLemmas.{get_kept, get_back, get_cases}
+use Rattle.fa_ledger.specs.declared.books.Books.{Books}
+use Rattle.fa_ledger.specs.declared.books.Names.{Names}
+use Rattle.fa_ledger.specs.declared.books.Used.{Used}
+use Rattle.fa_ledger.specs.declared.call_list.CallList.{CallList}
+use Rattle.fa_ledger.specs.declared.handles.Handle.{Handle}
+use Rattle.fa_ledger.specs.declared.handles.Handles.{Handles}
+use Rattle.fa_ledger.specs.declared.key.Key.{Key}
+use Rattle.fa_ledger.specs.declared.nodes.Lookups.{Lookups}
+use Rattle.fa_ledger.specs.declared.nodes.Nodes.{Nodes}
+use Rattle.fa_ledger.specs.Counts.{body_takes, request_takes, total_taken, lookups_given, IsKnown}
+use Rattle.fa_ledger.specs.Names.{named_nodes, nodes_named}
+use Rattle.fa_ledger.specs.Keys.{key_eq, key_at, key_used, handle_used}
+use Rattle.fa_ledger.specs.Kinds.{IsTreeRequest}
+use Rattle.fa_ledger.specs.Handles.{is_closing, closing, IsDirect}
+use Rattle.fa_ledger.specs.Calls.{PlainCall, IsNegotiatedFlag, Truncates, IsHandleUsed, IsMark, IsAskedCall, AreCallsOf}
+use Rattle.fa_ledger.specs.Passing.{NamesKnown, TakesWithin, UsesOpen}
+use Rattle.fa_ledger.specs.Shows.{IsNodeOf, IsKeyOf}
+use Rattle.fa_ledger.specs.parts.BookParts.{NodesShow, KeysShow, BooksShow, Stands, AreNames, AreNamesIfAny, IsUsed, IsUsedIfAny, asked_checks}
+use Rattle.fa_ledger.specs.parts.Steps.{closed_once, lookup_of, but_root, AreWithin, IsTakenFrom, count_left}
+use Rattle.fa_ledger.proofs.HandleLemmas.{key_same}
+use Rattle.fa_ledger.proofs.KeyLemmas.{other_unclosed, none_unopened, none_unclosed, open_is_some, key_unmoved, key_closed}
+use Rattle.fa_ledger.proofs.NodeLemmas.{node_kept, node_taken, within_now, given_within}
+use Rattle.fa_ledger.proofs.TakingLemmas.{no_item}
+use Rattle.fa_ledger.proofs.CallStepLemmas.{calls_kept, calls_asked}
+
+-- what follows of a value, and else what holds of none
+pub match_then : {A : Type 0} (o : Option A) (P : Type 0) {Q : A → Type 0} (R : A → Type 0) → MatchOption o P Q → ((x : A) → Q x → R x) → MatchOption o P R
+match_then None P R is follows = is
+match_then (Some x) P R is follows = follows x is
+
+-- ---- kinds of requests
+
+-- a tree request closes nothing
+tree_not_closing : (b : PlainBody) → IsTreeRequest b → is_closing b ≡ false
+tree_not_closing (Release r) tree = absurd tree
+tree_not_closing (Releasedir r) tree = absurd tree
+tree_not_closing other tree = refl
+
+-- a request that names no nodes is no tree request, closes nothing and uses no handle
+record NamesNone (b : PlainBody) : Type 0 where
+  no_tree : IsTreeRequest b → ⊥
+  leaves : is_closing b ≡ false
+  uses : handle_used b ≡ None
+
+names_none : (node : ℕ) (b : PlainBody) → named_nodes node b ≡ [] → NamesNone b
+names_none node (Forget nlookup) none = record { no_tree = λ tree. tree; leaves = refl; uses = refl }
+names_none node (Init i) none = record { no_tree = λ tree. tree; leaves = refl; uses = refl }
+names_none node (BatchForget count items) none = record { no_tree = λ tree. tree; leaves = refl; uses = refl }
+names_none node Passed none = record { no_tree = λ tree. tree; leaves = refl; uses = refl }
+names_none node other none = absurd cc
+
+-- only FORGET and BATCH_FORGET take
+pub takes_none : (node : ℕ) (b : RequestBody) → ((nlookup : ℕ) → b ≡ declared.Forget nlookup → ⊥) → ((count : ℕ) (items : Bor (List ℕ)) → b ≡ declared.BatchForget count items → ⊥) → but_root (body_takes node (body_shown b)) ≡ []
+takes_none node (declared.Forget nlookup) no_forget no_batch = absurd (no_forget nlookup refl)
+takes_none node (declared.BatchForget count items) no_forget no_batch = absurd (no_batch count items refl)
+takes_none node other no_forget no_batch = refl
+
+-- ---- what any request leaves
+
+-- the flags of INIT
+flag_kept : (es : List PlainEvent) (at : ℕ) (r : PlainRequest) (flag : ℕ) → IsNegotiatedFlag (es ++ Asked at r ∷ []) flag ↔ IsNegotiatedFlag es flag
+flag_kept es at r flag = (
+  λ is. elim (get_cases es (Asked at r) is.0 (Answered is.0 is.1 is.2 (InitAnswer is.4)) is.5) [
+    | inl below ↦ (is.0, is.1, is.2, is.3, is.4, get_back es (Asked at r ∷ []) is.0 (Answered is.0 is.1 is.2 (InitAnswer is.4)) below is.5, is.6, is.7, is.8)
+    | inr now ↦ let clash : Answered is.0 is.1 is.2 (InitAnswer is.4) ≡ Asked at r = now.1 in absurd cc
+  ],
+  λ is. (is.0, is.1, is.2, is.3, is.4, get_kept es (Asked at r ∷ []) is.0 (Answered is.0 is.1 is.2 (InitAnswer is.4)) is.5, is.6, is.7, is.8),
+)
+
+mark_kept : (es : List PlainEvent) (at : ℕ) (r : PlainRequest) (flag : ℕ) (mark : Bool) → IsTrue mark ↔ IsNegotiatedFlag es flag → IsTrue mark ↔ IsNegotiatedFlag (es ++ Asked at r ∷ []) flag
+mark_kept es at r flag mark is =
+    let kept = flag_kept es at r flag in
+    (λ marked. kept.1 (is.0 marked), λ has. is.1 (kept.0 has))
+
+-- the nodes, where it takes nothing
+nodes_kept : (es : List PlainEvent) (at : ℕ) (r : PlainRequest) (known : List (ℕ × Lookups)) → request_takes r ≡ [] → NodesShow es known → NodesShow (es ++ Asked at r ∷ []) known
+nodes_kept es at r known none show node = node_kept es (Asked at r) node (lookup (nat_eq node) known) refl (ap (total_taken node) none) (show node)
+
+-- the keys, where it closes none
+keys_kept : (es : List PlainEvent) (at : ℕ) (r : PlainRequest) (opened : List (Key × Handle)) → is_closing r.body ≡ false → KeysShow es opened → KeysShow (es ++ Asked at r ∷ []) opened
+keys_kept es at r opened leaves show key =
+    let none : closing es (Asked at r) ≡ None = rw leaves refl in
+    key_unmoved es (Asked at r) key (lookup (key_eq key) opened) (none_unopened es (Asked at r) key refl) (none_unclosed es (Asked at r) key none) (show key)
+
+-- the calls, where it is no tree request
+others_kept : (es : List PlainEvent) (at : ℕ) (r : PlainRequest) (calls : List PlainCall) → (IsTreeRequest r.body → ⊥) → AreCallsOf es calls → AreCallsOf (es ++ Asked at r ∷ []) calls
+others_kept es at r calls no_tree are =
+    calls_kept es (Asked at r) calls are
+    (λ p s same tree. no_tree (let requests : s ≡ r = cc in subst (λ (q : PlainRequest). IsTreeRequest q.body) requests tree))
+    (λ n p s reply same tree. absurd cc)
+
+-- ---- a closing request
+
+-- the keys, where one is closed once
+keys_closed : (es : List PlainEvent) (at : ℕ) (r : PlainRequest) (old new : List (Key × Handle)) (used : Used) → is_closing r.body ≡ true → IsUsed es r old used
+    → ((other : Key) → lookup (key_eq other) new ≡ cond (key_eq used.key other) (closed_once (lookup (key_eq used.key) old)) (lookup (key_eq other) old))
+    → KeysShow es old → KeysShow (es ++ Asked at r ∷ []) new
+keys_closed es at r old new used closes is wrote show other =
+    let e : PlainEvent = Asked at r in
+    let closed : closing es e ≡ Some used.key = rw closes is.key in
+    elim (key_eq used.key other) as (λ b. key_eq used.key other ≡ b → lookup (key_eq other) new ≡ cond b (closed_once (lookup (key_eq used.key) old)) (lookup (key_eq other) old) → IsKeyOf (es ++ e ∷ []) other (lookup (key_eq other) new)) [
+      | true ↦ λ test now.
+          let same : used.key ≡ other = key_same used.key other test in
+          let now_closed = key_closed es e used.key (lookup (key_eq used.key) old) closed (open_is_some es used.key used.handle is.«open») (show used.key) in
+          subst (IsKeyOf (es ++ e ∷ []) other) (sym now) (subst (λ k. IsKeyOf (es ++ e ∷ []) k (closed_once (lookup (key_eq used.key) old))) same now_closed)
+      | false ↦ λ test now.
+          subst (IsKeyOf (es ++ e ∷ []) other) (sym now)
+          (key_unmoved es e other (lookup (key_eq other) old) (none_unopened es e other refl) (other_unclosed es e used.key other closed test) (show other))
+    ] refl (wrote other)
+
+-- ---- a tree request
+
+-- the handle that a call names is the one that its request uses
+handle_named : (es : List PlainEvent) (r : PlainRequest) (opened : List (Key × Handle)) (used : Option Used) (handle : Option ℕ) → IsUsedIfAny es r opened used
+    → MatchOption used (handle ≡ None) (λ u. IsSomeAnd handle (λ name. name ≡ u.handle.name)) → IsHandleUsed es (key_used es r) handle
+handle_named es r opened None handle is has =
+    let none : key_used es r ≡ None = ap (option_and_then (key_at es r.node)) is in
+    subst (λ k. IsHandleUsed es k handle) (sym none) has
+handle_named es r opened (Some used) None is has = absurd has
+handle_named es r opened (Some used) (Some name) is has =
+    subst (λ k. IsHandleUsed es k (Some name)) (sym is.key) (used.handle.name, ap (λ n. Some n) has, is.«open».named)
+
+-- its mark is that of this handle
+direct_marked : (es : List PlainEvent) (r : PlainRequest) (opened : List (Key × Handle)) (used : Option Used) (direct : Bool) → IsUsedIfAny es r opened used
+    → MatchOption used (direct ≡ false) (λ u. direct ≡ u.handle.direct) → IsMark (IsDirect es) (key_used es r) direct
+direct_marked es r opened None direct is has =
+    let none : key_used es r ≡ None = ap (option_and_then (key_at es r.node)) is in
+    subst (λ k. IsMark (IsDirect es) k direct) (sym none) has
+direct_marked es r opened (Some used) direct is has =
+    let mark : IsTrue direct ↔ IsDirect es used.key = subst (λ d. IsTrue d ↔ IsDirect es used.key) (sym has) is.«open».direct in
+    subst (λ k. IsMark (IsDirect es) k direct) (sym is.key) mark
+
+-- the call that a tree request adds
+abbrev pub new_call : ℕ → PlainRequest → Names → Option ℕ → Bool → Bool → PlainCall
+new_call at r names handle direct truncates = record {
+  asked = at;
+  request = r;
+  node = names.node;
+  other = names.other;
+  handle = handle;
+  direct = direct;
+  truncates = truncates;
+  listing = None;
+  answer = None;
+}
+
+-- ---- the books behind a request that names nodes
+
+-- one that is no tree request and closes nothing leaves them as they are
+pub shows_left : (es : List PlainEvent) (at : ℕ) (r : PlainRequest) (b : Books) → request_takes r ≡ [] → is_closing r.body ≡ false → (IsTreeRequest r.body → ⊥) → BooksShow es b
+    → BooksShow (es ++ Asked at r ∷ []) b
+shows_left es at r b none leaves no_tree shown = record {
+  truncating = mark_kept es at r atomic_o_trunc b.truncating shown.truncating;
+  nodes = nodes_kept es at r b.nodes.known.entries none shown.nodes;
+  keys = keys_kept es at r b.handles.opened.entries leaves shown.keys;
+  calls = others_kept es at r b.calls no_tree shown.calls;
+}
+
+-- a closing closes its key once
+pub shows_closed : (es : List PlainEvent) (at : ℕ) (r : PlainRequest) (b : Books) (handles : Handles) (used : Used) → request_takes r ≡ [] → is_closing r.body ≡ true → (IsTreeRequest r.body → ⊥)
+    → IsUsed es r b.handles.opened.entries used
+    → ((other : Key) → lookup (key_eq other) handles.opened.entries ≡ cond (key_eq used.key other) (closed_once (lookup (key_eq used.key) b.handles.opened.entries)) (lookup (key_eq other) b.handles.opened.entries))
+    → BooksShow es b → BooksShow (es ++ Asked at r ∷ []) (record b { handles = handles })
+shows_closed es at r b handles used none closes no_tree is wrote shown = record {
+  truncating = mark_kept es at r atomic_o_trunc b.truncating shown.truncating;
+  nodes = nodes_kept es at r b.nodes.known.entries none shown.nodes;
+  keys = keys_closed es at r b.handles.opened.entries handles.opened.entries used closes is wrote shown.keys;
+  calls = others_kept es at r b.calls no_tree shown.calls;
+}
+
+-- a tree request is one more call
+pub shows_called : (c : List Message) (m : Message) (es : List PlainEvent) (at : ℕ) (r : PlainRequest) (b : Books) (names : Names) (used : Option Used) (handle : Option ℕ) (direct truncates : Bool) (calls : CallList)
+    → Stands c m es (Asked at r) b → AreNames es r names → IsUsedIfAny es r b.handles.opened.entries used → request_takes r ≡ [] → IsTreeRequest r.body
+    → MatchOption used (handle ≡ None) (λ u. IsSomeAnd handle (λ name. name ≡ u.handle.name)) → MatchOption used (direct ≡ false) (λ u. direct ≡ u.handle.direct)
+    → ((before : List PlainEvent) → IsTrue b.truncating ↔ IsNegotiatedFlag before atomic_o_trunc → IsTrue truncates ↔ Truncates before r.body)
+    → calls ≡ b.calls ++ new_call at r names handle direct truncates ∷ []
+    → BooksShow (es ++ Asked at r ∷ []) (record b { calls = calls })
+shows_called c m es at r b names used handle direct truncates calls stands are uses none tree named marked empties pushed =
+    let number : at ≡ length es = stands.event.0 ∙ sym stands.are.counted in
+    let call : PlainCall = new_call at r names handle direct truncates in
+    let says : IsAskedCall es call = record {
+      tree = tree;
+      node = are.node;
+      other = are.other;
+      handle = handle_named es r b.handles.opened.entries used handle uses named;
+      direct = direct_marked es r b.handles.opened.entries used direct uses marked;
+      truncates = empties es stands.shown.truncating;
+      listing = refl;
+    } in
+    let more : AreCallsOf (es ++ Asked (length es) r ∷ []) (b.calls ++ call ∷ []) = calls_asked c es stands.are r b.calls call stands.shown.calls number refl refl says in
+    record {
+      truncating = mark_kept es at r atomic_o_trunc b.truncating stands.shown.truncating;
+      nodes = nodes_kept es at r b.nodes.known.entries none stands.shown.nodes;
+      keys = keys_kept es at r b.handles.opened.entries (tree_not_closing r.body tree) stands.shown.keys;
+      calls = subst (λ n. AreCallsOf (es ++ Asked n r ∷ []) calls) (sym number) (subst (AreCallsOf (es ++ Asked (length es) r ∷ [])) (sym pushed) more);
+    }
+
+-- ---- what is taken
+
+-- items take no more than is left exactly where the table says so
+takes_within : (es : List PlainEvent) (r : PlainRequest) (known : List (ℕ × Lookups)) (items : List (ℕ × ℕ)) → request_takes r ≡ but_root items → NodesShow es known
+    → AreWithin (lookup_of known) (but_root items) → TakesWithin es r
+takes_within es r known items takes show within earlier later node nlookup is =
+    (within_now es node (lookup_of known node) (total_taken node earlier) nlookup (show node)).1 (within earlier later node nlookup (sym takes ∙ is))
+
+within_takes : (es : List PlainEvent) (r : PlainRequest) (known : List (ℕ × Lookups)) (items : List (ℕ × ℕ)) → request_takes r ≡ but_root items → NodesShow es known
+    → TakesWithin es r → AreWithin (lookup_of known) (but_root items)
+within_takes es r known items takes show within earlier later node nlookup is =
+    (within_now es node (lookup_of known node) (total_taken node earlier) nlookup (show node)).0 (within earlier later node nlookup (takes ∙ is))
+
+-- no more is left of a node than was given
+left_within : (es : List PlainEvent) (node : ℕ) (x : Option Lookups) → IsNodeOf es node x → count_left x ≤ lookups_given es node
+left_within es node None is = omega arith
+left_within es node (Some l) is = omega (arith, is.left)
+
+-- what is left of a node fits
+pub left_few : (c : List Message) (m : Message) (es : List PlainEvent) (e : PlainEvent) (b : Books) → Stands c m es e b → (node : ℕ) → count_left (lookup_of b.nodes.known.entries node) < 18446744073709551616
+left_few c m es e b stands node =
+    let few : length c < 16777216 = stands.few in
+    omega (arith, few, stands.are.counted, left_within es node (lookup_of b.nodes.known.entries node) (stands.shown.nodes node), given_within c es node stands.are)
+
+-- ---- requests that take, and name no nodes
+
+-- the books behind a request that takes these items
+pub shows_taken : (es : List PlainEvent) (at : ℕ) (r : PlainRequest) (b : Books) (nodes : Nodes) (items : List (ℕ × ℕ)) → nodes_named r ≡ [] → request_takes r ≡ but_root items
+    → ((node : ℕ) → IsTakenFrom (total_taken node (but_root items)) (lookup (nat_eq node) b.nodes.known.entries) (lookup (nat_eq node) nodes.known.entries))
+    → BooksShow es b → BooksShow (es ++ Asked at r ∷ []) (record b { nodes = nodes })
+shows_taken es at r b nodes items none takes took shown =
+    let is : NamesNone r.body = names_none r.node r.body none in
+    record {
+      truncating = mark_kept es at r atomic_o_trunc b.truncating shown.truncating;
+      nodes = λ node. node_taken es (Asked at r) node (total_taken node (but_root items)) (lookup (nat_eq node) b.nodes.known.entries) (lookup (nat_eq node) nodes.known.entries) refl (ap (total_taken node) takes) (took node) (shown.nodes node);
+      keys = keys_kept es at r b.handles.opened.entries is.leaves shown.keys;
+      calls = others_kept es at r b.calls is.no_tree shown.calls;
+    }
+
+-- where no node is named, each that is named is known
+none_known : (es : List PlainEvent) (r : PlainRequest) → nodes_named r ≡ [] → NamesKnown es r
+none_known es r none = subst (All (IsKnown es)) (sym none) (λ k d within. absurd (omega (arith, within)))
+
+-- the rules hold of what takes no more than is left
+pub takes_keep : (es : List PlainEvent) (r : PlainRequest) (known : List (ℕ × Lookups)) (items : List (ℕ × ℕ)) → nodes_named r ≡ [] → request_takes r ≡ but_root items → NodesShow es known
+    → AreWithin (lookup_of known) (but_root items) → AllHold (asked_checks es r)
+takes_keep es r known items none takes show within =
+    (none_known es r none, (takes_within es r known items takes show within, (inl (names_none r.node r.body none).uses, tt)))
+
+-- what takes more breaks the second
+pub takes_fail : (es : List PlainEvent) (r : PlainRequest) (known : List (ℕ × Lookups)) (items : List (ℕ × ℕ)) (code : ℕ) → nodes_named r ≡ [] → request_takes r ≡ but_root items → NodesShow es known
+    → (AreWithin (lookup_of known) (but_root items) → ⊥) → code ≡ FORGOTTEN_TOO_OFTEN → FirstFailure (asked_checks es r) code
+takes_fail es r known items code none takes show over is =
+    inr (none_known es r none, inl ((λ within. over (within_takes es r known items takes show within)), is))
+
+-- ---- requests that take nothing
+
+-- where nothing is taken, no more is than is left
+nothing_taken : (es : List PlainEvent) (r : PlainRequest) → request_takes r ≡ [] → TakesWithin es r
+nothing_taken es r takes earlier later node nlookup is = absurd (no_item earlier (node, nlookup) later (sym takes ∙ is))
+
+-- a request that names no nodes and takes nothing keeps the rules
+pub none_keep : (es : List PlainEvent) (r : PlainRequest) → nodes_named r ≡ [] → request_takes r ≡ [] → AllHold (asked_checks es r)
+none_keep es r none takes = (none_known es r none, (nothing_taken es r takes, (inl (names_none r.node r.body none).uses, tt)))
+
+-- and leaves the books as they are
+pub none_shows : (es : List PlainEvent) (at : ℕ) (r : PlainRequest) (b : Books) → nodes_named r ≡ [] → request_takes r ≡ [] → BooksShow es b → BooksShow (es ++ Asked at r ∷ []) b
+none_shows es at r b none takes shown =
+    let is : NamesNone r.body = names_none r.node r.body none in
+    shows_left es at r b takes is.leaves is.no_tree shown
+
+-- the names of the nodes of a request that names some
+pub names_there : {o : Option Names} (es : List PlainEvent) (r : PlainRequest) (names : Names) → o ≡ Some names → AreNamesIfAny es r o → AreNames es r names
+names_there es r names is are = subst (AreNamesIfAny es r) is are
+
+-- a handle that is used is open
+used_stands : (es : List PlainEvent) (r : PlainRequest) (opened : List (Key × Handle)) (used : Option Used) → IsUsedIfAny es r opened used → UsesOpen es r
+used_stands es r opened None is = inl is
+used_stands es r opened (Some used) is = inr (used.key, is.key, open_is_some es used.key used.handle is.«open»)
+
+-- a request that names known nodes and uses an open handle keeps the rules
+pub uses_keep : (es : List PlainEvent) (r : PlainRequest) (opened : List (Key × Handle)) (names : Names) (used : Option Used) → AreNames es r names → request_takes r ≡ [] → IsUsedIfAny es r opened used
+    → AllHold (asked_checks es r)
+uses_keep es r opened names used are takes is = (are.known, (nothing_taken es r takes, (used_stands es r opened used is, tt)))
+
+-- one whose handle is not open breaks the third
+pub uses_fail : (es : List PlainEvent) (r : PlainRequest) (names : Names) (code : ℕ) → AreNames es r names → request_takes r ≡ [] → (UsesOpen es r → ⊥) → code ≡ CLOSED_HANDLE → FirstFailure (asked_checks es r) code
+uses_fail es r names code are takes not_open is = inr (are.known, inr (nothing_taken es r takes, inl (not_open, is)))

@@ -1,0 +1,84 @@
+use Rattle.std.proofs.Common.{◌+◌, ◌≤◌, Some, List, length, sym, ap, subst, refl, ◌∙◌, ◌≡◌, nat_eq}
+use Rattle.std.specs.Prelude.{IsTrue}
+use Rattle.std.proofs.lemmas.Result.{err_from_is_err_and}
+use Rattle.std.specs.Map.{lookup}
+use Rattle.fa_bodies.specs.Requests.{request_shown, body_shown}
+use Rattle.fa_bodies.specs.Replies.{reply_shown}
+use Rattle.fa_ledger.specs.declared.name.NodeName.{NodeName}
+use Rattle.fa_ledger.specs.Calls.{given_shown}
+use Rattle.fa_ledger.specs.Keys.{key_eq}
+use Rattle.fa_ledger.specs.parts.Steps.{given_again, times_named, count_left, opened_with, opens_new, some_new, IsOpenedBy}
+use Rattle.fa_ledger.proofs.ReplyBookLemmas.{give_fits, open_fits, answer_shows, names_more, nodes_more, keys_more}
+use Rattle.fa_ledger.proofs.books.Books.note_answer.Goals as goal
+
+pub returns-in_err-given-clause-memory : goal.returns-in_err-given-clause-memory
+returns-in_err-given-clause-memory c =
+    let p = err_from_is_err_and c.from_residual.result c.from_residual.ensures.1 in
+    rw p.1 (p.2, λ before m es stands. names_more es c.args.at c.args.asked (request_shown c.args.request.now) (reply_shown c.args.reply) c.in_err-given.ensures.wanted)
+
+pub returns-in_err-reserve-clause-memory : goal.returns-in_err-reserve-clause-memory
+returns-in_err-reserve-clause-memory c =
+    let p = err_from_is_err_and c.from_residual-in_err-reserve.result c.from_residual-in_err-reserve.ensures.1 in
+    let named = c.names-names.ensures ∙ c.in_ok-given.ensures.named in
+    rw p.1 (
+      p.2,
+      λ before m es stands.
+          nodes_more es c.args.at c.args.asked (request_shown c.args.request.now) (reply_shown c.args.reply) c.args.self.now c.names-names.result.now stands.shown named c.in_err-reserve.ensures.wanted,
+    )
+
+pub returns-in_err-reserve-2-clause-memory : goal.returns-in_err-reserve-2-clause-memory
+returns-in_err-reserve-2-clause-memory c =
+    let p = err_from_is_err_and c.from_residual-in_err-reserve-2.result c.from_residual-in_err-reserve-2.ensures.1 in
+    rw p.1 (
+      p.2,
+      λ before m es stands.
+          keys_more before m es c.args.at c.args.asked (request_shown c.args.request.now) (reply_shown c.args.reply) c.args.self.now c.names-names.result.now c.opened-opened.result (record {
+            stands = stands;
+            may = c.requires.allowed;
+            node = c.args.node;
+            place = c.requires.waits.0;
+            call = c.requires.waits.1;
+            waits = c.requires.waits.2;
+            own = c.requires.waits.3;
+            named = c.names-names.ensures ∙ c.in_ok-given.ensures.named;
+            opens = c.opened-opened.ensures;
+          }) c.in_err-reserve-2.ensures.wanted,
+    )
+
+pub give-requires-clause-room : goal.give-requires-clause-room
+give-requires-clause-room c = λ new.
+    c.in_ok-reserve.ensures.room (subst (λ known. IsTrue (some_new known c.names-names.result.now)) c.in_ok-reserve.ensures.kept new)
+
+pub give-requires-clause-few : goal.give-requires-clause-few
+give-requires-clause-few c = λ node.
+    let stands = c.requires.stands in
+    let fits = give_fits stands.0 stands.1 stands.2 c.args.at c.args.asked (request_shown c.args.request.now) (reply_shown c.args.reply) c.args.self.now c.names-names.result.now stands.3 (c.names-names.ensures ∙ c.in_ok-given.ensures.named) node in
+    subst (λ known. count_left (lookup (nat_eq node) known) + length c.names-names.result.now ≤ 18446744073709551615) (sym c.in_ok-reserve.ensures.kept) fits
+
+pub note_opened-opens-requires-clause-few : goal.note_opened-opens-requires-clause-few
+note_opened-opens-requires-clause-few c = λ key handle there.
+    let stands = c.requires.stands in
+    open_fits stands.0 stands.1 stands.2 _ c.args.self.now stands.3 key handle (subst (λ opened. lookup (key_eq key) opened ≡ Some handle) c.in_ok-reserve-2.ensures.kept there)
+
+pub returns-clause-shows : goal.returns-clause-shows
+returns-clause-shows c = λ before m es stands.
+    let names : List NodeName = given_shown c.in_ok-given.given in
+    let same = c.names-names.ensures in
+    let which = c.opened-opened.result in
+    answer_shows before m es c.args.at c.args.asked (request_shown c.args.request.now) (reply_shown c.args.reply) c.args.self.now _ names which c.note_opened-opens.result (record {
+      stands = stands;
+      may = c.requires.allowed;
+      node = c.args.node;
+      place = c.requires.waits.0;
+      call = c.requires.waits.1;
+      waits = c.requires.waits.2;
+      own = c.requires.waits.3;
+      named = c.in_ok-given.ensures.named;
+      opens = c.opened-opened.ensures ∙ ap (λ ns. opened_with c.args.node ns (body_shown c.args.request.now.body) (reply_shown c.args.reply)) same;
+    })
+    (c.note_opened-opens.ensures.anew ∙ ap (λ opened. opens_new opened which) c.in_ok-reserve-2.ensures.kept)
+    refl
+    (λ node. c.give.ensures node ∙ ap (λ ns. given_again c.args.at (times_named node ns) (lookup (nat_eq node) c.reserve.new.self.known.entries)) same
+    ∙ ap (λ known. given_again c.args.at (times_named node names) (lookup (nat_eq node) known)) c.in_ok-reserve.ensures.kept)
+    (subst (λ opened. IsOpenedBy c.args.asked which opened c.note_opened-opens.new.self.opened.entries) c.in_ok-reserve-2.ensures.kept c.note_opened-opens.ensures.noted)
+    c.answer.ensures

@@ -1,0 +1,50 @@
+-- What comes next, and why a ledger does not take it.
+use Rattle.std.specs.Prelude.{ℕ, ◌<◌, ◌⊎◌, List, [], ◌∷◌, ◌++◌, length, Contains}
+use Rattle.fa_capture.specs.declared.limits.TheConstants.{MAX_MESSAGES}
+use Rattle.fa_capture.specs.Checks.{FirstFailure}
+use Rattle.fa_capture.specs.Message.{Message}
+use Rattle.fa_bodies.specs.Requests.{PlainRequest}
+use Rattle.fa_bodies.specs.Replies.{PlainReply}
+use Rattle.fa_bodies.specs.Replies.PlainReply.{Listed}
+use Rattle.fa_session.specs.Allowed.{IsAllowed}
+use Rattle.fa_session.specs.Events.{PlainEvent, IsEvent}
+use Rattle.fa_session.specs.Events.PlainEvent.{Asked, Answered, Notice}
+use Rattle.fa_ledger.specs.declared.error.LedgerError.{LedgerError}
+use Rattle.fa_ledger.specs.declared.error.LedgerError.TheVariants.{Refused, Memory}
+use Rattle.fa_ledger.specs.Events.{AreEvents}
+use Rattle.fa_ledger.specs.Counts.{nodes_given, IsCounted}
+use Rattle.fa_ledger.specs.Kinds.{IsTreeRequest}
+use Rattle.fa_ledger.specs.Passing.{message_checks, Passes}
+use Rattle.fa_ledger.specs.Calls.{OpensAnew}
+use Rattle.fa_ledger.specs.Plain.{PlainLedger}
+use Rattle.fa_ledger.specs.Shows.{Shows}
+
+-- The ledger shows these messages, and the event is what the session says of the next message.
+pub record IsNext (c : List Message) (m : Message) (s : PlainLedger) (e : PlainEvent) : Type 0 where
+  pub shows : Shows c s
+  pub few : length c < MAX_MESSAGES
+  pub allowed : IsAllowed c m
+  pub event : IsEvent c m e
+
+-- the event gives a node that is not counted
+abbrev pub GivesNew : List PlainEvent → PlainRequest → PlainReply → Type 0
+GivesNew es r reply = (node : ℕ) × Contains (nodes_given r.body reply) node × (IsCounted es node → ⊥)
+
+-- the reply is a listing that gives nodes
+abbrev pub ListsNodes : PlainRequest → PlainReply → Type 0
+ListsNodes r (Listed ds) = (node : ℕ) × Contains (nodes_given r.body (Listed ds)) node
+ListsNodes r other = ⊥
+
+-- More is to be kept after the event: a further call; a node that was not counted, the names of a listing's nodes, or a key
+-- that was not open.
+abbrev pub IsMoreKept : List PlainEvent → PlainEvent → Type 0
+IsMoreKept es (Asked at r) = IsTreeRequest r.body
+IsMoreKept es (Answered at asked r reply) =
+    GivesNew es r reply ⊎ (ListsNodes r reply ⊎ OpensAnew (es ++ Answered at asked r reply ∷ []) at)
+IsMoreKept es (Notice at) = ⊥
+
+-- The next message is refused with the code of the first check that it fails. Memory is wanted only for a message that
+-- passes, where more is to be kept after it.
+abbrev pub IsRefusal : List Message → Message → PlainEvent → LedgerError → Type 0
+IsRefusal before m e (Refused code) = FirstFailure (message_checks before m) code
+IsRefusal before m e Memory = Passes before m × ((es : List PlainEvent) → AreEvents before es → IsMoreKept es e)

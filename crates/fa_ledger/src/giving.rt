@@ -1,0 +1,174 @@
+//! What a reply gives, opens and settles.
+
+ghost use Rattle.std.specs.Prelude.{◌≡◌, ◌≢◌, ◌↔◌, ℕ, List, [], ◌∷◌, map, nat_eq, All, IfOk, IfSome, IfNone, OnErr, IsTrue};
+ghost use Rattle.indexmap.specs.IndexMap.{get};
+ghost use Rattle.fa_bodies.specs.Dirents.{PlainDirent, dirent_shown};
+ghost use Rattle.fa_bodies.specs.Listing.{entries_left};
+ghost use Rattle.fa_bodies.specs.Requests.{body_shown};
+ghost use Rattle.fa_bodies.specs.Replies.{reply_shown};
+ghost use Rattle.fa_ledger.specs.Calls.{given_shown};
+ghost use Rattle.fa_ledger.specs.Counts.{node_of, nodes_given, nodes_of_entry, nodes_of_listing};
+ghost use Rattle.fa_ledger.specs.Passing.{MayBeGiven};
+ghost use Rattle.fa_ledger.specs.parts.Steps.{as_list, opened_with, given_to, SettlesTruncation, IsListing};
+
+use crate::call::Given;
+use crate::key::{HandleKind, Key};
+use crate::name::NodeName;
+use crate::nodes::Nodes;
+use bitflags::Flags;
+use fa_bodies::{Dirent, Entries, EntryOut, InitFlags, OpenOut, ROOT_ID, Reply, RequestBody};
+use std::alloc::{AllocError, Global};
+
+/// The node that an entry gives, if any: 0 stands for none.
+fn node_of(entry: &EntryOut) -> Option<u64>
+    ensures { as_list result ≡ node_of entry.now }
+{
+    if entry.nodeid == 0 {
+        return None;
+    }
+    Some(entry.nodeid)
+}
+
+/// The node that an entry of a listing gives, if any: a READDIR and the entries `.` and `..` give none.
+fn node_listed(dirent: &Dirent<'_>) -> Option<u64>
+    ensures { as_list result ≡ nodes_of_entry (dirent_shown dirent.now).entry (dirent_shown dirent.now).name }
+{
+    let entry = dirent.entry.as_ref()?;
+    if dirent.name == b".".as_slice() || dirent.name == b"..".as_slice() {
+        return None;
+    }
+    node_of(entry)
+}
+
+/// The node that a reply which is no listing gives, if any.
+fn node_given(body: &RequestBody<'_>, reply: &Reply<'_>) -> Option<u64>
+    ensures { (IsListing (reply_shown reply.now) → ⊥) → as_list result ≡ nodes_given (body_shown body.now) (reply_shown reply.now) }
+{
+    match reply {
+        Reply::Entry(entry) => match body {
+            RequestBody::Lookup { .. } => node_of(entry),
+            RequestBody::Symlink { .. }
+            | RequestBody::Mknod { .. }
+            | RequestBody::Mkdir { .. }
+            | RequestBody::Link { .. } => Some(entry.nodeid),
+            _ => None,
+        },
+        Reply::Created { entry, .. } => Some(entry.nodeid),
+        _ => None,
+    }
+}
+
+/// Whether a reply may give the nodes that it gives: none of them is the root or, but for LOOKUP and READDIRPLUS, which
+/// give no node by it, 0.
+///
+/// Takes no memory, in time linear in the entries of a listing.
+pub(crate) fn may_be_given(body: &RequestBody<'_>, reply: &Reply<'_>) -> bool
+    ensures { IsTrue result ↔ All MayBeGiven (nodes_given (body_shown body.now) (reply_shown reply.now)) }
+{
+    match reply {
+        Reply::Listed(listing) => may_be_listed(*listing),
+        _ => node_given(body, reply).is_none_or(|id| id != 0 && id != ROOT_ID),
+    }
+}
+
+/// Whether no entry of a listing gives the root.
+fn may_be_listed(listing: Entries<'_>) -> bool
+    ensures { IsTrue result ↔ All MayBeGiven (nodes_of_listing (entries_left listing.entry)) }
+{
+    for dirent in listing {
+        if node_listed(&dirent) == Some(ROOT_ID) {
+            return false;
+        }
+    }
+    true
+}
+
+/// The names of the nodes that the reply of this number gives.
+pub(crate) fn names_given(
+    alloc: Global,
+    nodes: &Nodes,
+    at: u32,
+    body: &RequestBody<'_>,
+    reply: &Reply<'_>,
+) -> Result<Given, AllocError>
+    ensures named { IfOk result (λ given. given_shown given ≡ map (λ id. given_to id at (get nat_eq nodes.now.known id)) (nodes_given (body_shown body.now) (reply_shown reply.now))) }
+    ensures wanted { OnErr result (IsListing (reply_shown reply.now) × (nodes_given (body_shown body.now) (reply_shown reply.now) ≢ [])) }
+{
+    match reply {
+        Reply::Listed(listing) => names_listed(alloc, nodes, at, *listing),
+        _ => Ok(node_given(body, reply).map_or(
+            Given::Nothing,
+            |id| Given::One(nodes.name_given(id, at)),
+        )),
+    }
+}
+
+/// The names of the nodes that a listing gives.
+fn names_listed(
+    alloc: Global,
+    nodes: &Nodes,
+    at: u32,
+    listing: Entries<'_>,
+) -> Result<Given, AllocError>
+    ensures named { IfOk result (λ given. given_shown given ≡ map (λ id. given_to id at (get nat_eq nodes.now.known id)) (nodes_of_listing (entries_left listing.entry))) }
+    ensures wanted { OnErr result (nodes_of_listing (entries_left listing.entry) ≢ []) }
+{
+    let mut names = Vec::new(alloc);
+    for dirent in listing {
+        if let Some(id) = node_listed(&dirent) {
+            names.push(nodes.name_given(id, at))?;
+        }
+    }
+    if names.is_empty() {
+        return Ok(Given::Nothing);
+    }
+    Ok(Given::Several(names))
+}
+
+/// The key that a success opens, and how, where its request named this node, and the reply gives these.
+pub(crate) fn opened(
+    node: NodeName,
+    given: &[NodeName],
+    body: &RequestBody<'_>,
+    reply: &Reply<'_>,
+) -> Option<(Key, OpenOut)>
+    ensures { result ≡ opened_with node given.now (body_shown body.now) (reply_shown reply.now) }
+{
+    match (body, reply) {
+        (RequestBody::Open(_), Reply::Opened(open)) => {
+            Some((key(node, open, HandleKind::File), *open))
+        }
+        (RequestBody::Opendir(_), Reply::Opened(open)) => {
+            Some((key(node, open, HandleKind::Directory), *open))
+        }
+        (RequestBody::Create { .. }, Reply::Created { open, .. }) => {
+            let [name] = given else { return None };
+            Some((key(*name, open, HandleKind::File), *open))
+        }
+        _ => None,
+    }
+}
+
+/// The key of a handle that is opened on a node.
+fn key(node: NodeName, handle: &OpenOut, kind: HandleKind) -> Key
+    ensures { result ≡ record { node = node; fh = handle.now.fh; kind = kind } }
+{
+    Key {
+        node,
+        fh: handle.fh,
+        kind,
+    }
+}
+
+/// Whether a reply settles that success of OPEN empties a file: both sides set `FUSE_ATOMIC_O_TRUNC` at INIT.
+pub(crate) fn settles_truncation(body: &RequestBody<'_>, reply: &Reply<'_>) -> bool
+    ensures { IsTrue result ↔ SettlesTruncation (body_shown body.now) (reply_shown reply.now) }
+{
+    match (body, reply) {
+        (RequestBody::Init(init), Reply::Negotiated(answer)) => {
+            let flag = InitFlags::ATOMIC_O_TRUNC;
+            init.flags.contains(flag) && answer.flags.contains(flag)
+        }
+        _ => false,
+    }
+}

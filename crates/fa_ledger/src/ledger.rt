@@ -1,0 +1,111 @@
+//! A ledger, event by event.
+
+ghost use Rattle.std.specs.Prelude.{◌≡◌, ◌∷◌, ◌++◌, [], ℕ, List, length, map, IfErr, OnOk, OnErr};
+ghost use Rattle.fa_capture.specs.Message.{Message};
+ghost use Rattle.fa_session.specs.Events.{event_shown};
+ghost use Rattle.fa_ledger.specs.Passing.{Passes};
+ghost use Rattle.fa_ledger.specs.Calls.{call_shown, AreCalls};
+ghost use Rattle.fa_ledger.specs.Shows.{Shows};
+ghost use Rattle.fa_ledger.specs.Refusals.{IsNext, IsRefusal};
+
+use crate::books::Books;
+use crate::calls::Calls;
+use crate::error::LedgerError;
+use fa_session::Event;
+use std::alloc::Global;
+use std::marker::Model;
+
+/// What the events of a capture leave: which nodes are known and by which names, which file handles are open, and the tree
+/// requests with their answers. The messages that it took all keep the protocol.
+#[derive(Drop)]
+pub struct Ledger<'a> {
+    /// How many messages came.
+    messages: u32,
+    /// What they left.
+    books: Books<'a>,
+}
+
+impl<'a> Model for Ledger<'a> {
+    ghost use Rattle.fa_ledger.specs.Plain.{PlainLedger};
+
+    ghost Value = { PlainLedger };
+
+    ghost use Rattle.fa_ledger.specs.parts.View.{ledger_shown, ShowsSome};
+
+    ghost view = { ledger_shown };
+
+    ghost invariant = { ShowsSome };
+}
+
+impl<'a> Ledger<'a> {
+    /// A ledger of no messages. What it stores later takes memory from `alloc`.
+    ///
+    /// Takes no memory, in constant time.
+    pub fn new(alloc: Global) -> Self
+        ensures { Shows [] result }
+    {
+        Ledger {
+            messages: 0,
+            books: Books::new(alloc),
+        }
+    }
+
+    /// Takes the event of the next message, if the message keeps the rules of nodes and file handles.
+    ///
+    /// The event is what [`Session::accept`](fa_session::Session::accept) says of that message, and the ledger took those
+    /// of all messages before it.
+    ///
+    /// **Nodes.** Each success of SYMLINK, MKNOD, MKDIR, LINK and CREATE, each success of LOOKUP with a node id other than
+    /// 0, and each entry of a READDIRPLUS reply with a node id other than 0 whose name is neither `.` nor `..` gives its
+    /// node id: the node's lookup count rises by one. FORGET and each item of BATCH_FORGET, in their order, take `nlookup`
+    /// back (`struct fuse_forget_in` and `struct fuse_forget_one` of `fuse.h`). The root, node 1, is always known, and a
+    /// forget of it takes nothing. A node has the name of the reply since which its count has been positive.
+    ///
+    /// **File handles.** A key is a node's name, a number `fh` and whether a file or a directory is open. A success of OPEN,
+    /// OPENDIR or CREATE opens its key; RELEASE and RELEASEDIR close one opening when they are asked. These are the rules of
+    /// this profile.
+    ///
+    /// # Errors
+    ///
+    /// The ledger is as it was after each of them.
+    ///
+    /// - [`LedgerError::Refused`] where the message does not keep the rules, with the code of the first that it breaks, one
+    ///   of [`fa_capture::codes`]: for a request `FORGOTTEN_NODE` where a node that it names is not known (FORGET,
+    ///   BATCH_FORGET, INIT and what is read by its header alone name none), then `FORGOTTEN_TOO_OFTEN` where a forget takes
+    ///   more than is left, then `CLOSED_HANDLE` where the key that it uses is not open (GETATTR and SETATTR use one only
+    ///   where `GETATTR_FH` or `FATTR_FH` is set); for a reply `NODE_ID_NOT_ALLOWED` where it gives the root, or 0 where
+    ///   that does not say that there is no node.
+    /// - [`LedgerError::Memory`] where memory was refused for one more call, node or key, or for the names of the nodes of a
+    ///   listing. The message keeps the rules, and its event may be handed in again.
+    ///
+    /// # Cost
+    ///
+    /// Expected constant time, as of hash tables, for each event, for each item of a BATCH_FORGET and for each entry of a
+    /// listing. It keeps a [`Call`](crate::Call) for each tree request, an entry for each node that is known and for each
+    /// key that is open, and for each tree request that waits its place; all grow by doubling. A listing's names take a list
+    /// of their own. No message bytes are copied.
+    pub fn accept(&mut self, event: Event<'a>) -> Result<(), LedgerError>
+        requires { (c : List Message) × (m : Message) × IsNext c m self.old (event_shown event) }
+        ensures passes { OnOk result ((c : List Message) (m : Message) → IsNext c m self.old (event_shown event.entry) → Passes c m) }
+        ensures shows { OnOk result ((c : List Message) (m : Message) → IsNext c m self.old (event_shown event.entry) → Shows (c ++ m ∷ []) self.new) }
+        ensures refused { IfErr result (λ error. (c : List Message) (m : Message) → IsNext c m self.old (event_shown event.entry) → IsRefusal c m (event_shown event.entry) error) }
+        ensures unchanged { OnErr result (self.new ≡ self.old) }
+    {
+        self.books.note(&event)?;
+        self.messages += 1;
+        Ok(())
+    }
+
+    /// The calls of the messages.
+    ///
+    /// Takes no memory, in constant time but for giving back the tables.
+    pub fn into_calls(self) -> Calls<'a>
+        ensures { (c : List Message) → Shows c self.entry → (result.messages ≡ length c) × AreCalls c (map call_shown result.list.items) }
+    {
+        let Ledger { messages, books } = self;
+        Calls {
+            messages,
+            list: books.calls.into_list(),
+        }
+    }
+}
