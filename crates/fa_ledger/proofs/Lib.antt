@@ -17,3 +17,4 @@ pub mod LedgerLemmas
 pub mod ReplyLemmas
 pub mod ReplyBookLemmas
 pub mod RequestBookLemmas
+pub mod CallerLemmas

@@ -171,11 +171,30 @@ listing_few (d ∷ ds) = omega (arith, listing_few ds, entry_one d.entry d.name,
 -- the entry of a success gives one node at most
 name_one : (body : PlainBody) (entry : EntryOut) → length (nodes_of_name body entry) ≤ 1
 name_one (Lookup name) entry = node_one entry
+name_one (Forget nlookup) entry = omega arith
+name_one (Getattr g) entry = omega arith
+name_one (Setattr s) entry = omega arith
+name_one Readlink entry = omega arith
 name_one (Symlink name target) entry = omega arith
 name_one (Mknod mode rdev umask name) entry = omega arith
 name_one (Mkdir mode umask name) entry = omega arith
+name_one (Unlink name) entry = omega arith
+name_one (Rmdir name) entry = omega arith
+name_one (Rename newdir old_name new_name) entry = omega arith
 name_one (Link oldnodeid new_name) entry = omega arith
-name_one other entry = omega arith
+name_one (Open o) entry = omega arith
+name_one (Read r) entry = omega arith
+name_one (Write fh offset size write_flags lock_owner flags payload) entry = omega arith
+name_one (Release r) entry = omega arith
+name_one (Flush f) entry = omega arith
+name_one (Init i) entry = omega arith
+name_one (Opendir o) entry = omega arith
+name_one (Readdir r) entry = omega arith
+name_one (Releasedir r) entry = omega arith
+name_one (Create flags mode umask name) entry = omega arith
+name_one (BatchForget count items) entry = omega arith
+name_one (Readdirplus r) entry = omega arith
+name_one Passed entry = omega arith
 
 -- the listing of a reply is one
 listed_same : (ds es : List PlainDirent) → Listed ds ≡ Listed es → ds ≡ es

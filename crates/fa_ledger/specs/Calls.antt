@@ -15,9 +15,9 @@ use Rattle.fa_session.specs.Events.{PlainEvent}
 use Rattle.fa_session.specs.Events.PlainEvent.{Asked, Answered}
 use Rattle.fa_ledger.specs.declared.call.Answer.{Answer}
 use Rattle.fa_ledger.specs.declared.call.Call.{Call}
-use Rattle.fa_ledger.specs.declared.call.Given.{Given}
+use Rattle.fa_ledger.specs.declared.call.GivenNodes.{GivenNodes}
 use Rattle.fa_ledger.specs.declared.call.Listing.{Listing}
-use Rattle.fa_ledger.specs.declared.call.Given.TheVariants.{Nothing, One, Several}
+use Rattle.fa_ledger.specs.declared.call.GivenNodes.TheVariants.{Nothing, One, Several}
 use Rattle.fa_ledger.specs.declared.key.Key.{Key}
 use Rattle.fa_ledger.specs.declared.name.NodeName.{NodeName}
 use Rattle.fa_ledger.specs.Events.{AreEvents}
@@ -147,7 +147,7 @@ pub record AreCalls (c : List Message) (calls : List PlainCall) : Type 0 where
 -- ---- what the code's words show
 
 -- the names in what an answer gives
-abbrev pub given_shown : Given → List NodeName
+abbrev pub given_shown : GivenNodes → List NodeName
 given_shown Nothing = []
 given_shown (One name) = name ∷ []
 given_shown (Several names) = names.items

@@ -39,11 +39,30 @@ nodes_of_listing (d ∷ ds) = nodes_of_entry d.entry d.name ++ nodes_of_listing 
 -- and LINK give whatever they say. No other success has such an entry.
 abbrev pub nodes_of_name : PlainBody → EntryOut → List ℕ
 nodes_of_name (Lookup name) entry = node_of entry
+nodes_of_name (Forget nlookup) entry = []
+nodes_of_name (Getattr g) entry = []
+nodes_of_name (Setattr s) entry = []
+nodes_of_name Readlink entry = []
 nodes_of_name (Symlink name target) entry = entry.nodeid ∷ []
 nodes_of_name (Mknod mode rdev umask name) entry = entry.nodeid ∷ []
 nodes_of_name (Mkdir mode umask name) entry = entry.nodeid ∷ []
+nodes_of_name (Unlink name) entry = []
+nodes_of_name (Rmdir name) entry = []
+nodes_of_name (Rename newdir old_name new_name) entry = []
 nodes_of_name (Link oldnodeid new_name) entry = entry.nodeid ∷ []
-nodes_of_name other entry = []
+nodes_of_name (Open o) entry = []
+nodes_of_name (Read r) entry = []
+nodes_of_name (Write fh offset size write_flags lock_owner flags payload) entry = []
+nodes_of_name (Release r) entry = []
+nodes_of_name (Flush f) entry = []
+nodes_of_name (Init i) entry = []
+nodes_of_name (Opendir o) entry = []
+nodes_of_name (Readdir r) entry = []
+nodes_of_name (Releasedir r) entry = []
+nodes_of_name (Create flags mode umask name) entry = []
+nodes_of_name (BatchForget count items) entry = []
+nodes_of_name (Readdirplus r) entry = []
+nodes_of_name Passed entry = []
 
 -- the nodes that a reply to a request gives, in their order
 abbrev pub nodes_given : PlainBody → PlainReply → List ℕ

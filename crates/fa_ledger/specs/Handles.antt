@@ -21,12 +21,36 @@ use Rattle.fa_ledger.specs.Keys.{key_eq, key_at, key_used}
 -- OPENDIR open under the name that their node had when they were asked; CREATE under the name that the node which it gives
 -- has after the answer.
 abbrev pub opened_by : (asked answered : List PlainEvent) → ℕ → PlainBody → PlainReply → Option (Key × OpenOut)
+opened_by asked answered node (Lookup name) reply = None
+opened_by asked answered node (Forget nlookup) reply = None
+opened_by asked answered node (Getattr g) reply = None
+opened_by asked answered node (Setattr s) reply = None
+opened_by asked answered node Readlink reply = None
+opened_by asked answered node (Symlink name target) reply = None
+opened_by asked answered node (Mknod mode rdev umask name) reply = None
+opened_by asked answered node (Mkdir mode umask name) reply = None
+opened_by asked answered node (Unlink name) reply = None
+opened_by asked answered node (Rmdir name) reply = None
+opened_by asked answered node (Rename newdir old_name new_name) reply = None
+opened_by asked answered node (Link oldnodeid new_name) reply = None
 opened_by asked answered node (Open o) (Opened out) = option_map (λ key. (key, out)) (key_at asked node (out.fh, File))
+opened_by asked answered node (Open o) reply = None
+opened_by asked answered node (Read r) reply = None
+opened_by asked answered node (Write fh offset size write_flags lock_owner flags payload) reply = None
+opened_by asked answered node (Release r) reply = None
+opened_by asked answered node (Flush f) reply = None
+opened_by asked answered node (Init i) reply = None
 opened_by asked answered node (Opendir o) (Opened out) =
     option_map (λ key. (key, out)) (key_at asked node (out.fh, Directory))
+opened_by asked answered node (Opendir o) reply = None
+opened_by asked answered node (Readdir r) reply = None
+opened_by asked answered node (Releasedir r) reply = None
 opened_by asked answered node (Create flags mode umask name) (Created entry out) =
     option_map (λ key. (key, out)) (key_at answered entry.nodeid (out.fh, File))
-opened_by asked answered node body reply = None
+opened_by asked answered node (Create flags mode umask name) reply = None
+opened_by asked answered node (BatchForget count items) reply = None
+opened_by asked answered node (Readdirplus r) reply = None
+opened_by asked answered node Passed reply = None
 
 -- the key that an event opens after the events before it, and how
 abbrev pub opening : List PlainEvent → PlainEvent → Option (Key × OpenOut)

@@ -47,7 +47,7 @@ pub record IsNamedBy (es : List PlainEvent) (node g : ℕ) : Type 0 where
 -- ---- what a request names
 
 -- the nodes that a request of this body names, where its header has this node: RENAME names the new directory too, and
--- LINK the file. FORGET, BATCH_FORGET, INIT and what is read by its header alone name none.
+-- LINK the file. FORGET, BATCH_FORGET, INIT and `Passed` name none.
 abbrev pub named_nodes : ℕ → PlainBody → List ℕ
 named_nodes node (Lookup name) = node ∷ []
 named_nodes node (Forget nlookup) = []

@@ -5,8 +5,9 @@ use Rattle.fa_ledger.specs.declared.key.Key.{Key}
 use Rattle.fa_ledger.specs.declared.nodes.Lookups.{Lookups}
 use Rattle.fa_ledger.specs.Calls.{PlainCall}
 
--- How many messages came; whether success of OPEN empties a file, since FUSE_ATOMIC_O_TRUNC (fuse.h) was negotiated; the
--- nodes that are known but for the root, by rising ids; the keys that are open, in no order; and the calls.
+-- How many messages came; whether success of OPEN with O_TRUNC empties a file, since FUSE_ATOMIC_O_TRUNC (fuse.h) was
+-- negotiated; the nodes that are known but for the root, by rising ids; the keys that are open, in the order of their
+-- table, which says nothing; and the calls.
 pub record PlainLedger : Type 0 where
   pub messages : ℕ
   pub truncating : Bool

@@ -26,7 +26,7 @@ pub record IsNext (c : List Message) (m : Message) (s : PlainLedger) (e : PlainE
   pub allowed : IsAllowed c m
   pub event : IsEvent c m e
 
--- the event gives a node that is not counted
+-- the reply gives a node that is not counted
 abbrev pub GivesNew : List PlainEvent → PlainRequest → PlainReply → Type 0
 GivesNew es r reply = (node : ℕ) × Contains (nodes_given r.body reply) node × (IsCounted es node → ⊥)
 

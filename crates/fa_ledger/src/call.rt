@@ -9,18 +9,18 @@ use crate::placing::may_be_placed;
 use fa_bodies::{Reply, Request};
 use std::slice;
 
-/// The names of the nodes that an answer gives, in its order.
+/// The names of the nodes that an answer gives, in its order. [`names`](GivenNodes::names) has them as a slice.
 #[derive(Debug, Drop)]
-pub enum Given {
+pub enum GivenNodes {
     /// It gives none.
     Nothing,
-    /// One: LOOKUP, SYMLINK, MKNOD, MKDIR, LINK, CREATE.
+    /// One, kept without memory of its own: LOOKUP, SYMLINK, MKNOD, MKDIR, LINK, CREATE.
     One(NodeName),
     /// Those of the entries of a READDIRPLUS.
     Several(Vec<NodeName>),
 }
 
-impl Given {
+impl GivenNodes {
     /// The names, as a slice.
     ///
     /// Takes no memory, in constant time.
@@ -28,9 +28,9 @@ impl Given {
         ensures { result.now ≡ given_shown self.now }
     {
         match self {
-            Given::Nothing => &[],
-            Given::One(name) => slice::from_ref(name),
-            Given::Several(names) => names,
+            GivenNodes::Nothing => &[],
+            GivenNodes::One(name) => slice::from_ref(name),
+            GivenNodes::Several(names) => names,
         }
     }
 }
@@ -43,7 +43,7 @@ pub struct Answer<'a> {
     /// What the server says.
     pub reply: Reply<'a>,
     /// The nodes that it gives.
-    pub given: Given,
+    pub given: GivenNodes,
     /// Whether it opens a file handle that was not open.
     pub opens: bool,
 }
@@ -53,9 +53,9 @@ pub struct Answer<'a> {
 pub struct Listing {
     /// The number of the earlier such request whose listing it continues, and how many of that one's entries count.
     pub before: Option<(u32, u32)>,
-    /// Whether no earlier reply has the offset that it begins at.
+    /// Whether it begins at an offset other than 0 that no earlier reply has, or goes on from a listing that is adrift.
     pub adrift: bool,
-    /// Whether the handle was opened more than once.
+    /// Whether the handle's key stood above one since it was opened, as of this request.
     pub shared: bool,
 }
 
@@ -70,11 +70,13 @@ pub struct Call<'a> {
     pub node: NodeName,
     /// The new directory of a RENAME, and the file of a LINK.
     pub other: Option<NodeName>,
-    /// The file handle that it uses: the number of the request whose answer opened it.
+    /// The file handle that it uses: the number of the request whose answer opened its key when that last stood at zero.
     pub handle: Option<u32>,
-    /// Whether that handle is open for direct input and output (`FOPEN_DIRECT_IO` of `fuse.h`).
+    /// Whether an opening of that handle which was answered before this request is for direct input and output
+    /// (`FOPEN_DIRECT_IO` of `fuse.h`).
     pub direct: bool,
-    /// Whether its success empties a file that is there (`O_TRUNC` of POSIX `open`).
+    /// Whether its success empties a file that is there (`O_TRUNC` of POSIX `open`): CREATE by that flag, OPEN where
+    /// `FUSE_ATOMIC_O_TRUNC` of `fuse.h` was negotiated too. It is the request's, answered or not.
     pub truncates: bool,
     /// What a READDIR or READDIRPLUS goes on from. None for every call, as this is not judged yet.
     pub listing: Option<Listing>,

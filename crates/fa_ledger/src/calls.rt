@@ -14,6 +14,7 @@ pub struct Calls<'a> {
     pub messages: u32,
     /// Each tree request once, by rising numbers of their messages.
     pub list: Vec<Call<'a>>,
+    // They are the calls of some messages that all keep the protocol.
     pub ghost good: { ∥ ((c : List Message) × AreGood c × (messages ≡ length c) × AreCalls c (map call_shown list.items)) ∥₁ },
 }
 

@@ -10,7 +10,7 @@ pub enum LedgerError {
     /// [`codes`](fa_capture::codes).
     #[error("not allowed, by code {0}")]
     Refused(u16),
-    /// Memory for more calls, nodes or file handles was refused.
+    /// Memory for one more call, node or file handle, or for the names of a listing's nodes, was refused.
     #[error("out of memory")]
     Memory,
 }
@@ -27,6 +27,7 @@ impl From<u16> for LedgerError {
     }
 }
 
+/// Memory that was refused.
 impl From<AllocError> for LedgerError {
     ghost use Rattle.std.specs.Prelude.{◌≡◌};
     ghost use Rattle.fa_ledger.specs.declared.error.LedgerError.TheVariants.{Memory};

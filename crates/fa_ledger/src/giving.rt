@@ -11,7 +11,7 @@ ghost use Rattle.fa_ledger.specs.Counts.{node_of, nodes_given, nodes_of_entry, n
 ghost use Rattle.fa_ledger.specs.Passing.{MayBeGiven};
 ghost use Rattle.fa_ledger.specs.parts.Steps.{as_list, opened_with, given_to, SettlesTruncation, IsListing};
 
-use crate::call::Given;
+use crate::call::GivenNodes;
 use crate::key::{HandleKind, Key};
 use crate::name::NodeName;
 use crate::nodes::Nodes;
@@ -90,15 +90,15 @@ pub(crate) fn names_given(
     at: u32,
     body: &RequestBody<'_>,
     reply: &Reply<'_>,
-) -> Result<Given, AllocError>
+) -> Result<GivenNodes, AllocError>
     ensures named { IfOk result (λ given. given_shown given ≡ map (λ id. given_to id at (get nat_eq nodes.now.known id)) (nodes_given (body_shown body.now) (reply_shown reply.now))) }
     ensures wanted { OnErr result (IsListing (reply_shown reply.now) × (nodes_given (body_shown body.now) (reply_shown reply.now) ≢ [])) }
 {
     match reply {
         Reply::Listed(listing) => names_listed(alloc, nodes, at, *listing),
         _ => Ok(node_given(body, reply).map_or(
-            Given::Nothing,
-            |id| Given::One(nodes.name_given(id, at)),
+            GivenNodes::Nothing,
+            |id| GivenNodes::One(nodes.name_given(id, at)),
         )),
     }
 }
@@ -109,7 +109,7 @@ fn names_listed(
     nodes: &Nodes,
     at: u32,
     listing: Entries<'_>,
-) -> Result<Given, AllocError>
+) -> Result<GivenNodes, AllocError>
     ensures named { IfOk result (λ given. given_shown given ≡ map (λ id. given_to id at (get nat_eq nodes.now.known id)) (nodes_of_listing (entries_left listing.entry))) }
     ensures wanted { OnErr result (nodes_of_listing (entries_left listing.entry) ≢ []) }
 {
@@ -120,9 +120,9 @@ fn names_listed(
         }
     }
     if names.is_empty() {
-        return Ok(Given::Nothing);
+        return Ok(GivenNodes::Nothing);
     }
-    Ok(Given::Several(names))
+    Ok(GivenNodes::Several(names))
 }
 
 /// The key that a success opens, and how, where its request named this node, and the reply gives these.

@@ -53,28 +53,30 @@ impl<'a> Ledger<'a> {
     /// Takes the event of the next message, if the message keeps the rules of nodes and file handles.
     ///
     /// The event is what [`Session::accept`](fa_session::Session::accept) says of that message, and the ledger took those
-    /// of all messages before it.
+    /// of all messages before it, fewer than 16,777,216.
     ///
     /// **Nodes.** Each success of SYMLINK, MKNOD, MKDIR, LINK and CREATE, each success of LOOKUP with a node id other than
     /// 0, and each entry of a READDIRPLUS reply with a node id other than 0 whose name is neither `.` nor `..` gives its
     /// node id: the node's lookup count rises by one. FORGET and each item of BATCH_FORGET, in their order, take `nlookup`
     /// back (`struct fuse_forget_in` and `struct fuse_forget_one` of `fuse.h`). The root, node 1, is always known, and a
-    /// forget of it takes nothing. A node has the name of the reply since which its count has been positive.
+    /// forget of it takes nothing. A node has the name of the reply since which its count has been positive. A request names
+    /// the node of its header, RENAME `newdir` and LINK `oldnodeid` too; FORGET, BATCH_FORGET, INIT and
+    /// [`RequestBody::Passed`](fa_bodies::RequestBody::Passed) name none.
     ///
-    /// **File handles.** A key is a node's name, a number `fh` and whether a file or a directory is open. A success of OPEN,
-    /// OPENDIR or CREATE opens its key; RELEASE and RELEASEDIR close one opening when they are asked. These are the rules of
-    /// this profile.
+    /// **File handles.** A key is a node's name, a number `fh` and whether a file or a directory is open. A success of OPEN
+    /// or OPENDIR opens the key under the name that its node had when it was asked, CREATE under that of the node which it
+    /// gives. RELEASE and RELEASEDIR close one opening when they are asked, whatever is answered. READ, WRITE, FLUSH,
+    /// RELEASE, and GETATTR and SETATTR with `GETATTR_FH` and `FATTR_FH`, use the key of a file; READDIR, READDIRPLUS and
+    /// RELEASEDIR that of a directory. These are the rules of this profile.
     ///
     /// # Errors
     ///
     /// The ledger is as it was after each of them.
     ///
     /// - [`LedgerError::Refused`] where the message does not keep the rules, with the code of the first that it breaks, one
-    ///   of [`fa_capture::codes`]: for a request `FORGOTTEN_NODE` where a node that it names is not known (FORGET,
-    ///   BATCH_FORGET, INIT and what is read by its header alone name none), then `FORGOTTEN_TOO_OFTEN` where a forget takes
-    ///   more than is left, then `CLOSED_HANDLE` where the key that it uses is not open (GETATTR and SETATTR use one only
-    ///   where `GETATTR_FH` or `FATTR_FH` is set); for a reply `NODE_ID_NOT_ALLOWED` where it gives the root, or 0 where
-    ///   that does not say that there is no node.
+    ///   of [`fa_capture::codes`]: for a request `FORGOTTEN_NODE` where a node that it names is not known, then
+    ///   `FORGOTTEN_TOO_OFTEN` where a forget takes more than is left, then `CLOSED_HANDLE` where the key that it uses is not
+    ///   open; for a reply `NODE_ID_NOT_ALLOWED` where it gives the root, or 0 where that does not say that there is no node.
     /// - [`LedgerError::Memory`] where memory was refused for one more call, node or key, or for the names of the nodes of a
     ///   listing. The message keeps the rules, and its event may be handed in again.
     ///

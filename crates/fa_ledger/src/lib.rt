@@ -17,7 +17,7 @@ mod naming;
 mod nodes;
 mod placing;
 
-pub use call::{Answer, Call, Given, Listing};
+pub use call::{Answer, Call, GivenNodes, Listing};
 pub use calls::Calls;
 pub use error::LedgerError;
 pub use ledger::Ledger;

@@ -1,0 +1,34 @@
+-- The lemmas for the crates above.
+use Rattle.std.proofs.Common.{◌≡◌, ℕ, List, take, sym, subst, ap}
+use Rattle.fa_capture.specs.Message.{Message}
+use Rattle.fa_session.specs.Events.{PlainEvent}
+use Rattle.fa_ledger.specs.Events.{AreEvents}
+use Rattle.fa_ledger.specs.Names.{name_at}
+use Rattle.fa_ledger.specs.Handles.{IsHandle}
+use Rattle.fa_ledger.specs.Laws.{NamesLookBack, CallsStay}
+use Rattle.fa_ledger.proofs.EventLemmas.{events_are_one}
+use Rattle.fa_ledger.proofs.GoodLemmas.{events_front}
+use Rattle.fa_ledger.proofs.CallStepLemmas.{call_kept}
+-- events, one more of them, and those of the first messages
+pub use Rattle.fa_ledger.proofs.EventLemmas.{element_at, same_places, event_is_one, events_are_one}
+pub use Rattle.fa_ledger.proofs.GoodLemmas.{take_front, events_front}
+pub use Rattle.fa_ledger.proofs.CallStepLemmas.{events_more, asked_place, answered_place, asked_later, event_asked, event_unanswered}
+-- one event more: counts, the names of nodes, and keys
+pub use Rattle.fa_ledger.proofs.GrowthLemmas.{given_more, taken_more, name_kept, name_new, counted_named, uncounted_unnamed, named_counted}
+pub use Rattle.fa_ledger.proofs.HandleLemmas.{opened_more, closed_more, open_still, open_before, open_now, since_open}
+-- calls, and one event more
+pub use Rattle.fa_ledger.proofs.CallLemmas.{call_at, call_with, call_is_one, calls_of_are_one, calls_are_one}
+pub use Rattle.fa_ledger.proofs.CallStepLemmas.{call_kept, calls_kept, calls_asked, calls_answered}
+
+-- messages that begin alike have events that begin alike
+pub events_begin : (c d : List Message) (es fs : List PlainEvent) (i : ℕ) → AreEvents c es → AreEvents d fs → take i c ≡ take i d → take i es ≡ take i fs
+events_begin c d es fs i are too same =
+    events_are_one (take i c) (take i es) (take i fs) (events_front c es are i) (subst (λ x. AreEvents x (take i fs)) (sym same) (events_front d fs too i))
+
+pub names_look_back : NamesLookBack
+names_look_back c d es fs i are too same =
+    let first = events_begin c d es fs i are too same in
+    ((λ node. ap (λ x. name_at x node) first), (λ key handle. subst (λ x. IsHandle x key handle) first))
+
+pub calls_stay : CallsStay
+calls_stay = call_kept
