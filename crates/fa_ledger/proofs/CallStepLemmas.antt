@@ -20,7 +20,7 @@ use Rattle.fa_ledger.specs.Kinds.{IsTreeRequest}
 use Rattle.fa_ledger.specs.Names.{name_at}
 use Rattle.fa_ledger.specs.Handles.{opening, times_opened, times_closed}
 use Rattle.fa_ledger.specs.Calls.{PlainAnswer, PlainCall, IsAskedCall, OpensAnew, IsAnswerOf, HasNoAnswer, HasAnswer, IsCall, AreCallsOf}
-use Rattle.fa_ledger.specs.parts.Steps.{with_answer}
+use Rattle.fa_ledger.specs.parts.Steps.{answered_by, with_answer}
 use Rattle.fa_ledger.proofs.CallLemmas.{numbers, answers_at, call_at, call_with}
 use Rattle.fa_ledger.proofs.EventLemmas.{element_at, event_is_one}
 
@@ -149,20 +149,6 @@ call_kept es e call is other = record {
   there = get_kept es (e ∷ []) call.asked _ is.there;
   asked = asked_kept es e call is;
   answered = answered_kept es e call other call.answer is.answered;
-}
-
--- the call with this answer
-abbrev answered_by : PlainAnswer → PlainCall → PlainCall
-answered_by answer call = record {
-  asked = call.asked;
-  request = call.request;
-  node = call.node;
-  other = call.other;
-  handle = call.handle;
-  direct = call.direct;
-  truncates = call.truncates;
-  listing = call.listing;
-  answer = Some answer;
 }
 
 -- what was a call of a request that is answered now is one with the answer

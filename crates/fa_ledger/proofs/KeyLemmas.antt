@@ -249,7 +249,7 @@ direct_cases es e key out r opens below since is =
     ]
 
 -- either of two marks
-either_mark : (a b : Bool) (P Q R : Type 0) → IsTrue a ↔ P → IsTrue b ↔ Q → (P → R) → (Q → R) → (R → P ⊎ Q) → IsTrue (a || b) ↔ R
+pub either_mark : (a b : Bool) (P Q R : Type 0) → IsTrue a ↔ P → IsTrue b ↔ Q → (P → R) → (Q → R) → (R → P ⊎ Q) → IsTrue (a || b) ↔ R
 either_mark true b P Q R is too left right back = (λ marked. left (is.0 refl), λ such. refl)
 either_mark false b P Q R is too left right back = (
   λ marked. right (too.0 marked),

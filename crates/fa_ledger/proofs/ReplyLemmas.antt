@@ -41,7 +41,7 @@ use Rattle.fa_ledger.specs.parts.Steps.{IsListing, opened_with, SettlesTruncatio
 use Rattle.fa_ledger.proofs.NameLemmas.{not_root}
 use Rattle.fa_ledger.proofs.NodeLemmas.{node_given, name_of_node, names_counted}
 use Rattle.fa_ledger.proofs.HandleLemmas.{key_same}
-use Rattle.fa_ledger.proofs.KeyLemmas.{other_unopened, none_unopened, key_unmoved, key_opened, open_is_some}
+use Rattle.fa_ledger.proofs.KeyLemmas.{either_mark, other_unopened, none_unopened, key_unmoved, key_opened, open_is_some}
 
 -- ---- elements of a list
 
@@ -315,17 +315,6 @@ so_settled : (body : PlainBody) (reply : PlainReply) (i : InitIn) (n : Negotiate
     → SettlesTruncation body reply
 so_settled body reply i n asks says first second =
     subst (λ x. SettlesTruncation x reply) (sym asks) (subst (λ y. SettlesTruncation (Init i) y) (sym says) (first, second))
-
--- either of two marks
-either_mark : (a b : Bool) (P Q R : Type 0) → IsTrue a ↔ P → IsTrue b ↔ Q → (P → R) → (Q → R) → (R → P ⊎ Q) → IsTrue (a || b) ↔ R
-either_mark true b P Q R is too left right back = (λ marked. left (is.0 refl), λ such. refl)
-either_mark false b P Q R is too left right back = (
-  λ marked. right (too.0 marked),
-  λ such. elim (back such) [
-    | inl first ↦ absurd (let clash : false ≡ true = is.1 first in cc)
-    | inr second ↦ too.1 second
-  ],
-)
 
 -- the new answer settles the flag
 settled_now : (es : List PlainEvent) (at asked : ℕ) (r : PlainRequest) (reply : PlainReply) → at ≡ length es → SettlesTruncation r.body reply

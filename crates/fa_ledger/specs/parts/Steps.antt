@@ -144,19 +144,20 @@ closed_once None = None
 closed_once (Some h) =
     (if h.openings == 1 then None else Some (record { openings = h.openings - 1; name = h.name; shared = h.shared; direct = h.direct }))
 
+-- the call with this answer
+abbrev pub answered_by : PlainAnswer → PlainCall → PlainCall
+answered_by answer call = record {
+  asked = call.asked;
+  request = call.request;
+  node = call.node;
+  other = call.other;
+  handle = call.handle;
+  direct = call.direct;
+  truncates = call.truncates;
+  listing = call.listing;
+  answer = Some answer;
+}
+
 -- the calls, where the one of this request has this answer
 abbrev pub with_answer : List PlainCall → ℕ → PlainAnswer → List PlainCall
-with_answer calls asked answer =
-    map (λ call. (if call.asked == asked
-    then record {
-      asked = call.asked;
-      request = call.request;
-      node = call.node;
-      other = call.other;
-      handle = call.handle;
-      direct = call.direct;
-      truncates = call.truncates;
-      listing = call.listing;
-      answer = Some answer;
-    }
-    else call)) calls
+with_answer calls asked answer = map (λ call. (if call.asked == asked then answered_by answer call else call)) calls
