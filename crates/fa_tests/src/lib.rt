@@ -1,5 +1,5 @@
-//! Tests of streams, captures and sessions by what their crates offer, as tables. Those of single messages stand in
-//! `fa_message_tests`, and what the program answers is shown by the files in `cases`.
+//! Tests of streams, captures, sessions and ledgers by what their crates offer, as tables. Those of single messages stand
+//! in `fa_message_tests`, and what the program answers is shown by the files in `cases`.
 //!
 //! The expected values come from the formats (docs/formats.md), from `fuse.h` and from `errno.h`.
 #![tactic(auto)]
@@ -8,6 +8,10 @@
 mod captures;
 #[cfg(test)]
 mod first;
+#[cfg(test)]
+mod ledgers;
+#[cfg(test)]
+mod paired;
 #[cfg(test)]
 mod sessions;
 #[cfg(test)]

@@ -1,0 +1,1082 @@
+//! Ledgers of a few messages. The unique of each request is the number of its message.
+
+use crate::paired::Paired;
+use Mark::*;
+use NodeName::{Given, Root};
+use Sent::*;
+use bitflags::Flags;
+use fa_bodies::errno::{EACCES, EIO, ENOENT};
+use fa_bodies::sample::Field::{U32, U64, Zeros};
+use fa_bodies::sample::{Listed, REG, Sample, entry_out};
+use fa_bodies::{FopenFlags, GetattrFlags, InitFlags, OpenFlags, Reply, opcodes};
+use fa_capture::codes::{
+    CLOSED_HANDLE, FORGOTTEN_NODE, FORGOTTEN_TOO_OFTEN, NODE_ID_NOT_ALLOWED, PROFILE_LIMIT,
+};
+use fa_capture::{Direction, Packet, read_capture};
+use fa_ledger::{Call, Calls, NodeName};
+use std::alloc::Global;
+
+/// `GETATTR_FH` of `fuse.h`, and another flag.
+const GETATTR_FH: u32 = 1;
+
+const GETATTR_OTHER: u32 = 2;
+/// `FATTR_SIZE` and `FATTR_FH` of `fuse.h`.
+const FATTR_SIZE: u32 = 8;
+
+const FATTR_FH: u32 = 64;
+/// `FOPEN_DIRECT_IO` of `fuse.h`.
+const DIRECT: u32 = 1;
+/// `O_RDWR | O_CREAT` and `O_TRUNC` of POSIX `open`.
+const CREAT: u32 = 0x42;
+
+const TRUNC: u32 = 0x200;
+/// `FUSE_ATOMIC_O_TRUNC` of `fuse.h`.
+const ATOMIC_O_TRUNC: u32 = 8;
+
+/// A message. The first number is its unique, the second of a request its node. Names of files are `a` or `b`.
+#[derive(Clone, Copy)]
+enum Sent {
+    Lookup(u64, u64),
+    Forget(u64, u64, u64),
+    BatchForget(u64, &'static [(u64, u64)]),
+    /// With these flags and this file handle.
+    Getattr(u64, u64, u32, u64),
+    Setattr(u64, u64, u32, u64),
+    Readlink(u64, u64),
+    /// Read by its header alone.
+    Getxattr(u64, u64),
+    Symlink(u64, u64),
+    Mknod(u64, u64),
+    Mkdir(u64, u64),
+    Unlink(u64, u64),
+    Rmdir(u64, u64),
+    /// To this directory.
+    Rename(u64, u64, u64),
+    /// Of this file.
+    Link(u64, u64, u64),
+    /// With these flags.
+    Open(u64, u64, u32),
+    Create(u64, u64, u32),
+    Opendir(u64, u64),
+    /// From this file handle.
+    Read(u64, u64, u64),
+    Readdir(u64, u64, u64),
+    Readdirplus(u64, u64, u64),
+    /// Of one byte to this file handle, at this offset.
+    Write(u64, u64, u64, u64),
+    Release(u64, u64, u64),
+    Releasedir(u64, u64, u64),
+    Flush(u64, u64, u64),
+    Error(u64, i32),
+    Done(u64),
+    /// An entry of this node.
+    Entry(u64, u64),
+    /// An entry of this node, and this file handle.
+    Created(u64, u64, u64),
+    /// This file handle, with these flags.
+    Opened(u64, u64, u32),
+    Written(u64),
+    /// What READDIRPLUS gives: `.` and `..` with the node 1, `a` and `b` with these nodes.
+    Plus(u64, u64, u64),
+}
+
+/// A capture and a message behind its last one.
+fn with(sample: Sample, message: Sent) -> Sample {
+    match message {
+        Lookup(unique, node) => sample.lookup(unique, node, b"a"),
+        Forget(unique, node, nlookup) => sample.forget(unique, node, nlookup),
+        BatchForget(unique, items) => sample.batch_forget(unique, items),
+        Getattr(unique, node, flags, fh) => with_getattr(sample, unique, node, flags, fh),
+        Setattr(unique, node, flags, fh) => with_setattr(sample, unique, node, flags, fh),
+        Readlink(unique, node) => sample.readlink(unique, node),
+        Getxattr(unique, node) => sample.request(unique, opcodes::GETXATTR, node, b""),
+        Symlink(unique, node) => sample.symlink(unique, node, b"a", b"b"),
+        Mknod(unique, node) => sample.mknod(unique, node, REG | 0o644, b"a"),
+        Mkdir(unique, node) => sample.mkdir(unique, node, b"a"),
+        Unlink(unique, node) => sample.unlink(unique, node, b"a"),
+        Rmdir(unique, node) => sample.rmdir(unique, node, b"a"),
+        Rename(unique, node, newdir) => sample.rename(unique, node, b"a", newdir, b"b"),
+        Link(unique, node, old) => sample.link(unique, node, b"b", old),
+        Open(unique, node, flags) => with_open(sample, unique, node, flags),
+        Create(unique, node, flags) => with_create(sample, unique, node, flags),
+        Opendir(unique, node) => sample.opendir(unique, node),
+        Read(unique, node, fh) => sample.read(unique, node, fh, 0, 4096),
+        Readdir(unique, node, fh) => sample.readdir(unique, node, fh, 0, 4096),
+        Readdirplus(unique, node, fh) => sample.readdirplus(unique, node, fh, 0, 4096),
+        Write(unique, node, fh, offset) => sample.write(unique, node, fh, offset, b"x"),
+        Release(unique, node, fh) => sample.release(unique, node, fh),
+        Releasedir(unique, node, fh) => sample.releasedir(unique, node, fh),
+        Flush(unique, node, fh) => sample.flush(unique, node, fh),
+        Error(unique, error) => sample.error(unique, error),
+        Done(unique) => sample.ok(unique),
+        Entry(unique, node) => sample.entry(unique, node, REG | 0o644, 0, 1),
+        Created(unique, node, fh) => sample.created(unique, node, REG | 0o644, 0, 1, fh),
+        Opened(unique, fh, flags) => with_opened(sample, unique, fh, flags),
+        Written(unique) => sample.written(unique, 1),
+        Plus(unique, a, b) => with_plus(sample, unique, a, b),
+    }
+}
+
+fn with_getattr(sample: Sample, unique: u64, node: u64, flags: u32, fh: u64) -> Sample {
+    sample.getattr_with(unique, node, GetattrFlags::from_bits_retain(flags), fh)
+}
+
+fn with_setattr(sample: Sample, unique: u64, node: u64, flags: u32, fh: u64) -> Sample {
+    let fields = [U32(flags), Zeros(4), U64(fh), Zeros(72)];
+    sample.request_of(unique, opcodes::SETATTR, node, &fields)
+}
+
+fn with_open(sample: Sample, unique: u64, node: u64, flags: u32) -> Sample {
+    sample.open_with(unique, node, OpenFlags::from_bits_retain(flags))
+}
+
+fn with_create(sample: Sample, unique: u64, node: u64, flags: u32) -> Sample {
+    let flags = OpenFlags::from_bits_retain(flags);
+    sample.create_with(unique, node, flags, REG | 0o644, b"a")
+}
+
+fn with_opened(sample: Sample, unique: u64, fh: u64, flags: u32) -> Sample {
+    sample.opened_with(unique, fh, FopenFlags::from_bits_retain(flags))
+}
+
+fn with_plus(sample: Sample, unique: u64, a: u64, b: u64) -> Sample {
+    let entries = [
+        (entry_out(1, 0, 0, 0), listed(b".")),
+        (entry_out(1, 0, 0, 0), listed(b"..")),
+        (entry_out(a, 0, 0, 0), listed(b"a")),
+        (entry_out(b, 0, 0, 0), listed(b"b")),
+    ];
+    sample.listing_plus(unique, &entries)
+}
+
+fn listed(name: &[u8]) -> Listed<'_> {
+    Listed {
+        name,
+        off: 1,
+        file_type: 8,
+    }
+}
+
+/// A capture and these messages behind its last one.
+fn with_all(mut sample: Sample, messages: &[Sent]) -> Sample {
+    for message in messages {
+        sample = with(sample, *message);
+    }
+    sample
+}
+
+/// INIT with these flags and its answer with those: the messages 0 and 1.
+fn begun(alloc: Global, flags: (u32, u32)) -> Sample {
+    let asked = InitFlags::from_bits_retain(flags.0);
+    let answered = InitFlags::from_bits_retain(flags.1);
+    Sample::new(alloc)
+        .init_with(1, 7, 31, asked)
+        .init_answer_with(1, 7, 31, answered, 64)
+}
+
+/// The code of each message of a capture, 0 where it is taken. None where memory was refused, or the bytes are no capture.
+fn codes_of(alloc: Global, sample: Sample) -> Option<Vec<u16>> {
+    let bytes = sample.capture().ok()?;
+    let capture = read_capture(alloc, &bytes).ok()?;
+    let mut codes = vec![in alloc; 0; capture.packets.len()].ok()?;
+    Paired::new(alloc).take_each(&capture.packets, &mut codes);
+    Some(codes)
+}
+
+/// Whether all messages but the last are taken, and that one has this code, 0 where it is taken.
+fn ends_with(codes: &[u16], last: u16) -> bool {
+    match codes {
+        [front @ .., code] => *code == last && front.iter().all(|code| *code == 0),
+        [] => false,
+    }
+}
+
+/// Messages, and the code of the last of them, 0 where it is taken. Those before it are taken.
+type Row = (&'static [Sent], u16);
+
+/// The number of the first row whose last message has another code, where there is one. The rows stand behind INIT, its
+/// answer and the messages in front.
+fn first_wrong(alloc: Global, front: &[Sent], rows: &[Row]) -> Option<usize> {
+    for (number, (messages, code)) in rows.iter().enumerate() {
+        let sample = with_all(begun(alloc, (0, 0)), front);
+        let codes = codes_of(alloc, with_all(sample, messages));
+        if !codes.is_some_and(|codes| ends_with(&codes, *code)) {
+            return Some(number);
+        }
+    }
+    None
+}
+
+/// These rows stand behind INIT and its answer.
+const FROM_START: [Row; 19] = [
+    // The message itself is looked at before its node.
+    (&[Write(2, 9, 7, u64::MAX)], PROFILE_LIMIT),
+    // What is not known may be forgotten no times.
+    (&[Forget(2, 9, 0)], 0),
+    (&[Forget(2, 9, 1)], FORGOTTEN_TOO_OFTEN),
+    (&[BatchForget(2, &[(9, 0)])], 0),
+    (&[BatchForget(2, &[(9, 1)])], FORGOTTEN_TOO_OFTEN),
+    (&[Lookup(2, 1), Forget(3, 5, 1)], FORGOTTEN_TOO_OFTEN),
+    // The root is always known.
+    (
+        &[Forget(2, 1, u64::MAX), Forget(3, 1, 1), Readlink(4, 1)],
+        0,
+    ),
+    // Which nodes may be given.
+    (&[Lookup(2, 1), Entry(2, 0)], 0),
+    (&[Lookup(2, 1), Entry(2, 1)], NODE_ID_NOT_ALLOWED),
+    (&[Symlink(2, 1), Entry(2, 0)], NODE_ID_NOT_ALLOWED),
+    (&[Mknod(2, 1), Entry(2, 0)], NODE_ID_NOT_ALLOWED),
+    (&[Mkdir(2, 1), Entry(2, 0)], NODE_ID_NOT_ALLOWED),
+    (&[Link(2, 1, 1), Entry(2, 0)], NODE_ID_NOT_ALLOWED),
+    (
+        &[Create(2, 1, CREAT), Created(2, 0, 7)],
+        NODE_ID_NOT_ALLOWED,
+    ),
+    (
+        &[Create(2, 1, CREAT), Created(2, 1, 7)],
+        NODE_ID_NOT_ALLOWED,
+    ),
+    // The other node of a request is named too, and GETXATTR, which is read by its header alone, names none.
+    (&[Rename(2, 1, 9)], FORGOTTEN_NODE),
+    (&[Link(2, 1, 9)], FORGOTTEN_NODE),
+    (&[Readlink(2, 0)], FORGOTTEN_NODE),
+    (&[Getxattr(2, 99)], 0),
+];
+
+/// The node 5 is given: the messages 2 and 3.
+const KNOWN: &[Sent] = &[Lookup(2, 1), Entry(2, 5)];
+
+const TWICE: &[(u64, u64)] = &[(5, 1), (5, 1)];
+
+const BESIDE_ROOT: &[(u64, u64)] = &[(1, 3), (5, 1), (1, u64::MAX)];
+
+/// These rows stand behind INIT, its answer and `KNOWN`.
+const OF_KNOWN: [Row; 10] = [
+    (&[Forget(4, 5, 1)], 0),
+    (&[Forget(4, 5, 2)], FORGOTTEN_TOO_OFTEN),
+    (&[Forget(4, 5, 1), Readlink(5, 5)], FORGOTTEN_NODE),
+    (&[Forget(4, 5, 0), Readlink(5, 5)], 0),
+    (&[BatchForget(4, TWICE)], FORGOTTEN_TOO_OFTEN),
+    (&[BatchForget(4, BESIDE_ROOT), Readlink(5, 1)], 0),
+    (
+        &[BatchForget(4, BESIDE_ROOT), Readlink(5, 5)],
+        FORGOTTEN_NODE,
+    ),
+    // It is given again.
+    (&[Lookup(4, 1), Entry(4, 5), BatchForget(6, TWICE)], 0),
+    (
+        &[Lookup(4, 1), Entry(4, 5), Forget(6, 5, u64::MAX)],
+        FORGOTTEN_TOO_OFTEN,
+    ),
+    (
+        &[Lookup(4, 1), Forget(5, 5, 1), Entry(4, 5), Readlink(7, 5)],
+        0,
+    ),
+];
+
+/// The root is read: the messages 2 to 4.
+const LISTED: &[Sent] = &[Opendir(2, 1), Opened(2, 7, 0), Readdirplus(4, 1, 7)];
+
+/// These rows stand behind INIT, its answer and `LISTED`. The entries `.` and `..` give nothing.
+const OF_LISTED: [Row; 5] = [
+    (&[Plus(4, 0, 5), Readlink(6, 5)], 0),
+    (&[Plus(4, 5, 5), Forget(6, 5, 2)], 0),
+    (&[Plus(4, 5, 5), Forget(6, 5, 3)], FORGOTTEN_TOO_OFTEN),
+    (&[Plus(4, 0, 0), Readlink(6, 5)], FORGOTTEN_NODE),
+    (&[Plus(4, 5, 1)], NODE_ID_NOT_ALLOWED),
+];
+
+#[test]
+fn which_nodes_are_known(rt: HostRuntime) {
+    assert_eq!(rt; first_wrong(rt.alloc(), &[], &FROM_START), None);
+    assert_eq!(rt; first_wrong(rt.alloc(), KNOWN, &OF_KNOWN), None);
+    assert_eq!(rt; first_wrong(rt.alloc(), LISTED, &OF_LISTED), None);
+}
+
+/// The node 5 is given, and opened with the file handle 7: the messages 2 to 5.
+const OPENED: &[Sent] = &[Lookup(2, 1), Entry(2, 5), Open(4, 5, 0), Opened(4, 7, 0)];
+
+/// These rows stand behind INIT, its answer and `OPENED`.
+const OF_OPENED: [Row; 27] = [
+    (&[Write(6, 5, 7, u64::MAX)], PROFILE_LIMIT),
+    (&[Write(6, 5, 7, 0)], 0),
+    // Another number, another node, and a directory.
+    (&[Read(6, 5, 8)], CLOSED_HANDLE),
+    (&[Read(6, 1, 7)], CLOSED_HANDLE),
+    (&[Readdir(6, 5, 7)], CLOSED_HANDLE),
+    // It is closed by the request, whatever is answered.
+    (&[Release(6, 5, 7), Read(7, 5, 7)], CLOSED_HANDLE),
+    (&[Release(6, 5, 7), Flush(7, 5, 7)], CLOSED_HANDLE),
+    (
+        &[Release(6, 5, 7), Error(6, EIO), Release(8, 5, 7)],
+        CLOSED_HANDLE,
+    ),
+    (&[Flush(6, 5, 7), Done(6), Flush(8, 5, 7)], 0),
+    // It is opened by a success.
+    (&[Open(6, 5, 0), Read(7, 5, 8)], CLOSED_HANDLE),
+    (
+        &[Open(6, 5, 0), Error(6, EACCES), Read(8, 5, 0)],
+        CLOSED_HANDLE,
+    ),
+    (&[Create(6, 1, CREAT), Created(6, 6, 7), Read(8, 6, 7)], 0),
+    // GETATTR and SETATTR use one where their flags say so.
+    (&[Getattr(6, 5, GETATTR_OTHER, 8)], 0),
+    (&[Getattr(6, 5, GETATTR_FH, 7)], 0),
+    (
+        &[Getattr(6, 5, GETATTR_OTHER | GETATTR_FH, 8)],
+        CLOSED_HANDLE,
+    ),
+    (&[Setattr(6, 5, FATTR_SIZE, 8)], 0),
+    (&[Setattr(6, 5, FATTR_SIZE | FATTR_FH, 7)], 0),
+    (&[Setattr(6, 5, FATTR_SIZE | FATTR_FH, 8)], CLOSED_HANDLE),
+    // The node comes before the file handle, and the handle goes with the name of the node.
+    (&[Forget(6, 5, 1), Release(7, 5, 7)], FORGOTTEN_NODE),
+    (&[Flush(6, 9, 7)], FORGOTTEN_NODE),
+    (
+        &[Lookup(6, 1), Entry(6, 5), Forget(8, 5, 1), Read(9, 5, 7)],
+        0,
+    ),
+    (
+        &[Lookup(6, 1), Forget(7, 5, 1), Entry(6, 5), Read(9, 5, 7)],
+        CLOSED_HANDLE,
+    ),
+    // It is opened while it is open.
+    (
+        &[
+            Open(6, 5, 0),
+            Opened(6, 7, 0),
+            Release(8, 5, 7),
+            Read(9, 5, 7),
+        ],
+        0,
+    ),
+    (
+        &[
+            Open(6, 5, 0),
+            Opened(6, 7, 0),
+            Release(8, 5, 7),
+            Release(9, 5, 7),
+            Read(10, 5, 7),
+        ],
+        CLOSED_HANDLE,
+    ),
+    // A node that is forgotten before its OPEN is answered.
+    (
+        &[
+            Open(6, 5, 0),
+            Forget(7, 5, 1),
+            Opened(6, 8, 0),
+            Read(9, 5, 8),
+        ],
+        FORGOTTEN_NODE,
+    ),
+    (
+        &[
+            Open(6, 5, 0),
+            Forget(7, 5, 1),
+            Lookup(8, 1),
+            Entry(8, 5),
+            Opened(6, 8, 0),
+            Read(11, 5, 8),
+        ],
+        CLOSED_HANDLE,
+    ),
+    (
+        &[
+            Open(6, 5, 0),
+            Lookup(7, 1),
+            Entry(7, 5),
+            Forget(9, 5, 1),
+            Opened(6, 8, 0),
+            Read(11, 5, 8),
+        ],
+        0,
+    ),
+];
+
+/// The node 5 is given, and opened as a directory with the file handle 7: the messages 2 to 5.
+const OPENED_AS_DIRECTORY: &[Sent] = &[Lookup(2, 1), Entry(2, 5), Opendir(4, 5), Opened(4, 7, 0)];
+
+/// These rows stand behind INIT, its answer and `OPENED_AS_DIRECTORY`.
+const OF_DIRECTORY: [Row; 7] = [
+    (&[Readdir(6, 5, 7)], 0),
+    (&[Read(6, 5, 7)], CLOSED_HANDLE),
+    (&[Release(6, 5, 7)], CLOSED_HANDLE),
+    (&[Readdir(6, 1, 7)], CLOSED_HANDLE),
+    (&[Releasedir(6, 5, 7), Readdirplus(7, 5, 7)], CLOSED_HANDLE),
+    (
+        &[
+            Open(6, 5, 0),
+            Opened(6, 7, 0),
+            Release(8, 5, 7),
+            Readdir(9, 5, 7),
+        ],
+        0,
+    ),
+    (
+        &[
+            Open(6, 5, 0),
+            Opened(6, 7, 0),
+            Releasedir(8, 5, 7),
+            Readdir(9, 5, 7),
+        ],
+        CLOSED_HANDLE,
+    ),
+];
+
+#[test]
+fn which_file_handles_are_open(rt: HostRuntime) {
+    assert_eq!(rt; first_wrong(rt.alloc(), OPENED, &OF_OPENED), None);
+    assert_eq!(rt;
+        first_wrong(rt.alloc(), OPENED_AS_DIRECTORY, &OF_DIRECTORY),
+        None
+    );
+}
+
+/// The code of each message, 0 where it is taken. These stand behind INIT, its answer and `OPENED`, and those that are
+/// refused change nothing.
+type Course = &'static [(Sent, u16)];
+
+const COURSES: [Course; 7] = [
+    &[
+        (BatchForget(6, TWICE), FORGOTTEN_TOO_OFTEN),
+        (Forget(6, 5, 1), 0),
+        (Readlink(7, 5), FORGOTTEN_NODE),
+    ],
+    &[
+        (BatchForget(6, &[(5, 1), (9, 1)]), FORGOTTEN_TOO_OFTEN),
+        (Read(6, 5, 7), 0),
+        (BatchForget(7, &[(5, 1)]), 0),
+        (BatchForget(8, &[(5, 1)]), FORGOTTEN_TOO_OFTEN),
+    ],
+    &[
+        (Forget(6, 5, 2), FORGOTTEN_TOO_OFTEN),
+        (Readlink(6, 5), 0),
+        (Forget(7, 5, 1), 0),
+        (Forget(8, 5, 1), FORGOTTEN_TOO_OFTEN),
+    ],
+    &[
+        (Rename(6, 5, 9), FORGOTTEN_NODE),
+        (Rename(6, 5, 1), 0),
+        (Done(6), 0),
+        (Rename(8, 9, 1), FORGOTTEN_NODE),
+    ],
+    &[
+        (Release(6, 5, 8), CLOSED_HANDLE),
+        (Release(6, 5, 7), 0),
+        (Release(7, 5, 7), CLOSED_HANDLE),
+    ],
+    // The request of a refused reply waits on.
+    &[
+        (Create(6, 1, CREAT), 0),
+        (Created(6, 1, 8), NODE_ID_NOT_ALLOWED),
+        (Created(6, 6, 8), 0),
+        (Read(8, 6, 8), 0),
+        (Forget(9, 6, 2), FORGOTTEN_TOO_OFTEN),
+    ],
+    &[
+        (Opendir(6, 1), 0),
+        (Opened(6, 8, 0), 0),
+        (Readdirplus(8, 1, 8), 0),
+        (Plus(8, 6, 1), NODE_ID_NOT_ALLOWED),
+        (Plus(8, 6, 6), 0),
+        (Forget(10, 6, 2), 0),
+        (Readlink(11, 6), FORGOTTEN_NODE),
+    ],
+];
+
+/// Whether the messages have these codes.
+fn is_told(alloc: Global, course: &[(Sent, u16)]) -> Option<bool> {
+    let mut sample = with_all(begun(alloc, (0, 0)), OPENED);
+    for (message, _) in course {
+        sample = with(sample, *message);
+    }
+    let codes = codes_of(alloc, sample)?;
+    let codes = codes.get(6..)?;
+    let mut is_told = codes.len() == course.len();
+    for (found, (_, code)) in codes.iter().zip(course) {
+        is_told = is_told && found == code;
+    }
+    Some(is_told)
+}
+
+#[test]
+fn behind_a_message_that_is_refused(rt: HostRuntime) {
+    for (number, course) in COURSES.iter().enumerate() {
+        assert!(rt;
+            is_told(rt.alloc(), course) == Some(true),
+            "course {number}"
+        );
+    }
+}
+
+/// The node 5, and 1,000 file handles of it that are open together and closed one after the other. In front of the last
+/// message, a READ of this one, are 3,004.
+fn opened_and_closed(alloc: Global, fh: u64) -> Sample {
+    let mut sample = with_all(begun(alloc, (0, 0)), &[Lookup(2, 1), Entry(2, 5)]);
+    for fh in 0..1000u64 {
+        sample = sample.open(4 + 2 * fh, 5).opened(4 + 2 * fh, fh);
+    }
+    for fh in 0..1000u64 {
+        sample = sample.release(2004 + fh, 5, fh);
+    }
+    sample.read(3004, 5, fh, 0, 4096)
+}
+
+#[test]
+fn many_handles_opened_and_closed(rt: HostRuntime) {
+    for fh in [0, 500, 999] {
+        let sample = opened_and_closed(rt.alloc(), fh);
+        let codes = codes_of(rt.alloc(), sample).expect(&rt, "memory");
+        assert_eq!(rt; codes.len(), 3005);
+        assert!(rt; ends_with(&codes, CLOSED_HANDLE), "handle {fh}");
+    }
+}
+
+/// What a call shows besides its request and its node, where it is not none or false.
+#[derive(Clone, Copy)]
+enum Mark {
+    Other(NodeName),
+    Handle(u32),
+    Direct,
+    Truncates,
+    /// The number of its answer, and what that says.
+    Answer(u32),
+    Refusal(i32),
+    Gives(&'static [NodeName]),
+    Opens,
+}
+
+/// The number of a call's request, its node, and what else it shows.
+type Shows = (u32, NodeName, &'static [Mark]);
+
+/// The node 5 by the reply 3.
+const FIVE: NodeName = Given { id: 5, by: 3 };
+
+/// Flags of INIT and of its answer, messages behind these, and their calls.
+type Called = ((u32, u32), &'static [Sent], &'static [Shows]);
+
+/// The node 5 is forgotten and given again, while it is open.
+const GIVEN_AGAIN: Called = (
+    (0, 0),
+    &[
+        Lookup(2, 1),
+        Entry(2, 5),
+        Open(4, 5, 0),
+        Opened(4, 7, 0),
+        Lookup(6, 1),
+        Write(7, 5, 7, 0),
+        Written(7),
+        Release(9, 5, 7),
+        Done(9),
+        Forget(11, 5, 1),
+        Entry(6, 5),
+        Lookup(13, 1),
+        Entry(13, 6),
+        Open(15, 5, 0),
+        Opened(15, 7, 0),
+        Read(17, 5, 7),
+    ],
+    &[
+        (2, Root, &[Answer(3), Gives(&[FIVE])]),
+        (4, FIVE, &[Answer(5), Opens]),
+        (6, Root, &[Answer(12), Gives(&[Given { id: 5, by: 12 }])]),
+        (7, FIVE, &[Handle(4), Answer(8)]),
+        (13, Root, &[Answer(14), Gives(&[Given { id: 6, by: 14 }])]),
+        (15, Given { id: 5, by: 12 }, &[Answer(16), Opens]),
+        (17, Given { id: 5, by: 12 }, &[Handle(15)]),
+    ],
+);
+
+/// CREATE of a new node, and of one that is known. GETXATTR is no call.
+const CREATED: Called = (
+    (0, 0),
+    &[
+        Create(2, 1, CREAT),
+        Created(2, 5, 7),
+        Write(4, 5, 7, 0),
+        Getxattr(5, 99),
+        Create(6, 1, CREAT),
+        Created(6, 5, 8),
+        Read(8, 5, 8),
+        Error(8, EIO),
+    ],
+    &[
+        (2, Root, &[Answer(3), Gives(&[FIVE]), Opens]),
+        (4, FIVE, &[Handle(2)]),
+        (6, Root, &[Answer(7), Gives(&[FIVE]), Opens]),
+        (8, FIVE, &[Handle(6), Answer(9), Refusal(EIO)]),
+    ],
+);
+
+/// The other node of RENAME and of LINK.
+const OTHERS: Called = (
+    (0, 0),
+    &[
+        Mkdir(2, 1),
+        Entry(2, 5),
+        Rename(4, 1, 5),
+        Done(4),
+        Link(6, 1, 5),
+        Entry(6, 6),
+        Rename(8, 5, 1),
+        Error(8, EACCES),
+        Link(10, 5, 6),
+    ],
+    &[
+        (2, Root, &[Answer(3), Gives(&[FIVE])]),
+        (4, Root, &[Other(FIVE), Answer(5)]),
+        (
+            6,
+            Root,
+            &[Other(FIVE), Answer(7), Gives(&[Given { id: 6, by: 7 }])],
+        ),
+        (8, FIVE, &[Other(Root), Answer(9), Refusal(EACCES)]),
+        (10, FIVE, &[Other(Given { id: 6, by: 7 })]),
+    ],
+);
+
+/// Of two OPENs of one key that wait together the first answer opens it, and names its handle until it is closed.
+const OVERLAPPING: Called = (
+    (0, 0),
+    &[
+        Lookup(2, 1),
+        Entry(2, 5),
+        Open(4, 5, 0),
+        Open(5, 5, 0),
+        Opened(5, 7, 0),
+        Opened(4, 7, 0),
+        Read(8, 5, 7),
+        Release(9, 5, 7),
+        Read(10, 5, 7),
+        Release(11, 5, 7),
+        Open(12, 5, 0),
+        Opened(12, 7, 0),
+        Read(14, 5, 7),
+    ],
+    &[
+        (2, Root, &[Answer(3), Gives(&[FIVE])]),
+        (4, FIVE, &[Answer(7)]),
+        (5, FIVE, &[Answer(6), Opens]),
+        (8, FIVE, &[Handle(5)]),
+        (10, FIVE, &[Handle(5)]),
+        (12, FIVE, &[Answer(13), Opens]),
+        (14, FIVE, &[Handle(12)]),
+    ],
+);
+
+/// A handle is direct by any opening that was answered before the request, until it is closed.
+const DIRECTLY: Called = (
+    (0, 0),
+    &[
+        Lookup(2, 1),
+        Entry(2, 5),
+        Open(4, 5, 0),
+        Opened(4, 7, 0),
+        Open(6, 5, 0),
+        Read(7, 5, 7),
+        Opened(6, 7, DIRECT),
+        Read(9, 5, 7),
+        Release(10, 5, 7),
+        Getattr(11, 5, GETATTR_FH, 7),
+        Getattr(12, 5, 0, 7),
+        Release(13, 5, 7),
+        Open(14, 5, 0),
+        Opened(14, 7, 0),
+        Setattr(16, 5, FATTR_FH, 7),
+    ],
+    &[
+        (2, Root, &[Answer(3), Gives(&[FIVE])]),
+        (4, FIVE, &[Answer(5), Opens]),
+        (6, FIVE, &[Answer(8)]),
+        (7, FIVE, &[Handle(4)]),
+        (9, FIVE, &[Handle(4), Direct]),
+        (11, FIVE, &[Handle(4), Direct]),
+        (12, FIVE, &[]),
+        (14, FIVE, &[Answer(15), Opens]),
+        (16, FIVE, &[Handle(14)]),
+    ],
+);
+
+/// Listings, and errors. A listing of nodes that were known gives them by their names.
+const LISTINGS: Called = (
+    (0, 0),
+    &[
+        Opendir(2, 1),
+        Error(2, EACCES),
+        Lookup(4, 1),
+        Error(4, ENOENT),
+        Lookup(6, 1),
+        Entry(6, 0),
+        Opendir(8, 1),
+        Opened(8, 7, 0),
+        Readdirplus(10, 1, 7),
+        Plus(10, 5, 5),
+        Readdirplus(12, 1, 7),
+        Plus(12, 6, 5),
+        Readdir(14, 1, 7),
+    ],
+    &[
+        (2, Root, &[Answer(3), Refusal(EACCES)]),
+        (4, Root, &[Answer(5), Refusal(ENOENT)]),
+        (6, Root, &[Answer(7)]),
+        (8, Root, &[Answer(9), Opens]),
+        (
+            10,
+            Root,
+            &[
+                Handle(8),
+                Answer(11),
+                Gives(&[Given { id: 5, by: 11 }, Given { id: 5, by: 11 }]),
+            ],
+        ),
+        (
+            12,
+            Root,
+            &[
+                Handle(8),
+                Answer(13),
+                Gives(&[Given { id: 6, by: 13 }, Given { id: 5, by: 11 }]),
+            ],
+        ),
+        (14, Root, &[Handle(8)]),
+    ],
+);
+
+const TRUNCATING: &[Sent] = &[
+    Open(2, 1, TRUNC),
+    Opened(2, 7, 0),
+    Open(4, 1, 0),
+    Create(5, 1, CREAT | TRUNC),
+    Create(6, 1, CREAT),
+];
+
+/// OPEN does not empty a file unless both sides say so at INIT.
+const BY_CREATE: &[Shows] = &[
+    (2, Root, &[Answer(3), Opens]),
+    (4, Root, &[]),
+    (5, Root, &[Truncates]),
+    (6, Root, &[]),
+];
+
+const BY_OPEN: &[Shows] = &[
+    (2, Root, &[Truncates, Answer(3), Opens]),
+    (4, Root, &[]),
+    (5, Root, &[Truncates]),
+    (6, Root, &[]),
+];
+
+const CALLS: [Called; 10] = [
+    GIVEN_AGAIN,
+    CREATED,
+    OTHERS,
+    OVERLAPPING,
+    DIRECTLY,
+    LISTINGS,
+    ((0, 0), TRUNCATING, BY_CREATE),
+    ((ATOMIC_O_TRUNC, 0), TRUNCATING, BY_CREATE),
+    ((0, ATOMIC_O_TRUNC), TRUNCATING, BY_CREATE),
+    ((ATOMIC_O_TRUNC, ATOMIC_O_TRUNC), TRUNCATING, BY_OPEN),
+];
+
+/// The calls of a capture whose messages are all taken.
+fn calls_of<'a>(alloc: Global, packets: &[Packet<'a>]) -> Option<Calls<'a>> {
+    let mut paired = Paired::new(alloc);
+    let mut codes = vec![in alloc; 0; packets.len()].ok()?;
+    paired.take_each(packets, &mut codes);
+    if !ends_with(&codes, 0) {
+        return None;
+    }
+    Some(paired.into_calls())
+}
+
+/// The error of an answer, or 0.
+fn error_of(answer: &fa_ledger::Answer<'_>) -> i32 {
+    match answer.reply {
+        Reply::Refused(error) => error,
+        _ => 0,
+    }
+}
+
+/// Whether an answer shows this.
+fn is_answer(found: &fa_ledger::Answer<'_>, at: u32, marks: &[Mark]) -> bool {
+    let mut shown = (at, 0, false);
+    let mut given: &[NodeName] = &[];
+    for mark in marks {
+        match mark {
+            Refusal(error) => shown.1 = *error,
+            Opens => shown.2 = true,
+            Gives(names) => given = names,
+            _ => {}
+        }
+    }
+    (found.at, error_of(found), found.opens) == shown && found.given.names() == given
+}
+
+/// Whether a call shows this.
+fn is_call(found: &Call<'_>, shows: &Shows) -> bool {
+    let (asked, node, marks) = shows;
+    let (mut other, mut handle, mut answer) = (None, None, None);
+    let mut flags = (false, false);
+    for mark in *marks {
+        match mark {
+            Other(name) => other = Some(*name),
+            Handle(name) => handle = Some(*name),
+            Direct => flags.0 = true,
+            Truncates => flags.1 = true,
+            Answer(at) => answer = Some(*at),
+            _ => {}
+        }
+    }
+    let is_answered = match (&found.answer, answer) {
+        (Some(found), Some(at)) => is_answer(found, at, marks),
+        (None, None) => true,
+        _ => false,
+    };
+    let is_request = (found.asked, found.node, found.other) == (*asked, *node, other);
+    let is_use = (found.handle, found.direct, found.truncates) == (handle, flags.0, flags.1);
+    is_answered && is_request && is_use && found.listing.is_none()
+}
+
+/// Whether the calls of messages behind INIT and its answer are these.
+fn are_called(alloc: Global, called: &Called) -> Option<bool> {
+    let (flags, messages, shown) = called;
+    let bytes = with_all(begun(alloc, *flags), messages).capture().ok()?;
+    let capture = read_capture(alloc, &bytes).ok()?;
+    let calls = calls_of(alloc, &capture.packets)?;
+    let mut are_called = calls.list.len() == shown.len();
+    for (call, shows) in calls.list.iter().zip(*shown) {
+        are_called = are_called && is_call(call, shows);
+    }
+    Some(are_called && calls.messages as usize == 2 + messages.len() && are_found(&calls))
+}
+
+/// Whether each call is found by the number of its request, and by no other.
+fn are_found(calls: &Calls<'_>) -> bool {
+    let mut count = 0;
+    for at in 0..=calls.messages {
+        if let Some(place) = calls.find(at) {
+            if place != count || calls.list.get(place).is_none_or(|call| call.asked != at) {
+                return false;
+            }
+            count += 1;
+        }
+    }
+    count == calls.list.len()
+}
+
+#[test]
+fn what_calls_show(rt: HostRuntime) {
+    for (number, called) in CALLS.iter().enumerate() {
+        assert!(rt;
+            are_called(rt.alloc(), called) == Some(true),
+            "calls {number}"
+        );
+    }
+}
+
+/// Whether an order may name a call without a count of bytes written, with 0, with 1 and with 2.
+type Choices = [bool; 4];
+
+/// Without one alone, with at most the byte that is written, and not at all.
+const ALONE: Choices = [true, false, false, false];
+
+const COUNTED: Choices = [false, true, true, false];
+
+const LEFT_OUT: Choices = [false; 4];
+
+/// The messages 6 to 9, behind INIT, its answer and `OPENED`: a directory is opened, and a WRITE is answered.
+const IN_FRONT: [Sent; 4] = [
+    Opendir(6, 1),
+    Opened(6, 7, 0),
+    Write(8, 5, 7, 0),
+    Written(8),
+];
+
+/// Each tree request, and what an order may name it with where it is not answered. These stand behind `IN_FRONT`.
+const CHOICES: [(Sent, Choices); 18] = [
+    (Lookup(10, 1), LEFT_OUT),
+    (Getattr(11, 5, 0, 0), LEFT_OUT),
+    (Setattr(12, 5, 0, 0), ALONE),
+    (Readlink(13, 5), LEFT_OUT),
+    (Symlink(14, 1), ALONE),
+    (Mknod(15, 1), ALONE),
+    (Mkdir(16, 1), ALONE),
+    (Unlink(17, 1), ALONE),
+    (Rmdir(18, 1), ALONE),
+    (Rename(19, 1, 1), ALONE),
+    (Link(20, 1, 5), ALONE),
+    (Open(21, 5, 0), ALONE),
+    (Read(22, 5, 7), LEFT_OUT),
+    (Write(23, 5, 7, 0), COUNTED),
+    (Opendir(24, 1), LEFT_OUT),
+    (Readdir(25, 1, 7), LEFT_OUT),
+    (Create(26, 1, CREAT), ALONE),
+    (Readdirplus(27, 1, 7), LEFT_OUT),
+];
+
+/// Whether an order may name the calls of these requests so, and those in front of them, which are answered, without a count
+/// alone.
+fn are_choices(alloc: Global, rows: &[(Sent, Choices)]) -> Option<bool> {
+    let mut sample = with_all(with_all(begun(alloc, (0, 0)), OPENED), &IN_FRONT);
+    for (message, _) in rows {
+        sample = with(sample, *message);
+    }
+    let bytes = sample.capture().ok()?;
+    let capture = read_capture(alloc, &bytes).ok()?;
+    let calls = calls_of(alloc, &capture.packets)?;
+    let (front, asked) = calls.list.split_at_checked(4)?;
+    let mut are_choices = asked.len() == rows.len();
+    for call in front {
+        are_choices = are_choices && choices(call) == ALONE;
+    }
+    for (call, (_, expected)) in asked.iter().zip(rows) {
+        are_choices = are_choices && choices(call) == *expected;
+    }
+    Some(are_choices)
+}
+
+/// What an order may name a call with.
+fn choices(call: &Call<'_>) -> Choices {
+    [
+        call.allows(None),
+        call.allows(Some(0)),
+        call.allows(Some(1)),
+        call.allows(Some(2)),
+    ]
+}
+
+#[test]
+fn what_an_order_may_name(rt: HostRuntime) {
+    assert!(rt; are_choices(rt.alloc(), &CHOICES) == Some(true));
+}
+
+/// The bytes of a message: zeros but for these.
+fn spelled<const N: usize>(bytes: &[(usize, u8)]) -> [u8; N] {
+    let mut message = [0; N];
+    for (at, byte) in bytes {
+        if let Some(place) = message.get_mut(*at) {
+            *place = *byte;
+        }
+    }
+    message
+}
+
+/// 30 messages of one kind, which count up in their unique from 2, and at this place from 10.
+fn thirty<const N: usize>(bytes: &[(usize, u8)], place: usize) -> [[u8; N]; 30] {
+    let mut messages = [spelled(bytes); 30];
+    for (number, message) in (0u8..30).zip(messages.iter_mut()) {
+        if let Some(node) = message.get_mut(place) {
+            *node = number.wrapping_add(10);
+        }
+        if let Some(unique) = message.get_mut(8) {
+            *unique = number.wrapping_add(2);
+        }
+    }
+    messages
+}
+
+/// INIT, and its answer of 24 bytes behind the header.
+const INIT: &[(usize, u8)] = &[(0, 56), (4, 26), (8, 1), (40, 7), (44, 31)];
+
+const INIT_ANSWER: &[(usize, u8)] = &[(0, 40), (8, 1), (16, 7), (20, 31)];
+/// LOOKUP of `a` in the root, an entry, OPEN, and a file handle.
+const LOOKUP: &[(usize, u8)] = &[(0, 42), (4, 1), (16, 1), (40, b'a')];
+
+const ENTRY: &[(usize, u8)] = &[(0, 144)];
+
+const OPEN: &[(usize, u8)] = &[(0, 48), (4, 14)];
+
+const HANDLE: &[(usize, u8)] = &[(0, 32)];
+/// OPENDIR of the root, its file handle, and READDIRPLUS of 4,096 bytes.
+const OPENDIR: &[(usize, u8)] = &[(0, 48), (4, 27), (8, 1), (16, 1)];
+
+const DIRECTORY: &[(usize, u8)] = &[(0, 32), (8, 1)];
+
+const READDIRPLUS: &[(usize, u8)] = &[(0, 80), (4, 44), (8, 1), (16, 1), (57, 16)];
+/// Its answer: 336 bytes, of which two entries have 160 each, `a` with the node 10 and `b` with the node 90.
+const LISTING: &[(usize, u8)] = &[
+    (0, 80),
+    (1, 1),
+    (8, 1),
+    (16, 10),
+    (160, 1),
+    (168, b'a'),
+    (176, 90),
+    (320, 1),
+    (328, b'b'),
+];
+
+/// A message in this direction.
+fn packet(direction: Direction, bytes: &[u8]) -> Packet<'_> {
+    Packet { direction, bytes }
+}
+
+/// Whether a call is answered so: by this message, giving these nodes.
+fn gives(call: &Call<'_>, at: u32, names: &[NodeName]) -> bool {
+    match &call.answer {
+        Some(answer) => answer.at == at && answer.given.names() == names,
+        None => false,
+    }
+}
+
+/// Whether the calls are of 30 LOOKUPs, the messages 2 to 31, which are answered by 32 to 61, of 30 OPENs, 62 to 91, of the
+/// nodes that these give, of OPENDIR, 122, and of READDIRPLUS, 124.
+fn are_grown(calls: &Calls<'_>) -> bool {
+    let [front @ .., opendir, listing] = calls.list.as_slice() else {
+        return false;
+    };
+    let mut are_grown = front.len() == 60 && opendir.asked == 122 && listing.handle == Some(122);
+    for (by, (looked_up, opened)) in (32..62u32).zip(front.iter().zip(front.iter().skip(30))) {
+        let id = u64::from(by).saturating_sub(22);
+        are_grown = are_grown
+            && gives(looked_up, by, &[Given { id, by }])
+            && opened.node == Given { id, by }
+            && gives(opened, by.saturating_add(60), &[]);
+    }
+    let given = [Given { id: 10, by: 32 }, Given { id: 90, by: 125 }];
+    are_grown && gives(listing, 125, &given)
+}
+
+/// The sessions and the ledger alone take memory here. An ordinary run has ample memory, so only a run by
+/// `rt try --test --fail-alloc N`, which refuses the Nth allocation, shows what the ledger does without it: the event is
+/// handed in again, and what is told of it and of the others is the same.
+#[test]
+fn an_event_without_memory_is_handed_in_again(rt: HostRuntime) {
+    let (to, from) = (Direction::ToServer, Direction::FromServer);
+    let (init, init_answer): ([u8; 56], [u8; 40]) = (spelled(INIT), spelled(INIT_ANSWER));
+    let (lookups, entries): ([[u8; 42]; 30], [[u8; 144]; 30]) = (
+        thirty(LOOKUP, 8),
+        thirty(ENTRY, 16),
+    );
+    let (opens, handles): ([[u8; 48]; 30], [[u8; 32]; 30]) = (thirty(OPEN, 16), thirty(HANDLE, 16));
+    let (opendir, directory): ([u8; 48], [u8; 32]) = (spelled(OPENDIR), spelled(DIRECTORY));
+    let (readdirplus, listing): ([u8; 80], [u8; 336]) = (spelled(READDIRPLUS), spelled(LISTING));
+    let mut packets = [packet(to, &init); 126];
+    packets[1] = packet(from, &init_answer);
+    for place in 0..30 {
+        packets[2 + place] = packet(to, &lookups[place]);
+        packets[32 + place] = packet(from, &entries[place]);
+        packets[62 + place] = packet(to, &opens[place]);
+        packets[92 + place] = packet(from, &handles[place]);
+    }
+    packets[122] = packet(to, &opendir);
+    packets[123] = packet(from, &directory);
+    packets[124] = packet(to, &readdirplus);
+    packets[125] = packet(from, &listing);
+    let mut codes = [0; 126];
+    let mut paired = Paired::new(rt.alloc());
+    paired.take_each(&packets, &mut codes);
+    assert!(rt; codes == [0; 126]);
+    assert!(rt; are_grown(&paired.into_calls()));
+}
+
+#[test]
+fn laws_do_nothing() {
+    fa_ledger::laws::name_is_least();
+    fa_ledger::laws::events_are_one();
+    fa_ledger::laws::calls_are_one();
+    fa_ledger::laws::names_look_back();
+    fa_ledger::laws::calls_stay();
+}
