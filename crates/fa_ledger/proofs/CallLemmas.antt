@@ -1,7 +1,6 @@
 -- Messages have one list of calls at most.
-use Rattle.std.proofs.Common.{◌≡◌, ℕ, ◌<◌, Bool, true, false, List, [], ◌∷◌, length, take, get_or, Option, Some, None, refl, sym, ap, subst, ◌∙◌, inl, inr, arith}
+use Rattle.std.proofs.Common.{◌≡◌, ℕ, ◌<◌, Bool, List, [], ◌∷◌, length, take, get_or, Option, Some, None, refl, sym, ap, subst, ◌∙◌, arith}
 use Rattle.std.specs.Prelude.{◌↔◌, slice_get, map, option_map, IsTrue, All, Contains}
-use Rattle.std.proofs.lemmas.Bool.{cases_lt}
 use Rattle.std.proofs.lemmas.List.{length-map}
 use Rattle.std.proofs.lemmas.Option.{slice_get_within, slice_get-map, slice_get-get_or, same_Some}
 use Rattle.fa_bodies.specs.Requests.{PlainRequest}
@@ -16,20 +15,16 @@ use Rattle.fa_ledger.specs.declared.key.Key.{Key}
 use Rattle.fa_ledger.specs.declared.name.NodeName.{NodeName}
 use Rattle.fa_ledger.specs.Events.{AreEvents}
 use Rattle.fa_ledger.specs.Keys.{key_used}
-use Rattle.fa_ledger.specs.Handles.{IsOpenSince, IsHandle, IsDirect}
+use Rattle.fa_ledger.specs.Handles.{IsDirect}
+use Rattle.fa_ledger.specs.Listings.{IsListingIfAny}
 use Rattle.fa_ledger.specs.Calls.{PlainAnswer, PlainCall, IsHandleUsed, IsMark, IsAskedCall, IsAnswerOf, HasAnswer, IsCall, AreCallsOf, Truncates, OpensAnew}
 use Rattle.fa_ledger.specs.Laws.{CallsAreOne}
 use Rattle.fa_ledger.proofs.EventLemmas.{element_at, same_places, events_are_one}
+use Rattle.fa_ledger.proofs.HandleLemmas.{handle_is_one, same_mark}
+use Rattle.fa_ledger.proofs.ListedLemmas.{listing_is_one}
 use Rattle.fa_ledger.proofs.RisingLemmas.{rising_is_one}
 
--- ---- marks and options
-
--- two marks of the same fact are one
-pub same_mark : (m n : Bool) (P : Type 0) → IsTrue m ↔ P → IsTrue n ↔ P → m ≡ n
-same_mark true true P is too = refl
-same_mark true false P is too = sym (too.1 (is.0 refl))
-same_mark false true P is too = is.1 (too.0 refl)
-same_mark false false P is too = refl
+-- ---- options
 
 same_some : {X : Type 0} (a b : Option X) → option_map (λ x. Some x) a ≡ option_map (λ x. Some x) b → a ≡ b
 same_some None None e = refl
@@ -47,31 +42,6 @@ same_somes (x ∷ xs) (y ∷ ys) e =
     cc
 
 -- ---- handles
-
--- an open key is open since one event
-one_since : (es : List PlainEvent) (key : Key) (r s : ℕ) → IsOpenSince es key r → IsOpenSince es key s → r < s → ⊥
-one_since es key r s is too later =
-    let within : s < length es = slice_get_within es s too.opened.0 too.opened.1 in
-    let stays = is.stays s later (omega (arith, within)) in
-    omega (arith, stays, too.anew)
-
-pub since_is_one : (es : List PlainEvent) (key : Key) (r s : ℕ) → IsOpenSince es key r → IsOpenSince es key s → r ≡ s
-since_is_one es key r s is too =
-    elim (cases_lt r s) [
-      | inl later ↦ absurd (one_since es key r s is too later)
-      | inr not_later ↦ elim (cases_lt s r) [
-        | inl earlier ↦ absurd (one_since es key s r too is earlier)
-        | inr not_earlier ↦ omega (arith, not_later, not_earlier)
-      ]
-    ]
-
-pub handle_is_one : (es : List PlainEvent) (key : Key) (a b : ℕ) → IsHandle es key a → IsHandle es key b → a ≡ b
-handle_is_one es key a b is too =
-    let same = since_is_one es key is.since too.since is.stands too.stands in
-    let here : slice_get es too.since ≡ Some (Answered is.since a is.request is.reply) = subst (λ k. slice_get es k ≡ Some (Answered is.since a is.request is.reply)) same is.answer in
-    let there = too.answer in
-    let events : Some (Answered is.since a is.request is.reply) ≡ Some (Answered too.since b too.request too.reply) = sym here ∙ there in
-    cc
 
 used_is_one : (es : List PlainEvent) (k : Option Key) (x y : Option ℕ) → IsHandleUsed es k x → IsHandleUsed es k y → x ≡ y
 used_is_one es None x y is too = is ∙ sym too
@@ -146,7 +116,8 @@ call_is_one c es are a b is too asked =
     let handles : a.handle ≡ b.handle = used_is_one before (key_used before b.request) a.handle b.handle (subst (λ r. IsHandleUsed before (key_used before r) a.handle) requests mine.handle) yours.handle in
     let directs : a.direct ≡ b.direct = mark_is_one (IsDirect before) (key_used before b.request) a.direct b.direct (subst (λ r. IsMark (IsDirect before) (key_used before r) a.direct) requests mine.direct) yours.direct in
     let truncations : a.truncates ≡ b.truncates = same_mark a.truncates b.truncates (Truncates before b.request.body) (subst (λ r. IsTrue a.truncates ↔ Truncates before r.body) requests mine.truncates) yours.truncates in
-    same_fields a b asked requests nodes others handles directs truncations (mine.listing ∙ sym yours.listing) (answers_are_one c es are a b asked requests a.answer b.answer is.answered too.answered)
+    let listings : a.listing ≡ b.listing = listing_is_one before b.request a.listing b.listing (subst (λ r. IsListingIfAny before r a.listing) requests mine.listing) yours.listing in
+    same_fields a b asked requests nodes others handles directs truncations listings (answers_are_one c es are a b asked requests a.answer b.answer is.answered too.answered)
 
 -- the numbers of calls
 abbrev pub numbers : List PlainCall → List ℕ

@@ -3,6 +3,7 @@ use Rattle.std.proofs.Common.{◌≡◌, ◌⊎◌, ℕ, zero, suc, ◌+◌, ◌
 use Rattle.std.specs.Prelude.{◌==◌, if◌then◌else◌, nat_eq, slice_get, slice_set, map, option_map}
 use Rattle.std.specs.List.Sorted.{IsStrictlyIncreasing}
 use Rattle.std.specs.Map.{lookup}
+use Rattle.std.specs.Option.{option_map_or}
 use Rattle.std.proofs.lemmas.Bool.{cases_lt}
 use Rattle.std.proofs.lemmas.Bool.Decides.{nat_tests, eqb_tells}
 use Rattle.std.proofs.lemmas.List.{length-map, map-append, map-set}
@@ -10,8 +11,9 @@ use Rattle.std.proofs.lemmas.Option.{slice_get_within, slice_get-map, slice_get-
 use Rattle.fa_session.proofs.CallerLemmas.{get_kept, get_back, get_last, get_cases}
 use Rattle.fa_ledger.specs.declared.call.Answer.{Answer}
 use Rattle.fa_ledger.specs.declared.call.Call.{Call}
+use Rattle.fa_ledger.specs.declared.call_list.Waiting.{Waiting}
 use Rattle.fa_ledger.specs.Calls.{PlainAnswer, PlainCall, answer_shown, call_shown}
-use Rattle.fa_ledger.specs.parts.CallParts.{WaitsAt, IsNewNumber, AreTheirPlaces}
+use Rattle.fa_ledger.specs.parts.CallParts.{WaitsAt, IsNewNumber, AreTheirPlaces, waiting_of}
 use Rattle.fa_ledger.specs.parts.Steps.{with_answer}
 
 -- ---- the table
@@ -179,12 +181,13 @@ the_call items calls table asked place call view are found read =
     let same : waits.0 ≡ call_shown call = same_Some waits.0 (call_shown call) (sym waits.1.there ∙ there) in
     subst (WaitsAt calls asked place) same waits.1
 
--- its node
-pub node_there : (items : List Call) (calls : List PlainCall) (table : List (ℕ × ℕ)) (asked place : ℕ) (call : Call) → map call_shown items ≡ calls → AreTheirPlaces (map call_shown items) table
-    → lookup (nat_eq asked) table ≡ Some place → call ≡ get_or items place call
-    → (k : ℕ) × (waiting : PlainCall) × WaitsAt calls asked k waiting × (waiting.node ≡ call.node)
-node_there items calls table asked place call view are found read =
-    (place, call_shown call, the_call items calls table asked place call view are found read, refl)
+-- what is known of it
+pub waiting_there : (items : List Call) (calls : List PlainCall) (table : List (ℕ × ℕ)) (asked place : ℕ) (call : Call) (adrift : Bool) → map call_shown items ≡ calls → AreTheirPlaces (map call_shown items) table
+    → lookup (nat_eq asked) table ≡ Some place → call ≡ get_or items place call → adrift ≡ option_map_or (λ l. l.adrift) call.listing false
+    → (k : ℕ) × (waiting : PlainCall) × WaitsAt calls asked k waiting × (◌≡◌ {A = Waiting} (record { node = call.node; handle = call.handle; adrift = adrift }) (waiting_of waiting))
+waiting_there items calls table asked place call adrift view are found read is =
+    let waiting : Bool → Waiting = λ b. record { node = call.node; handle = call.handle; adrift = b } in
+    (place, call_shown call, the_call items calls table asked place call view are found read, ap waiting is)
 
 -- the list after the answer is set at its place
 pub answer_set : (items : List Call) (calls : List PlainCall) (table : List (ℕ × ℕ)) (asked place : ℕ) (call : Call) (answer : Answer) → map call_shown items ≡ calls → AreTheirPlaces (map call_shown items) table

@@ -47,7 +47,7 @@ events_more c m es e are is = record {
 }
 
 -- the message of an event
-message_of : (c : List Message) (es : List PlainEvent) → AreEvents c es → (q : ℕ) (e : PlainEvent) → slice_get es q ≡ Some e
+pub message_of : (c : List Message) (es : List PlainEvent) → AreEvents c es → (q : ℕ) (e : PlainEvent) → slice_get es q ≡ Some e
     → (m : Message) × (slice_get c q ≡ Some m) × IsEvent (take q c) m e
 message_of c es are q e there =
     let message = element_at c q (let within = slice_get_within es q e there in omega (arith, within, are.counted)) in
@@ -73,7 +73,7 @@ pub asked_later : (c : List Message) (es : List PlainEvent) → AreEvents c es �
 asked_later c es are q at p r reply there = answer_after c q p r (answers_at c es are q at p r reply there)
 
 -- the event of a request
-request_event : (c : List Message) (es : List PlainEvent) → AreEvents c es → (p : ℕ) (r : PlainRequest) → IsRequestAt c p r → slice_get es p ≡ Some (Asked p r)
+pub request_event : (c : List Message) (es : List PlainEvent) → AreEvents c es → (p : ℕ) (r : PlainRequest) → IsRequestAt c p r → slice_get es p ≡ Some (Asked p r)
 request_event c es are p r asked =
     let within : p < length c = slice_get_within c p asked.0 asked.1 in
     let event = element_at es p (omega (arith, within, are.counted)) in
@@ -283,7 +283,7 @@ of_either P true x y first second = first refl
 of_either P false x y first second = second refl
 
 -- the request of the call that has this number
-request_there : (es : List PlainEvent) (p : ℕ) (call : PlainCall) (r : PlainRequest) → IsCall es call → call.asked ≡ p → slice_get es p ≡ Some (Asked p r) → call.request ≡ r
+pub request_there : (es : List PlainEvent) (p : ℕ) (call : PlainCall) (r : PlainRequest) → IsCall es call → call.asked ≡ p → slice_get es p ≡ Some (Asked p r) → call.request ≡ r
 request_there es p call r is asked asks =
     let there : slice_get es p ≡ Some (Asked call.asked call.request) = subst (λ n. slice_get es n ≡ Some (Asked call.asked call.request)) asked is.there in
     let events : Some (Asked call.asked call.request) ≡ Some (Asked p r) = sym there ∙ asks in

@@ -5,6 +5,7 @@ use Rattle.fa_session.specs.Events.{PlainEvent}
 use Rattle.fa_ledger.specs.Events.{AreEvents}
 use Rattle.fa_ledger.specs.Names.{name_at}
 use Rattle.fa_ledger.specs.Handles.{IsHandle}
+use Rattle.fa_ledger.specs.Listings.{IsListingIfAny}
 use Rattle.fa_ledger.specs.Laws.{NamesLookBack, CallsStay}
 use Rattle.fa_ledger.proofs.EventLemmas.{events_are_one}
 use Rattle.fa_ledger.proofs.GoodLemmas.{events_front}
@@ -16,6 +17,12 @@ pub use Rattle.fa_ledger.proofs.CallStepLemmas.{events_more, asked_place, answer
 -- one event more: counts, the names of nodes, and keys
 pub use Rattle.fa_ledger.proofs.GrowthLemmas.{given_more, taken_more, name_kept, name_new, counted_named, uncounted_unnamed, named_counted}
 pub use Rattle.fa_ledger.proofs.HandleLemmas.{opened_more, closed_more, open_still, open_before, open_now, since_open}
+-- names that nodes have, and keys that are open
+pub use Rattle.fa_ledger.proofs.NodeLemmas.{known_named, unknown_unnamed}
+pub use Rattle.fa_ledger.proofs.GoodLemmas.{good_balanced, open_since}
+-- one handle, one listing
+pub use Rattle.fa_ledger.proofs.HandleLemmas.{handle_is_one}
+pub use Rattle.fa_ledger.proofs.ListedLemmas.{uses_is_one, listed_is_one, listing_is_one}
 -- calls, and one event more
 pub use Rattle.fa_ledger.proofs.CallLemmas.{call_at, call_with, call_is_one, calls_of_are_one, calls_are_one}
 pub use Rattle.fa_ledger.proofs.CallStepLemmas.{call_kept, calls_kept, calls_asked, calls_answered}
@@ -27,8 +34,12 @@ events_begin c d es fs i are too same =
 
 pub names_look_back : NamesLookBack
 names_look_back c d es fs i are too same =
-    let first = events_begin c d es fs i are too same in
-    ((λ node. ap (λ x. name_at x node) first), (λ key handle. subst (λ x. IsHandle x key handle) first))
+    let first = events_begin c d es fs i are too same in (
+      λ node. ap (λ x. name_at x node) first,
+      λ key handle. subst (λ x. IsHandle x key handle) first,
+      λ r listing. subst (λ x. IsListingIfAny x r listing) first,
+      first,
+    )
 
 pub calls_stay : CallsStay
 calls_stay = call_kept

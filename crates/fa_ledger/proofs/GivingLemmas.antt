@@ -1,4 +1,4 @@
--- Nodes that are given: which of them are new.
+-- Nodes that are given: which of them are new, and the names that a listing gives.
 use Rattle.std.proofs.Common.{append_assoc, ◌≡◌, ◌≢◌, ℕ, zero, suc, true, false, List, [], ◌∷◌, ◌++◌, length, Option, None, Some, refl, sym, ap, subst, ◌∙◌, arith}
 use Rattle.std.specs.Prelude.{nat_eq, is_none, map, All, slice_index_or, ◌==◌, if◌then◌else◌}
 use Rattle.std.specs.Map.{lookup}

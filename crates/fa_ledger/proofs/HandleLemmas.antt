@@ -1,6 +1,7 @@
--- One event more: which keys are open, since when, shared and direct.
-use Rattle.std.proofs.Common.{◌≡◌, ℕ, ◌+◌, ◌<◌, ◌≤◌, ◌⊎◌, true, false, List, [], ◌∷◌, ◌++◌, length, take, Some, None, refl, sym, ap, subst, ◌∙◌, inl, inr, arith}
-use Rattle.std.specs.Prelude.{◌&&◌, ◌==◌, if◌then◌else◌}
+-- One event more: which keys are open, since when, shared and direct. And that a key is open since one event, and so has one
+-- handle.
+use Rattle.std.proofs.Common.{◌≡◌, ℕ, ◌+◌, ◌<◌, ◌≤◌, ◌⊎◌, Bool, true, false, List, [], ◌∷◌, ◌++◌, length, take, Some, None, refl, sym, ap, subst, ◌∙◌, inl, inr, arith}
+use Rattle.std.specs.Prelude.{◌&&◌, ◌==◌, if◌then◌else◌, slice_get, ◌↔◌, IsTrue}
 use Rattle.std.specs.Option.{option_map_or}
 use Rattle.std.proofs.lemmas.Bool.{cases_lt}
 use Rattle.std.proofs.lemmas.Bool.Decides.{nat_tests}
@@ -8,6 +9,7 @@ use Rattle.std.proofs.lemmas.Option.{slice_get_within}
 use Rattle.std.proofs.lemmas.List.{take_all, length-append}
 use Rattle.fa_bodies.specs.declared.handles.OpenOut.{OpenOut}
 use Rattle.fa_session.specs.Events.{PlainEvent}
+use Rattle.fa_session.specs.Events.PlainEvent.{Answered}
 use Rattle.fa_session.proofs.CallerLemmas.{get_kept, get_back, get_last, take_before, take_all_before}
 use Rattle.fa_ledger.specs.declared.key.HandleKind.{HandleKind}
 use Rattle.fa_ledger.specs.declared.key.HandleKind.TheVariants.{File, Directory}
@@ -15,7 +17,7 @@ use Rattle.fa_ledger.specs.declared.key.Key.{Key}
 use Rattle.fa_ledger.specs.declared.name.NodeName.{NodeName}
 use Rattle.fa_ledger.specs.declared.name.NodeName.TheVariants.{Root, Given}
 use Rattle.fa_ledger.specs.Keys.{name_eq, kind_eq, key_eq}
-use Rattle.fa_ledger.specs.Handles.{opening, closing, opens_once, closes_once, times_opened, times_closed, IsOpen, IsOpenSince}
+use Rattle.fa_ledger.specs.Handles.{opening, closing, opens_once, closes_once, times_opened, times_closed, IsOpen, IsOpenSince, IsHandle}
 use Rattle.fa_ledger.proofs.SumLemmas.{sum_of-append}
 use Rattle.fa_ledger.proofs.NameLemmas.{and_both}
 
@@ -171,3 +173,39 @@ pub since_open : (es : List PlainEvent) (key : Key) (r : ℕ) → IsOpenSince es
 since_open es key r since =
     let within : r < length es = slice_get_within es r since.opened.0 since.opened.1 in
     subst (λ x. IsOpen x key) (take_all (length es) es (omega arith)) (since.stays (length es) within (omega arith))
+
+-- no key is open since two events
+one_since : (es : List PlainEvent) (key : Key) (r s : ℕ) → IsOpenSince es key r → IsOpenSince es key s → r < s → ⊥
+one_since es key r s is too later =
+    let within : s < length es = slice_get_within es s too.opened.0 too.opened.1 in
+    let stays = is.stays s later (omega (arith, within)) in
+    omega (arith, stays, too.anew)
+
+-- an open key is open since one event
+pub since_is_one : (es : List PlainEvent) (key : Key) (r s : ℕ) → IsOpenSince es key r → IsOpenSince es key s → r ≡ s
+since_is_one es key r s is too =
+    elim (cases_lt r s) [
+      | inl later ↦ absurd (one_since es key r s is too later)
+      | inr not_later ↦ elim (cases_lt s r) [
+        | inl earlier ↦ absurd (one_since es key s r too is earlier)
+        | inr not_earlier ↦ omega (arith, not_later, not_earlier)
+      ]
+    ]
+
+-- a key has one handle name at most
+pub handle_is_one : (es : List PlainEvent) (key : Key) (a b : ℕ) → IsHandle es key a → IsHandle es key b → a ≡ b
+handle_is_one es key a b is too =
+    let same = since_is_one es key is.since too.since is.stands too.stands in
+    let here : slice_get es too.since ≡ Some (Answered is.since a is.request is.reply) = subst (λ k. slice_get es k ≡ Some (Answered is.since a is.request is.reply)) same is.answer in
+    let there = too.answer in
+    let events : Some (Answered is.since a is.request is.reply) ≡ Some (Answered too.since b too.request too.reply) = sym here ∙ there in
+    cc
+
+-- ---- marks
+
+-- two marks of the same fact are one
+pub same_mark : (m n : Bool) (P : Type 0) → IsTrue m ↔ P → IsTrue n ↔ P → m ≡ n
+same_mark true true P is too = refl
+same_mark true false P is too = sym (too.1 (is.0 refl))
+same_mark false true P is too = is.1 (too.0 refl)
+same_mark false false P is too = refl

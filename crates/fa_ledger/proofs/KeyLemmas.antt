@@ -20,9 +20,8 @@ use Rattle.fa_ledger.specs.Keys.{key_eq}
 use Rattle.fa_ledger.specs.Handles.{opening, closing, opens_once, closes_once, times_opened, times_closed, IsOpen, OpensAt, IsOpenSince, IsHandle, IsShared, IsDirect}
 use Rattle.fa_ledger.specs.Shows.{IsOpenAs, IsKeyOf}
 use Rattle.fa_ledger.specs.parts.Steps.{opened_again, closed_once}
-use Rattle.fa_ledger.proofs.HandleLemmas.{key_self, opened_more, closed_more, opens_or_not, open_still, open_before, open_now}
+use Rattle.fa_ledger.proofs.HandleLemmas.{key_self, opened_more, closed_more, opens_or_not, open_still, open_before, open_now, since_is_one}
 use Rattle.fa_ledger.proofs.GoodLemmas.{closing_asked}
-use Rattle.fa_ledger.proofs.CallLemmas.{since_is_one}
 
 -- ---- what one event opens and closes
 

@@ -33,7 +33,9 @@ use Rattle.fa_ledger.specs.Passing.{ForAsked, asked_rules, ledger_checks, ledger
 use Rattle.fa_ledger.specs.Keys.{key_eq}
 use Rattle.fa_ledger.specs.Calls.{PlainCall, AreCalls}
 use Rattle.fa_ledger.specs.Plain.{PlainLedger}
-use Rattle.fa_ledger.specs.Shows.{ShowsEvents, Shows, IsNodeOf}
+use Rattle.fa_ledger.specs.Shows.{ShowsEvents, Shows, IsNodeOf, place_in}
+use Rattle.fa_ledger.specs.declared.listings.Place.{Place}
+use Rattle.fa_ledger.specs.parts.ListingParts.{place_of, listed_shown}
 use Rattle.fa_ledger.specs.Refusals.{IsNext, IsRefusal, IsMoreKept}
 use Rattle.fa_ledger.specs.parts.BookParts.{BooksShow, Stands, AreSame, asked_checks, IsAskedRefusal, IsAnsweredRefusal, IsLedgerRefusal}
 use Rattle.fa_ledger.specs.parts.View.{by_id, ledger_shown}
@@ -41,6 +43,9 @@ use Rattle.fa_ledger.proofs.EventLemmas.{events_are_one, notice_no_reply}
 use Rattle.fa_ledger.proofs.CallStepLemmas.{events_more, calls_kept}
 use Rattle.fa_ledger.proofs.KeyLemmas.{key_unmoved}
 use Rattle.fa_ledger.proofs.NodeLemmas.{node_kept}
+use Rattle.fa_ledger.proofs.HandleLemmas.{opened_more, closed_more}
+use Rattle.fa_ledger.proofs.ListingLemmas.{unlisted_places}
+use Rattle.fa_ledger.proofs.PlaceBookLemmas.{places_alike, place_shown}
 use Rattle.fa_ledger.proofs.ReplyLemmas.{flag_kept}
 
 -- ---- the table of nodes, by rising ids
@@ -69,6 +74,7 @@ shown_parts s es books counted = record {
   truncating = books.truncating;
   nodes = λ node. subst (IsNodeOf es node) (sym (find_by_id node s.books.nodes.known.entries)) (books.nodes node);
   handles = books.keys;
+  listed = places_alike es (place_of s.books.listings.by_key.entries) (place_in (listed_shown s.books.listings.by_key.entries)) (place_shown s.books.listings.by_key.entries) books.places;
   calls = books.calls;
 }
 
@@ -77,6 +83,7 @@ books_show s es shown = record {
   truncating = shown.truncating;
   nodes = λ node. subst (IsNodeOf es node) (find_by_id node s.books.nodes.known.entries) (shown.nodes node);
   keys = shown.handles;
+  places = places_alike es (place_in (listed_shown s.books.listings.by_key.entries)) (place_of s.books.listings.by_key.entries) (λ key offset. sym (place_shown s.books.listings.by_key.entries key offset)) shown.listed;
   calls = shown.calls;
 }
 
@@ -178,10 +185,11 @@ next_refused s old c m e Memory view next refused =
 -- fields that have what they had show what they showed
 pub same_shown : (s t : Inside) → AreSame s.books t.books → t.messages ≡ s.messages → ledger_shown t ≡ ledger_shown s
 same_shown s t same counted =
-    let made : ℕ → Bool → List (ℕ × Lookups) → List (Key × Handle) → List PlainCall → PlainLedger = λ n b k h l. record { messages = n; truncating = b; nodes = k; handles = h; calls = l } in
-    let whole : made t.messages t.books.truncating (by_id t.books.nodes.known.entries) t.books.handles.opened.entries t.books.calls
-    ≡ made s.messages s.books.truncating (by_id s.books.nodes.known.entries) s.books.handles.opened.entries s.books.calls =
-    rw (counted, same.truncating, same_by_id s.books.nodes.known.entries t.books.nodes.known.entries same.nodes, same.keys, same.calls) refl in
+    let made : ℕ → Bool → List (ℕ × Lookups) → List (Key × Handle) → List (Key × List (ℕ × Place)) → List PlainCall → PlainLedger =
+    λ n b k h p l. record { messages = n; truncating = b; nodes = k; handles = h; listed = p; calls = l } in
+    let whole : made t.messages t.books.truncating (by_id t.books.nodes.known.entries) t.books.handles.opened.entries (listed_shown t.books.listings.by_key.entries) t.books.calls
+    ≡ made s.messages s.books.truncating (by_id s.books.nodes.known.entries) s.books.handles.opened.entries (listed_shown s.books.listings.by_key.entries) s.books.calls =
+    rw (counted, same.truncating, same_by_id s.books.nodes.known.entries t.books.nodes.known.entries same.nodes, same.keys, same.listed, same.calls) refl in
     whole
 
 -- no messages
@@ -207,13 +215,15 @@ answered_refused c m es at asked r reply Memory is why = (answered_hold c m at a
 
 -- ---- notifications
 
-pub notice_shows : (es : List PlainEvent) (at : ℕ) (b : Books) → BooksShow es b → BooksShow (es ++ Notice at ∷ []) b
-notice_shows es at b shown = record {
+pub notice_shows : (c : List Message) (m : Message) (es : List PlainEvent) (at : ℕ) (b : Books) → Stands c m es (Notice at) b → BooksShow (es ++ Notice at ∷ []) b
+notice_shows c m es at b stands = let shown = stands.shown in record {
   truncating =
       let kept = flag_kept es (Notice at) atomic_o_trunc (λ n asked r reply i answer is. absurd cc) in
       ((λ yes. kept.1 (shown.truncating.0 yes)), (λ has. shown.truncating.1 (kept.0 has)));
   nodes = λ node. node_kept es (Notice at) node (lookup (nat_eq node) b.nodes.known.entries) refl refl (shown.nodes node);
   keys = λ key. key_unmoved es (Notice at) key (lookup (key_eq key) b.handles.opened.entries) refl refl (shown.keys key);
+  places = unlisted_places c m es (Notice at) stands.are stands.event (λ n p r ds is. absurd cc) (λ key stood. omega (arith, stood, opened_more es (Notice at) key, closed_more es (Notice at) key))
+      (place_of b.listings.by_key.entries) shown.places;
   calls = calls_kept es (Notice at) b.calls shown.calls (λ p r is. absurd cc) (λ n p r reply is. absurd cc);
 }
 

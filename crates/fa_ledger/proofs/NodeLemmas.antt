@@ -201,7 +201,7 @@ listed_same : (ds es : List PlainDirent) → Listed ds ≡ Listed es → ds ≡ 
 listed_same ds es same = cc
 
 -- A listing has fewer entries than bytes, and no more bytes than the 32 bits of the size that was asked for.
-listed_few : (opcode : ℕ) (asked : PlainBody) (request body : List ℕ) (ds : List PlainDirent) → IsRequestBody opcode request asked → IsSuccessBody opcode asked body (Listed ds) → length ds ≤ 4294967296
+pub listed_few : (opcode : ℕ) (asked : PlainBody) (request body : List ℕ) (ds : List PlainDirent) → IsRequestBody opcode request asked → IsSuccessBody opcode asked body (Listed ds) → length ds ≤ 4294967295
 listed_few opcode (Lookup name) request body ds is says = let clash = says.1 in absurd cc
 listed_few opcode (Forget nlookup) request body ds is says = absurd says
 listed_few opcode (Getattr g) request body ds is says = let clash = says.1 in absurd cc

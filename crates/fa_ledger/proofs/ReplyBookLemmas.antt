@@ -1,12 +1,13 @@
 -- The books, and the answer to a request.
-use Rattle.std.proofs.Common.{◌≡◌, ℕ, ◌+◌, ◌<◌, ◌≤◌, Bool, List, [], ◌∷◌, ◌++◌, length, take, Option, None, Some, refl, sym, ap, subst, ◌∙◌, inl, inr, arith}
-use Rattle.std.specs.Prelude.{◌↔◌, ◌||◌, ◌==◌, nat_eq, map, count_by, All, IsTrue}
+use Rattle.std.proofs.Common.{◌≡◌, ◌≢◌, ℕ, ◌+◌, ◌<◌, ◌≤◌, Bool, true, false, cond, List, [], ◌∷◌, ◌++◌, length, take, Option, None, Some, refl, sym, ap, subst, ◌∙◌, inl, inr, arith}
+use Rattle.std.specs.Prelude.{◌↔◌, ◌||◌, ◌==◌, nat_eq, map, count_by, All, IsTrue, IsSome, IfSome}
 use Rattle.std.specs.Map.{lookup}
 use Rattle.std.proofs.lemmas.List.{length-map}
 use Rattle.fa_capture.specs.declared.limits.TheConstants.{MAX_MESSAGES}
 use Rattle.fa_capture.specs.Message.{Message}
 use Rattle.fa_bodies.specs.declared.handles.OpenOut.{OpenOut}
 use Rattle.fa_bodies.specs.FlagBits.{atomic_o_trunc}
+use Rattle.fa_bodies.specs.Listing.{entries_left}
 use Rattle.fa_bodies.specs.Requests.{PlainRequest}
 use Rattle.fa_bodies.specs.Replies.{PlainReply}
 use Rattle.fa_session.specs.Events.{PlainEvent, IsEvent}
@@ -15,7 +16,12 @@ use Rattle.fa_ledger.specs.declared.books.Books.{Books}
 use Rattle.fa_ledger.specs.declared.error.LedgerError.{LedgerError}
 use Rattle.fa_ledger.specs.declared.error.LedgerError.TheVariants.{Memory}
 use Rattle.fa_ledger.specs.declared.handles.Handle.{Handle}
+use Rattle.fa_ledger.specs.declared.call_list.Waiting.{Waiting}
 use Rattle.fa_ledger.specs.declared.key.Key.{Key}
+use Rattle.fa_ledger.specs.declared.listings.ListedOn.{ListedOn}
+use Rattle.fa_ledger.specs.declared.listings.Listings.{Listings}
+use Rattle.fa_ledger.specs.declared.listings.Offsets.{Offsets}
+use Rattle.fa_ledger.specs.declared.listings.Place.{Place}
 use Rattle.fa_ledger.specs.declared.name.NodeName.{NodeName}
 use Rattle.fa_ledger.specs.declared.handles.Handles.{Handles}
 use Rattle.fa_ledger.specs.declared.nodes.Lookups.{Lookups}
@@ -27,14 +33,18 @@ use Rattle.fa_ledger.specs.Kinds.{IsTreeRequest}
 use Rattle.fa_ledger.specs.Handles.{opening}
 use Rattle.fa_ledger.specs.Passing.{MayBeGiven}
 use Rattle.fa_ledger.specs.Calls.{PlainCall, PlainAnswer, IsNegotiatedFlag, OpensAnew, AreCallsOf}
-use Rattle.fa_ledger.specs.Shows.{IsNodeOf, IsKeyOf}
+use Rattle.fa_ledger.specs.Shows.{IsNodeOf, IsKeyOf, ArePlaces}
 use Rattle.fa_ledger.specs.Refusals.{IsMoreKept}
-use Rattle.fa_ledger.specs.parts.Steps.{given_to, given_again, times_named, count_left, opened_with, opens_new, some_new, with_answer, IsOpenedBy, IsListing, SettlesTruncation}
-use Rattle.fa_ledger.specs.parts.CallParts.{WaitsAt}
+use Rattle.fa_ledger.specs.parts.Steps.{given_to, given_again, times_named, count_left, opened_with, opens_new, some_new, with_answer, IsOpenedBy, IsListedReply, SettlesTruncation}
+use Rattle.fa_ledger.specs.parts.CallParts.{WaitsAt, waiting_of}
+use Rattle.fa_ledger.specs.parts.ListingParts.{place_of, noted, ListsStillIfAny, IsNotedBy}
+use Rattle.fa_ledger.specs.Listings.{count_to}
 use Rattle.fa_ledger.specs.parts.BookParts.{BooksShow, Stands, IsAnsweredRefusal}
 use Rattle.fa_ledger.proofs.CallStepLemmas.{calls_kept, calls_answered, call_waits, waiting_call}
 use Rattle.fa_ledger.proofs.KeyLemmas.{opened_within, key_unmoved, none_unopened}
 use Rattle.fa_ledger.proofs.NodeLemmas.{node_kept, given_within, reply_few}
+use Rattle.fa_ledger.proofs.ListingLemmas.{answered_anew}
+use Rattle.fa_ledger.proofs.PlaceBookLemmas.{places_answered, places_replied, lists_on, count_fits}
 use Rattle.fa_ledger.proofs.ReplyLemmas.{nodes_answered, names_answered, opening_answered, keys_answered, opens_answered, new_is_uncounted, some_is_listed, flag_kept, flag_settled, plain_gives_nothing}
 
 -- ---- bounds
@@ -77,17 +87,17 @@ tree_not_init es at asked r reply tree =
     let same : r ≡ s = cc in
     subst IsTreeRequest (ap (λ (x : PlainRequest). x.body) same ∙ init) tree)
 
--- what is known of an answer to a tree request: the call that waits, the names, and what it opens
+-- what is known of an answer to a tree request: the call that waits, the names, what it opens and what it lists
 pub record IsPrepared (c : List Message) (m : Message) (es : List PlainEvent) (at asked : ℕ) (r : PlainRequest) (reply : PlainReply) (old : Books) (names : List NodeName) (which : Option (Key × OpenOut)) : Type 0 where
   pub stands : Stands c m es (Answered at asked r reply) old
   pub may : All MayBeGiven (nodes_given r.body reply)
-  pub node : NodeName
+  pub waiting : Waiting
   pub place : ℕ
   pub call : PlainCall
   pub waits : WaitsAt old.calls asked place call
-  pub own : call.node ≡ node
+  pub own : waiting ≡ waiting_of call
   pub named : names ≡ map (λ id. given_to id at (lookup (nat_eq id) old.nodes.known.entries)) (nodes_given r.body reply)
-  pub opens : which ≡ opened_with node names r.body reply
+  pub opens : which ≡ opened_with waiting.node names r.body reply
 
 -- a table of nodes in which these are given
 abbrev pub IsGiven : ℕ → List NodeName → List (ℕ × Lookups) → List (ℕ × Lookups) → Type 0
@@ -95,10 +105,10 @@ IsGiven at names old new = (node : ℕ) → lookup (nat_eq node) new ≡ given_a
 
 -- what the node's name was when the request came
 asked_name : (c : List Message) (m : Message) (es : List PlainEvent) (at asked : ℕ) (r : PlainRequest) (reply : PlainReply) (old : Books) (names : List NodeName) (which : Option (Key × OpenOut))
-    → (p : IsPrepared c m es at asked r reply old names which) → name_at (take asked es) r.node ≡ Some p.node
+    → (p : IsPrepared c m es at asked r reply old names which) → name_at (take asked es) r.node ≡ Some p.waiting.node
 asked_name c m es at asked r reply old names which p =
     let w = call_waits c m es p.stands.are at asked r reply p.stands.event old.calls p.stands.shown.calls p.place p.call p.waits.there p.waits.numbered in
-    w.3 ∙ ap (λ n. Some n) p.own
+    w.3 ∙ ap (λ n. Some n) (ap (λ x. x.node) (sym p.own))
 
 tree_asked : (c : List Message) (m : Message) (es : List PlainEvent) (at asked : ℕ) (r : PlainRequest) (reply : PlainReply) (old : Books) (names : List NodeName) (which : Option (Key × OpenOut))
     → IsPrepared c m es at asked r reply old names which → IsTreeRequest r.body
@@ -107,15 +117,16 @@ tree_asked c m es at asked r reply old names which p =
 
 -- the books show the answer
 pub answer_shows : (c : List Message) (m : Message) (es : List PlainEvent) (at asked : ℕ) (r : PlainRequest) (reply : PlainReply) (old new : Books) (names : List NodeName) (which : Option (Key × OpenOut)) (opens : Bool)
-    → IsPrepared c m es at asked r reply old names which → opens ≡ opens_new old.handles.opened.entries which → new.truncating ≡ old.truncating
+    → (p : IsPrepared c m es at asked r reply old names which) → opens ≡ opens_new old.handles.opened.entries which → new.truncating ≡ old.truncating
     → IsGiven at names old.nodes.known.entries new.nodes.known.entries → IsOpenedBy asked which old.handles.opened.entries new.handles.opened.entries
+    → (listed : Option ListedOn) → ListsStillIfAny old.handles.opened.entries p.waiting r.body reply listed → IsNotedBy asked listed old.listings.by_key.entries new.listings.by_key.entries
     → new.calls ≡ with_answer old.calls asked (record { at = at; reply = reply; given = names; opens = opens }) → BooksShow (es ++ Answered at asked r reply ∷ []) new
-answer_shows c m es at asked r reply old new names which opens p opens_is settled gave noted answered =
+answer_shows c m es at asked r reply old new names which opens p opens_is settled gave noted listed lists listed_so answered =
     let place = event_place c m es at asked r reply old p.stands in
     let shown = p.stands.shown in
     let named = names_answered es at asked r reply old.nodes.known.entries names place shown.nodes p.may p.named in
     let opening_is : opening es (Answered at asked r reply) ≡ which =
-    opening_answered es at asked r reply p.node names (asked_name c m es at asked r reply old names which p) named ∙ sym p.opens in
+    opening_answered es at asked r reply p.waiting.node names (asked_name c m es at asked r reply old names which p) named ∙ sym p.opens in
     let flag = tree_not_init es at asked r reply (tree_asked c m es at asked r reply old names which p) in
     let answer : PlainAnswer = record { at = at; reply = reply; given = names; opens = opens } in
     let here : ℕ → List PlainEvent = λ n. es ++ Answered n asked r reply ∷ [] in
@@ -131,12 +142,14 @@ answer_shows c m es at asked r reply old new names which opens p opens_is settle
       );
       nodes = nodes_answered es at asked r reply old.nodes.known.entries new.nodes.known.entries names place shown.nodes p.may p.named gave;
       keys = keys_answered es at asked r reply old.handles.opened.entries new.handles.opened.entries place shown.keys which opening_is noted;
+      places = places_answered c m es at asked r reply p.stands.are p.stands.event old.calls shown.calls p.place p.call p.waits old.handles.opened.entries shown.keys listed
+          (subst (λ x. ListsStillIfAny old.handles.opened.entries x r.body reply listed) p.own lists) old.listings.by_key.entries new.listings.by_key.entries listed_so shown.places;
       calls = subst (AreCallsOf (here at)) (sym answered) (subst (λ n. AreCallsOf (here n) (with_answer old.calls asked answer)) (sym place) calls);
     }
 
 -- ---- memory
 
-pub names_more : (es : List PlainEvent) (at asked : ℕ) (r : PlainRequest) (reply : PlainReply) → IsListing reply × ((nodes_given r.body reply ≡ []) → ⊥) → IsMoreKept es (Answered at asked r reply)
+pub names_more : (es : List PlainEvent) (at asked : ℕ) (r : PlainRequest) (reply : PlainReply) → IsListedReply reply × ((nodes_given r.body reply ≡ []) → ⊥) → IsMoreKept es (Answered at asked r reply)
 names_more es at asked r reply why = inr (inl (some_is_listed r reply why.0 why.1))
 
 pub nodes_more : (es : List PlainEvent) (at asked : ℕ) (r : PlainRequest) (reply : PlainReply) (old : Books) (names : List NodeName) → BooksShow es old
@@ -151,9 +164,39 @@ keys_more c m es at asked r reply old names which p new =
     let shown = p.stands.shown in
     let named = names_answered es at asked r reply old.nodes.known.entries names place shown.nodes p.may p.named in
     let opening_is : opening es (Answered at asked r reply) ≡ which =
-    opening_answered es at asked r reply p.node names (asked_name c m es at asked r reply old names which p) named ∙ sym p.opens in
+    opening_answered es at asked r reply p.waiting.node names (asked_name c m es at asked r reply old names which p) named ∙ sym p.opens in
     let anew = opens_answered es at asked r reply old.handles.opened.entries place shown.keys which opening_is (opens_new old.handles.opened.entries which) refl in
-    inr (inr (subst (OpensAnew (es ++ Answered at asked r reply ∷ [])) (sym place) (anew.0 new)))
+    inr (inr (inl (subst (OpensAnew (es ++ Answered at asked r reply ∷ [])) (sym place) (anew.0 new))))
+
+-- and so is where a listing has its offsets
+pub listed_more : (c : List Message) (m : Message) (es : List PlainEvent) (at asked : ℕ) (r : PlainRequest) (reply : PlainReply) (old : Books) (place : ℕ) (call : PlainCall) (waiting : Waiting) (listed : Option ListedOn)
+    → Stands c m es (Answered at asked r reply) old → WaitsAt old.calls asked place call → waiting ≡ waiting_of call → ListsStillIfAny old.handles.opened.entries waiting r.body reply listed → IsSome listed
+    → IsMoreKept es (Answered at asked r reply)
+listed_more c m es at asked r reply old place call waiting None stands waits own lists some = let clash : false ≡ true = some in absurd cc
+listed_more c m es at asked r reply old place call waiting (Some l) stands waits own lists some =
+    inr (inr (inr (lists_on c m es at asked r reply stands.are stands.event old.calls stands.shown.calls place call waits old.handles.opened.entries stands.shown.keys l
+    (subst (λ x. ListsStillIfAny old.handles.opened.entries x r.body reply (Some l)) own lists))))
+
+-- how many entries it has
+pub listed_counted : (c : List Message) (m : Message) (at asked : ℕ) (r : PlainRequest) (reply : PlainReply) → IsEvent c m (Answered at asked r reply) → (opened : List (Key × Handle)) (waiting : Waiting) (call : PlainCall) → waiting ≡ waiting_of call
+    → (listed : Option ListedOn) → ListsStillIfAny opened waiting r.body reply listed → IfSome listed (λ l. l.count ≡ length (entries_left l.entries)) × IfSome listed (λ l. l.count ≤ 4294967295)
+listed_counted c m at asked r reply event opened waiting call own None lists = (tt, tt)
+listed_counted c m at asked r reply event opened waiting call own (Some l) lists =
+    (lists.2, count_fits c m at asked r reply event opened call l (subst (λ x. ListsStillIfAny opened x r.body reply (Some l)) own lists))
+
+-- no place that the books have is of this request
+pub listed_anew : (c : List Message) (m : Message) (es : List PlainEvent) (at asked : ℕ) (r : PlainRequest) (reply : PlainReply) (old : Books) → Stands c m es (Answered at asked r reply) old
+    → (table : List (Key × Offsets)) → ((key : Key) (offset : ℕ) → place_of table key offset ≡ place_of old.listings.by_key.entries key offset)
+    → (key : Key) (offset : ℕ) (place : Place) → place_of table key offset ≡ Some place → place.asked ≢ asked
+listed_anew c m es at asked r reply old stands table same key offset place there =
+    answered_anew c m es at asked r reply stands.are stands.event old.handles.opened.entries stands.shown.keys (place_of old.listings.by_key.entries) stands.shown.places key offset place (sym (same key offset) ∙ there)
+
+-- what is noted in a table with the same places is noted in this one
+pub noted_also : (asked : ℕ) (listed : Option ListedOn) (old kept new : List (Key × Offsets)) → ((key : Key) (offset : ℕ) → place_of kept key offset ≡ place_of old key offset) → IsNotedBy asked listed kept new
+    → IsNotedBy asked listed old new
+noted_also asked None old kept new same noted_so = λ other offset. noted_so other offset ∙ same other offset
+noted_also asked (Some l) old kept new same noted_so = λ other offset.
+    noted_so other offset ∙ ap (λ place. cond (key_eq l.key other) (noted asked l.adrift (count_to offset (entries_left l.entries)) place) place) (same other offset)
 
 -- ---- the answer to any other request
 
@@ -167,8 +210,8 @@ no_call_waits c m es at asked r reply old stands none tree =
 
 pub plain_shows : (c : List Message) (m : Message) (es : List PlainEvent) (at asked : ℕ) (r : PlainRequest) (reply : PlainReply) (old new : Books) (settles : Bool)
     → Stands c m es (Answered at asked r reply) old → (IsTreeRequest r.body → ⊥) → IsTrue settles ↔ SettlesTruncation r.body reply → new.truncating ≡ (old.truncating || settles)
-    → new.nodes ≡ old.nodes → new.handles ≡ old.handles → new.calls ≡ old.calls → BooksShow (es ++ Answered at asked r reply ∷ []) new
-plain_shows c m es at asked r reply old new settles stands no_tree settled truncates nodes keys calls =
+    → new.nodes ≡ old.nodes → new.handles ≡ old.handles → new.listings ≡ old.listings → new.calls ≡ old.calls → BooksShow (es ++ Answered at asked r reply ∷ []) new
+plain_shows c m es at asked r reply old new settles stands no_tree settled truncates nodes keys listings calls =
     let e : PlainEvent = Answered at asked r reply in
     let nothing = plain_gives_nothing c m at asked r reply stands.event no_tree in
     let flag = flag_settled es at asked r reply (event_place c m es at asked r reply old stands) old.truncating settles stands.shown.truncating settled in
@@ -178,6 +221,8 @@ plain_shows c m es at asked r reply old new settles stands no_tree settled trunc
           (node_kept es e node (lookup (nat_eq node) old.nodes.known.entries) (ap (count_by (λ given. given == node)) nothing.0) refl (stands.shown.nodes node));
       keys = λ key. subst (λ (h : Handles). IsKeyOf (es ++ e ∷ []) key (lookup (key_eq key) h.opened.entries)) (sym keys)
           (key_unmoved es e key (lookup (key_eq key) old.handles.opened.entries) (none_unopened es e key (nothing.1 es)) refl (stands.shown.keys key));
+      places = subst (λ (l : Listings). ArePlaces (es ++ e ∷ []) (place_of l.by_key.entries)) (sym listings)
+          (places_replied c m es at asked r reply stands.are stands.event no_tree (place_of old.listings.by_key.entries) stands.shown.places);
       calls = subst (AreCallsOf (es ++ e ∷ [])) (sym calls) (calls_kept es e old.calls stands.shown.calls (λ p s is tree. absurd cc)
           (λ n p s said is tree. let same : r ≡ s = cc in no_tree (subst (λ (x : PlainRequest). IsTreeRequest x.body) (sym same) tree)));
     }

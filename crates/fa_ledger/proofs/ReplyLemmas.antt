@@ -37,7 +37,7 @@ use Rattle.fa_ledger.specs.Calls.{IsNegotiatedFlag, OpensAnew}
 use Rattle.fa_ledger.specs.Shows.{IsNodeOf, IsKeyOf}
 use Rattle.fa_ledger.specs.Refusals.{GivesNew, ListsNodes}
 use Rattle.fa_ledger.specs.parts.BookParts.{NodesShow, KeysShow}
-use Rattle.fa_ledger.specs.parts.Steps.{IsListing, opened_with, SettlesTruncation, given_again, given_to, times_named, is_new, some_new, opened_again, IsOpenedBy}
+use Rattle.fa_ledger.specs.parts.Steps.{IsListedReply, opened_with, SettlesTruncation, given_again, given_to, times_named, is_new, some_new, opened_again, IsOpenedBy}
 use Rattle.fa_ledger.proofs.NameLemmas.{not_root}
 use Rattle.fa_ledger.proofs.NodeLemmas.{node_given, name_of_node, names_counted}
 use Rattle.fa_ledger.proofs.HandleLemmas.{key_same}
@@ -176,7 +176,7 @@ new_is_uncounted es r reply at known names shown named new =
     (found.0, found.1, λ counted. none_uncounted es found.0 (lookup (nat_eq found.0) known) found.2 (shown found.0) counted)
 
 -- a listing that gives something lists nodes
-pub some_is_listed : (r : PlainRequest) (reply : PlainReply) → IsListing reply → nodes_given r.body reply ≢ [] → ListsNodes r reply
+pub some_is_listed : (r : PlainRequest) (reply : PlainReply) → IsListedReply reply → nodes_given r.body reply ≢ [] → ListsNodes r reply
 some_is_listed r (Listed ds) listing some = has_some (nodes_of_listing ds) some
 some_is_listed r other listing some = absurd listing
 

@@ -1,6 +1,6 @@
 -- A request that is noted in the books: what it leaves, what it takes, what it closes and what it adds.
 use Rattle.std.proofs.Common.{◌≡◌, ℕ, ◌<◌, ◌≤◌, Bool, true, false, cond, List, [], ◌∷◌, ◌++◌, length, Option, None, Some, refl, sym, ap, subst, ◌∙◌, inl, inr, arith}
-use Rattle.std.specs.Prelude.{◌↔◌, nat_eq, All, IsTrue, MatchOption, IsSomeAnd, option_and_then}
+use Rattle.std.specs.Prelude.{◌↔◌, nat_eq, All, IsTrue, MatchOption, IsSomeAnd, is_none, option_and_then}
 use Rattle.std.specs.Borrow.{Bor}
 use Rattle.std.specs.Map.{lookup}
 use Rattle.fa_capture.specs.declared.codes.TheConstants.{FORGOTTEN_TOO_OFTEN, CLOSED_HANDLE}
@@ -18,10 +18,12 @@ use Rattle.fa_session.proofs.CallerLemmas.{get_kept, get_back, get_cases}
 use Rattle.fa_ledger.specs.declared.books.Books.{Books}
 use Rattle.fa_ledger.specs.declared.books.Names.{Names}
 use Rattle.fa_ledger.specs.declared.books.Used.{Used}
+use Rattle.fa_ledger.specs.declared.call.Listing.{Listing}
 use Rattle.fa_ledger.specs.declared.call_list.CallList.{CallList}
 use Rattle.fa_ledger.specs.declared.handles.Handle.{Handle}
 use Rattle.fa_ledger.specs.declared.handles.Handles.{Handles}
 use Rattle.fa_ledger.specs.declared.key.Key.{Key}
+use Rattle.fa_ledger.specs.declared.listings.Listings.{Listings}
 use Rattle.fa_ledger.specs.declared.nodes.Lookups.{Lookups}
 use Rattle.fa_ledger.specs.declared.nodes.Nodes.{Nodes}
 use Rattle.fa_ledger.specs.Counts.{body_takes, request_takes, total_taken, lookups_given, IsKnown}
@@ -31,12 +33,15 @@ use Rattle.fa_ledger.specs.Kinds.{IsTreeRequest}
 use Rattle.fa_ledger.specs.Handles.{is_closing, closing, IsDirect}
 use Rattle.fa_ledger.specs.Calls.{PlainCall, IsNegotiatedFlag, Truncates, IsHandleUsed, IsMark, IsAskedCall, AreCallsOf}
 use Rattle.fa_ledger.specs.Passing.{NamesKnown, TakesWithin, UsesOpen}
-use Rattle.fa_ledger.specs.Shows.{IsNodeOf, IsKeyOf}
+use Rattle.fa_ledger.specs.Listings.{IsListingIfAny, offset_asked}
+use Rattle.fa_ledger.specs.Shows.{IsNodeOf, IsKeyOf, ArePlaces}
+use Rattle.fa_ledger.specs.parts.ListingParts.{place_of, listing_by}
 use Rattle.fa_ledger.specs.parts.BookParts.{NodesShow, KeysShow, BooksShow, Stands, AreNames, AreNamesIfAny, IsUsed, IsUsedIfAny, asked_checks}
 use Rattle.fa_ledger.specs.parts.Steps.{closed_once, lookup_of, but_root, AreWithin, IsTakenFrom, count_left}
 use Rattle.fa_ledger.proofs.HandleLemmas.{key_same}
 use Rattle.fa_ledger.proofs.KeyLemmas.{other_unclosed, none_unopened, none_unclosed, open_is_some, key_unmoved, key_closed}
 use Rattle.fa_ledger.proofs.NodeLemmas.{node_kept, node_taken, within_now, given_within}
+use Rattle.fa_ledger.proofs.PlaceBookLemmas.{places_asked, places_closed, none_gone, listing_asked, IsClosedOnce}
 use Rattle.fa_ledger.proofs.TakingLemmas.{no_item}
 use Rattle.fa_ledger.proofs.CallStepLemmas.{calls_kept, calls_asked}
 
@@ -148,8 +153,8 @@ direct_marked es r opened (Some used) direct is has =
     subst (λ k. IsMark (IsDirect es) k direct) (sym is.key) mark
 
 -- the call that a tree request adds
-abbrev pub new_call : ℕ → PlainRequest → Names → Option ℕ → Bool → Bool → PlainCall
-new_call at r names handle direct truncates = record {
+abbrev pub new_call : ℕ → PlainRequest → Names → Option ℕ → Bool → Bool → Option Listing → PlainCall
+new_call at r names handle direct truncates listing = record {
   asked = at;
   request = r;
   node = names.node;
@@ -157,44 +162,78 @@ new_call at r names handle direct truncates = record {
   handle = handle;
   direct = direct;
   truncates = truncates;
-  listing = None;
+  listing = listing;
   answer = None;
 }
 
 -- ---- the books behind a request that names nodes
 
+-- the places, where it closes nothing
+places_kept : (c : List Message) (m : Message) (es : List PlainEvent) (at : ℕ) (r : PlainRequest) (b : Books) → Stands c m es (Asked at r) b → is_closing r.body ≡ false
+    → ArePlaces (es ++ Asked at r ∷ []) (place_of b.listings.by_key.entries)
+places_kept c m es at r b stands leaves =
+    let opened = b.handles.opened.entries in
+    places_asked c m es at r stands.are stands.event opened opened stands.shown.keys (keys_kept es at r opened leaves stands.shown.keys) (λ key stood. stood) (place_of b.listings.by_key.entries) stands.shown.places
+
 -- one that is no tree request and closes nothing leaves them as they are
-pub shows_left : (es : List PlainEvent) (at : ℕ) (r : PlainRequest) (b : Books) → request_takes r ≡ [] → is_closing r.body ≡ false → (IsTreeRequest r.body → ⊥) → BooksShow es b
+pub shows_left : (c : List Message) (m : Message) (es : List PlainEvent) (at : ℕ) (r : PlainRequest) (b : Books) → request_takes r ≡ [] → is_closing r.body ≡ false → (IsTreeRequest r.body → ⊥) → Stands c m es (Asked at r) b
     → BooksShow (es ++ Asked at r ∷ []) b
-shows_left es at r b none leaves no_tree shown = record {
+shows_left c m es at r b none leaves no_tree stands = let shown = stands.shown in record {
   truncating = mark_kept es at r atomic_o_trunc b.truncating shown.truncating;
   nodes = nodes_kept es at r b.nodes.known.entries none shown.nodes;
   keys = keys_kept es at r b.handles.opened.entries leaves shown.keys;
+  places = places_kept c m es at r b stands leaves;
   calls = others_kept es at r b.calls no_tree shown.calls;
 }
 
--- a closing closes its key once
-pub shows_closed : (es : List PlainEvent) (at : ℕ) (r : PlainRequest) (b : Books) (handles : Handles) (used : Used) → request_takes r ≡ [] → is_closing r.body ≡ true → (IsTreeRequest r.body → ⊥)
-    → IsUsed es r b.handles.opened.entries used
-    → ((other : Key) → lookup (key_eq other) handles.opened.entries ≡ cond (key_eq used.key other) (closed_once (lookup (key_eq used.key) b.handles.opened.entries)) (lookup (key_eq other) b.handles.opened.entries))
-    → BooksShow es b → BooksShow (es ++ Asked at r ∷ []) (record b { handles = handles })
-shows_closed es at r b handles used none closes no_tree is wrote shown = record {
-  truncating = mark_kept es at r atomic_o_trunc b.truncating shown.truncating;
-  nodes = nodes_kept es at r b.nodes.known.entries none shown.nodes;
-  keys = keys_closed es at r b.handles.opened.entries handles.opened.entries used closes is wrote shown.keys;
-  calls = others_kept es at r b.calls no_tree shown.calls;
-}
+-- a closing closes its key once, which stays open
+pub shows_closed : (c : List Message) (m : Message) (es : List PlainEvent) (at : ℕ) (r : PlainRequest) (b : Books) (handles : Handles) (used : Used) → request_takes r ≡ [] → is_closing r.body ≡ true → (IsTreeRequest r.body → ⊥)
+    → IsUsed es r b.handles.opened.entries used → IsClosedOnce used.key b.handles.opened.entries handles.opened.entries
+    → false ≡ is_none (closed_once (lookup (key_eq used.key) b.handles.opened.entries))
+    → Stands c m es (Asked at r) b → BooksShow (es ++ Asked at r ∷ []) (record b { handles = handles })
+shows_closed c m es at r b handles used none closes no_tree is wrote left stands =
+    let shown = stands.shown in
+    let old = b.handles.opened.entries in
+    let new = handles.opened.entries in
+    let keys = keys_closed es at r old new used closes is wrote shown.keys in
+    record {
+      truncating = mark_kept es at r atomic_o_trunc b.truncating shown.truncating;
+      nodes = nodes_kept es at r b.nodes.known.entries none shown.nodes;
+      keys = keys;
+      places = places_asked c m es at r stands.are stands.event old new shown.keys keys (none_gone used.key old new wrote left) (place_of b.listings.by_key.entries) shown.places;
+      calls = others_kept es at r b.calls no_tree shown.calls;
+    }
+
+-- or which is closed for good: then its places are forgotten
+pub shows_gone : (c : List Message) (m : Message) (es : List PlainEvent) (at : ℕ) (r : PlainRequest) (b : Books) (handles : Handles) (listings : Listings) (used : Used) → request_takes r ≡ [] → is_closing r.body ≡ true → (IsTreeRequest r.body → ⊥)
+    → IsUsed es r b.handles.opened.entries used → IsClosedOnce used.key b.handles.opened.entries handles.opened.entries
+    → true ≡ is_none (closed_once (lookup (key_eq used.key) b.handles.opened.entries))
+    → ((other : Key) (offset : ℕ) → place_of listings.by_key.entries other offset ≡ cond (key_eq used.key other) None (place_of b.listings.by_key.entries other offset))
+    → Stands c m es (Asked at r) b → BooksShow (es ++ Asked at r ∷ []) (record b { handles = handles; listings = listings })
+shows_gone c m es at r b handles listings used none closes no_tree is wrote gone forgot stands =
+    let shown = stands.shown in
+    let old = b.handles.opened.entries in
+    let new = handles.opened.entries in
+    let keys = keys_closed es at r old new used closes is wrote shown.keys in
+    record {
+      truncating = mark_kept es at r atomic_o_trunc b.truncating shown.truncating;
+      nodes = nodes_kept es at r b.nodes.known.entries none shown.nodes;
+      keys = keys;
+      places = places_closed c m es at r stands.are stands.event used.key old new shown.keys keys wrote gone (place_of b.listings.by_key.entries) (place_of listings.by_key.entries) forgot shown.places;
+      calls = others_kept es at r b.calls no_tree shown.calls;
+    }
 
 -- a tree request is one more call
-pub shows_called : (c : List Message) (m : Message) (es : List PlainEvent) (at : ℕ) (r : PlainRequest) (b : Books) (names : Names) (used : Option Used) (handle : Option ℕ) (direct truncates : Bool) (calls : CallList)
+pub shows_called : (c : List Message) (m : Message) (es : List PlainEvent) (at : ℕ) (r : PlainRequest) (b : Books) (names : Names) (used : Option Used) (handle : Option ℕ) (direct truncates : Bool) (listing : Option Listing) (calls : CallList)
     → Stands c m es (Asked at r) b → AreNames es r names → IsUsedIfAny es r b.handles.opened.entries used → request_takes r ≡ [] → IsTreeRequest r.body
     → MatchOption used (handle ≡ None) (λ u. IsSomeAnd handle (λ name. name ≡ u.handle.name)) → MatchOption used (direct ≡ false) (λ u. direct ≡ u.handle.direct)
     → ((before : List PlainEvent) → IsTrue b.truncating ↔ IsNegotiatedFlag before atomic_o_trunc → IsTrue truncates ↔ Truncates before r.body)
-    → calls ≡ b.calls ++ new_call at r names handle direct truncates ∷ []
+    → listing ≡ listing_by (offset_asked r.body) used (place_of b.listings.by_key.entries)
+    → calls ≡ b.calls ++ new_call at r names handle direct truncates listing ∷ []
     → BooksShow (es ++ Asked at r ∷ []) (record b { calls = calls })
-shows_called c m es at r b names used handle direct truncates calls stands are uses none tree named marked empties pushed =
+shows_called c m es at r b names used handle direct truncates listing calls stands are uses none tree named marked empties further pushed =
     let number : at ≡ length es = stands.event.0 ∙ sym stands.are.counted in
-    let call : PlainCall = new_call at r names handle direct truncates in
+    let call : PlainCall = new_call at r names handle direct truncates listing in
     let says : IsAskedCall es call = record {
       tree = tree;
       node = are.node;
@@ -202,13 +241,14 @@ shows_called c m es at r b names used handle direct truncates calls stands are u
       handle = handle_named es r b.handles.opened.entries used handle uses named;
       direct = direct_marked es r b.handles.opened.entries used direct uses marked;
       truncates = empties es stands.shown.truncating;
-      listing = refl;
+      listing = subst (IsListingIfAny es r) (sym further) (listing_asked es r b.handles.opened.entries used (place_of b.listings.by_key.entries) uses stands.shown.places);
     } in
     let more : AreCallsOf (es ++ Asked (length es) r ∷ []) (b.calls ++ call ∷ []) = calls_asked c es stands.are r b.calls call stands.shown.calls number refl refl says in
     record {
       truncating = mark_kept es at r atomic_o_trunc b.truncating stands.shown.truncating;
       nodes = nodes_kept es at r b.nodes.known.entries none stands.shown.nodes;
       keys = keys_kept es at r b.handles.opened.entries (tree_not_closing r.body tree) stands.shown.keys;
+      places = places_kept c m es at r b stands (tree_not_closing r.body tree);
       calls = subst (λ n. AreCallsOf (es ++ Asked n r ∷ []) calls) (sym number) (subst (AreCallsOf (es ++ Asked (length es) r ∷ [])) (sym pushed) more);
     }
 
@@ -239,15 +279,17 @@ left_few c m es e b stands node =
 -- ---- requests that take, and name no nodes
 
 -- the books behind a request that takes these items
-pub shows_taken : (es : List PlainEvent) (at : ℕ) (r : PlainRequest) (b : Books) (nodes : Nodes) (items : List (ℕ × ℕ)) → nodes_named r ≡ [] → request_takes r ≡ but_root items
+pub shows_taken : (c : List Message) (m : Message) (es : List PlainEvent) (at : ℕ) (r : PlainRequest) (b : Books) (nodes : Nodes) (items : List (ℕ × ℕ)) → nodes_named r ≡ [] → request_takes r ≡ but_root items
     → ((node : ℕ) → IsTakenFrom (total_taken node (but_root items)) (lookup (nat_eq node) b.nodes.known.entries) (lookup (nat_eq node) nodes.known.entries))
-    → BooksShow es b → BooksShow (es ++ Asked at r ∷ []) (record b { nodes = nodes })
-shows_taken es at r b nodes items none takes took shown =
+    → Stands c m es (Asked at r) b → BooksShow (es ++ Asked at r ∷ []) (record b { nodes = nodes })
+shows_taken c m es at r b nodes items none takes took stands =
+    let shown = stands.shown in
     let is : NamesNone r.body = names_none r.node r.body none in
     record {
       truncating = mark_kept es at r atomic_o_trunc b.truncating shown.truncating;
       nodes = λ node. node_taken es (Asked at r) node (total_taken node (but_root items)) (lookup (nat_eq node) b.nodes.known.entries) (lookup (nat_eq node) nodes.known.entries) refl (ap (total_taken node) takes) (took node) (shown.nodes node);
       keys = keys_kept es at r b.handles.opened.entries is.leaves shown.keys;
+      places = places_kept c m es at r b stands is.leaves;
       calls = others_kept es at r b.calls is.no_tree shown.calls;
     }
 
@@ -278,10 +320,10 @@ pub none_keep : (es : List PlainEvent) (r : PlainRequest) → nodes_named r ≡ 
 none_keep es r none takes = (none_known es r none, (nothing_taken es r takes, (inl (names_none r.node r.body none).uses, tt)))
 
 -- and leaves the books as they are
-pub none_shows : (es : List PlainEvent) (at : ℕ) (r : PlainRequest) (b : Books) → nodes_named r ≡ [] → request_takes r ≡ [] → BooksShow es b → BooksShow (es ++ Asked at r ∷ []) b
-none_shows es at r b none takes shown =
+pub none_shows : (c : List Message) (m : Message) (es : List PlainEvent) (at : ℕ) (r : PlainRequest) (b : Books) → nodes_named r ≡ [] → request_takes r ≡ [] → Stands c m es (Asked at r) b → BooksShow (es ++ Asked at r ∷ []) b
+none_shows c m es at r b none takes stands =
     let is : NamesNone r.body = names_none r.node r.body none in
-    shows_left es at r b takes is.leaves is.no_tree shown
+    shows_left c m es at r b takes is.leaves is.no_tree stands
 
 -- the names of the nodes of a request that names some
 pub names_there : {o : Option Names} (es : List PlainEvent) (r : PlainRequest) (names : Names) → o ≡ Some names → AreNamesIfAny es r o → AreNames es r names

@@ -57,11 +57,11 @@ found_alike test other [] same = refl
 found_alike test other (e ∷ es) same = rw (same e.0, found_alike test other es same) refl
 
 -- what a table has at a key
-pub at_key : (key : Key) (es : List (Key × Handle)) → lookup (derived.eq-value.it key) es ≡ lookup (key_eq key) es
+pub at_key : {V : Type 0} (key : Key) (es : List (Key × V)) → lookup (derived.eq-value.it key) es ≡ lookup (key_eq key) es
 at_key key es = found_alike (derived.eq-value.it key) (key_eq key) es (keys_alike key)
 
 -- what a table has at each key after a write at one
-pub after_write : (key : Key) (old new : List (Key × Handle)) (w x : Option Handle) → w ≡ x
+pub after_write : {V : Type 0} (key : Key) (old new : List (Key × V)) (w x : Option V) → w ≡ x
     → ((other : Key) → lookup (derived.eq-value.it other) new ≡ cond (derived.eq-value.it key other) w (lookup (derived.eq-value.it other) old))
     → (other : Key) → lookup (key_eq other) new ≡ cond (key_eq key other) x (lookup (key_eq other) old)
 after_write key old new w x same wrote other =
@@ -73,6 +73,11 @@ nothing_closed None h none some = absurd cc
 nothing_closed (Some x) h none some = absurd cc
 
 -- ---- results
+
+-- what holds either way holds at an error
+pub either_way : {A E : Type 0} (r : Result A E) {P : Type 0} → P → OnErr r P
+either_way (Ok v) holds = tt
+either_way (Err e) holds = holds
 
 -- what a result ensures ensures what follows from it
 pub ok_also : {A E : Type 0} (r : Result A E) (P Q : Type 0) → (P → Q) → OnOk r P → OnOk r Q

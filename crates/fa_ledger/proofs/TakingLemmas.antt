@@ -71,15 +71,6 @@ raised_twice : (m n : ℕ) (x : Option Lookups) → raised n (raised m x) ≡ ra
 raised_twice m n None = refl
 raised_twice m n (Some l) = ap (λ k. Some k) (same_lookups (record { count = l.count + m + n; by = l.by }) (record { count = l.count + (m + n); by = l.by }) (omega arith) refl)
 
-pub raised_none : (x : Option Lookups) → raised 0 x ≡ x
-raised_none None = refl
-raised_none (Some l) = ap (λ m. Some m) (same_lookups (record { count = l.count + 0; by = l.by }) l (omega arith) refl)
-
--- what is given back after it was taken
-pub raised_back : (n : ℕ) (x : Option Lookups) → n ≤ count_left x → raised n (lowered n x) ≡ x
-raised_back n None within = refl
-raised_back n (Some l) within = ap (λ k. Some k) (same_lookups (record { count = l.count - n + n; by = l.by }) l (omega (arith, within)) refl)
-
 -- two numbers are the same or not
 same_or_not : (m n : ℕ) → (m ≡ n) ⊎ (m ≢ n)
 same_or_not m n =

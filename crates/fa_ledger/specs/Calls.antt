@@ -25,6 +25,7 @@ use Rattle.fa_ledger.specs.Counts.{nodes_given}
 use Rattle.fa_ledger.specs.Kinds.{IsTreeRequest}
 use Rattle.fa_ledger.specs.Names.{name_at, nodes_named}
 use Rattle.fa_ledger.specs.Keys.{key_used}
+use Rattle.fa_ledger.specs.Listings.{IsListingIfAny}
 use Rattle.fa_ledger.specs.Handles.{times_opened, times_closed, OpensAt, IsHandle, IsDirect}
 
 -- The answer of a tree request: the number of its message, what it says, the names of the nodes that it gives, and whether
@@ -37,8 +38,8 @@ pub record PlainAnswer : Type 0 where
 
 -- A tree request as it was sent: the number of its message, what it asks for, the names of the nodes that it names (the
 -- second is the new directory of RENAME and the file of LINK), the name of the file handle that it uses, if any, and
--- whether that one is direct; whether its success empties a file that is there; what a listing goes on from, which is not
--- said of any call yet. And its answer, if it has one.
+-- whether that one is direct; whether its success empties a file that is there; and what it goes on from, if it lists. And
+-- its answer, if it has one.
 pub record PlainCall : Type 0 where
   pub asked : ℕ
   pub request : PlainRequest
@@ -104,7 +105,7 @@ pub record IsAskedCall (before : List PlainEvent) (call : PlainCall) : Type 0 wh
   pub handle : IsHandleUsed before (key_used before call.request) call.handle
   pub direct : IsMark (IsDirect before) (key_used before call.request) call.direct
   pub truncates : IsTrue call.truncates ↔ Truncates before call.request.body
-  pub listing : call.listing ≡ None
+  pub listing : IsListingIfAny before call.request call.listing
 
 -- the answer opens a handle anew: its key stood at zero before
 abbrev pub OpensAnew : List PlainEvent → ℕ → Type 0

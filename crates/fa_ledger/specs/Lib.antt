@@ -9,12 +9,16 @@ pub mod Names
 -- keys of file handles, and which of them are open
 pub mod Keys
 pub mod Handles
+-- what a listing goes on from
+pub mod Listings
 -- which messages pass, good captures and first faults
 pub mod Passing
 -- the calls of messages, and what an order may say of them
 pub mod Kinds
 pub mod Calls
 pub mod Choices
+-- the listing so far of a call
+pub mod SoFar
 -- what a ledger shows of messages
 pub mod Plain
 pub mod Shows

@@ -1,8 +1,9 @@
 -- What comes next, and why a ledger does not take it.
-use Rattle.std.specs.Prelude.{ℕ, ◌<◌, ◌⊎◌, List, [], ◌∷◌, ◌++◌, length, Contains}
+use Rattle.std.specs.Prelude.{◌≡◌, ◌≢◌, ℕ, ◌<◌, ◌⊎◌, List, [], ◌∷◌, ◌++◌, length, take, Contains}
 use Rattle.fa_capture.specs.declared.limits.TheConstants.{MAX_MESSAGES}
 use Rattle.fa_capture.specs.Checks.{FirstFailure}
 use Rattle.fa_capture.specs.Message.{Message}
+use Rattle.fa_bodies.specs.Dirents.{PlainDirent}
 use Rattle.fa_bodies.specs.Requests.{PlainRequest}
 use Rattle.fa_bodies.specs.Replies.{PlainReply}
 use Rattle.fa_bodies.specs.Replies.PlainReply.{Listed}
@@ -13,6 +14,8 @@ use Rattle.fa_ledger.specs.declared.error.LedgerError.{LedgerError}
 use Rattle.fa_ledger.specs.declared.error.LedgerError.TheVariants.{Refused, Memory}
 use Rattle.fa_ledger.specs.Events.{AreEvents}
 use Rattle.fa_ledger.specs.Counts.{nodes_given, IsCounted}
+use Rattle.fa_ledger.specs.Handles.{IsHandle}
+use Rattle.fa_ledger.specs.Listings.{UsesHandle}
 use Rattle.fa_ledger.specs.Kinds.{IsTreeRequest}
 use Rattle.fa_ledger.specs.Passing.{message_checks, Passes}
 use Rattle.fa_ledger.specs.Calls.{OpensAnew}
@@ -35,12 +38,22 @@ abbrev pub ListsNodes : PlainRequest → PlainReply → Type 0
 ListsNodes r (Listed ds) = (node : ℕ) × Contains (nodes_given r.body (Listed ds)) node
 ListsNodes r other = ⊥
 
--- More is to be kept after the event: a further call; a node that was not counted, the names of a listing's nodes, or a key
--- that was not open.
+-- The reply lists entries on a file handle that is open still.
+pub record ListsOn (es : List PlainEvent) (asked : ℕ) (r : PlainRequest) (reply : PlainReply) : Type 0 where
+  pub entries : List PlainDirent
+  pub lists : reply ≡ Listed entries
+  pub some : entries ≢ []
+  pub handle : ℕ
+  pub uses : UsesHandle (take asked es) r handle
+  pub «open» : IsHandle es uses.key handle
+
+-- More is to be kept after the event: a further call; a node that was not counted, the names of a listing's nodes, a key that
+-- was not open, or, on a handle that is still open, the offsets of the entries that the answer lists. For these room is made
+-- for each, also where an earlier answer had it.
 abbrev pub IsMoreKept : List PlainEvent → PlainEvent → Type 0
 IsMoreKept es (Asked at r) = IsTreeRequest r.body
 IsMoreKept es (Answered at asked r reply) =
-    GivesNew es r reply ⊎ (ListsNodes r reply ⊎ OpensAnew (es ++ Answered at asked r reply ∷ []) at)
+    GivesNew es r reply ⊎ (ListsNodes r reply ⊎ (OpensAnew (es ++ Answered at asked r reply ∷ []) at ⊎ ListsOn es asked r reply))
 IsMoreKept es (Notice at) = ⊥
 
 -- The next message is refused with the code of the first check that it fails. Memory is wanted only for a message that

@@ -4,6 +4,8 @@
 pub mod Steps
 -- the list of the calls
 pub mod CallParts
+-- the table of the offsets that were reached
+pub mod ListingParts
 -- the books of a ledger
 pub mod BookParts
 -- what a ledger's fields show

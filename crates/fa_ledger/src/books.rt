@@ -15,23 +15,28 @@ ghost use Rattle.fa_ledger.specs.Names.{name_at};
 ghost use Rattle.fa_ledger.specs.Passing.{NamesKnown, UsesOpen, MayBeGiven, ledger_checks};
 ghost use Rattle.fa_ledger.specs.Calls.{PlainCall};
 ghost use Rattle.fa_ledger.specs.Refusals.{IsMoreKept};
-ghost use Rattle.fa_ledger.specs.parts.CallParts.{WaitsAt};
+ghost use Rattle.fa_ledger.specs.Listings.{offset_asked};
+ghost use Rattle.fa_ledger.specs.parts.CallParts.{WaitsAt, waiting_of};
+ghost use Rattle.fa_ledger.specs.parts.ListingParts.{place_of, listing_by, ListsStillIfAny};
 
-use crate::call::{Answer, Call};
-use crate::call_list::CallList;
+use crate::call::{Answer, Call, Listing};
+use crate::call_list::{CallList, Waiting};
 use crate::error::LedgerError;
 use crate::giving::{may_be_given, names_given, opened, settles_truncation};
 use crate::handles::{Handle, Handles};
 use crate::key::Key;
+use crate::listings::{ListedOn, Listings, entries_count};
 use crate::name::NodeName;
-use crate::naming::{handle_used, is_closing, is_tree_request, nodes_named, truncates};
+use crate::naming::{
+    handle_used, is_closing, is_tree_request, nodes_named, offset_asked, truncates,
+};
 use crate::nodes::Nodes;
 use fa_bodies::{Reply, Request, RequestBody};
 use fa_capture::codes;
 use fa_session::Event;
 use std::alloc::Global;
 
-/// The books of a ledger: nodes, file handles and calls.
+/// The books of a ledger: nodes, file handles, where offsets were last reached, and calls.
 #[derive(Drop)]
 pub(crate) struct Books<'a> {
     /// Where names of nodes are kept.
@@ -42,6 +47,8 @@ pub(crate) struct Books<'a> {
     pub nodes: Nodes,
     /// The keys that are open.
     pub handles: Handles,
+    /// Where the offsets of the directories that are open were last reached.
+    pub listings: Listings,
     /// The calls so far.
     pub calls: CallList<'a>,
 }
@@ -63,7 +70,7 @@ pub(crate) struct Used {
 }
 
 impl<'a> Books<'a> {
-    ghost use Rattle.fa_ledger.specs.parts.BookParts.{NodesShow, KeysShow, BooksShow, Stands, AreSame, AreNames, AreNamesIfAny, IsUsedIfAny, asked_checks, IsAskedRefusal, IsAnsweredRefusal, IsLedgerRefusal};
+    ghost use Rattle.fa_ledger.specs.parts.BookParts.{NodesShow, KeysShow, BooksShow, StandBefore, Stands, WhereStands, ShowNext, AreSame, AreNames, AreNamesIfAny, IsUsedIfAny, asked_checks, IsAskedRefusal, IsAnsweredRefusal, IsLedgerRefusal};
 
     /// Books of no events. What they store later takes memory from `alloc`.
     pub fn new(alloc: Global) -> Self
@@ -74,16 +81,17 @@ impl<'a> Books<'a> {
             truncating: false,
             nodes: Nodes::new(alloc),
             handles: Handles::new(alloc),
+            listings: Listings::new(alloc),
             calls: CallList::new(alloc),
         }
     }
 
     /// Notes an event, if its message keeps the rules of nodes and file handles.
     pub fn note(&mut self, event: &Event<'a>) -> Result<(), LedgerError>
-        requires { (c : List Message) × (m : Message) × (es : List PlainEvent) × Stands c m es (event_shown event.now) self.old }
-        ensures keeps { OnOk result ((c : List Message) (m : Message) (es : List PlainEvent) → Stands c m es (event_shown event.now) self.old → AllHold (ledger_checks c m)) }
-        ensures shows { OnOk result ((c : List Message) (m : Message) (es : List PlainEvent) → Stands c m es (event_shown event.now) self.old → BooksShow (es ++ event_shown event.now ∷ []) self.new) }
-        ensures refused { IfErr result (λ error. (c : List Message) (m : Message) (es : List PlainEvent) → Stands c m es (event_shown event.now) self.old → IsLedgerRefusal c m es (event_shown event.now) error) }
+        requires { StandBefore (event_shown event.now) self.old }
+        ensures keeps { OnOk result (WhereStands (event_shown event.now) self.old (λ c m es. AllHold (ledger_checks c m))) }
+        ensures shows { OnOk result (ShowNext (event_shown event.now) self.old self.new) }
+        ensures refused { IfErr result (λ error. WhereStands (event_shown event.now) self.old (λ c m es. IsLedgerRefusal c m es (event_shown event.now) error)) }
         ensures unchanged { OnErr result (AreSame self.old self.new) }
     {
         match event {
@@ -100,10 +108,10 @@ impl<'a> Books<'a> {
 
     /// Notes the request of this number, if it keeps the rules of nodes and file handles.
     fn note_request(&mut self, at: u32, request: &Request<'a>) -> Result<(), LedgerError>
-        requires { (c : List Message) × (m : Message) × (es : List PlainEvent) × Stands c m es (Asked at (request_shown request.now)) self.old }
-        ensures keeps { OnOk result ((c : List Message) (m : Message) (es : List PlainEvent) → Stands c m es (Asked at (request_shown request.now)) self.old → AllHold (asked_checks es (request_shown request.now))) }
-        ensures shows { OnOk result ((c : List Message) (m : Message) (es : List PlainEvent) → Stands c m es (Asked at (request_shown request.now)) self.old → BooksShow (es ++ Asked at (request_shown request.now) ∷ []) self.new) }
-        ensures refused { IfErr result (λ error. (c : List Message) (m : Message) (es : List PlainEvent) → Stands c m es (Asked at (request_shown request.now)) self.old → IsAskedRefusal es (request_shown request.now) error) }
+        requires { StandBefore (Asked at (request_shown request.now)) self.old }
+        ensures keeps { OnOk result (WhereStands (Asked at (request_shown request.now)) self.old (λ c m es. AllHold (asked_checks es (request_shown request.now)))) }
+        ensures shows { OnOk result (ShowNext (Asked at (request_shown request.now)) self.old self.new) }
+        ensures refused { IfErr result (λ error. WhereStands (Asked at (request_shown request.now)) self.old (λ c m es. IsAskedRefusal es (request_shown request.now) error)) }
         ensures unchanged { OnErr result (AreSame self.old self.new) }
     {
         match &request.body {
@@ -127,17 +135,17 @@ impl<'a> Books<'a> {
         request: &Request<'a>,
         reply: Reply<'a>,
     ) -> Result<(), LedgerError>
-        requires { (c : List Message) × (m : Message) × (es : List PlainEvent) × Stands c m es (Answered at asked (request_shown request.now) (reply_shown reply)) self.old }
+        requires { StandBefore (Answered at asked (request_shown request.now) (reply_shown reply)) self.old }
         ensures allowed { OnOk result (All MayBeGiven (nodes_given (body_shown request.now.body) (reply_shown reply.entry))) }
-        ensures shows { OnOk result ((c : List Message) (m : Message) (es : List PlainEvent) → Stands c m es (Answered at asked (request_shown request.now) (reply_shown reply.entry)) self.old → BooksShow (es ++ Answered at asked (request_shown request.now) (reply_shown reply.entry) ∷ []) self.new) }
-        ensures refused { IfErr result (λ error. (c : List Message) (m : Message) (es : List PlainEvent) → Stands c m es (Answered at asked (request_shown request.now) (reply_shown reply.entry)) self.old → IsAnsweredRefusal es at asked (request_shown request.now) (reply_shown reply.entry) error) }
+        ensures shows { OnOk result (ShowNext (Answered at asked (request_shown request.now) (reply_shown reply.entry)) self.old self.new) }
+        ensures refused { IfErr result (λ error. WhereStands (Answered at asked (request_shown request.now) (reply_shown reply.entry)) self.old (λ c m es. IsAnsweredRefusal es at asked (request_shown request.now) (reply_shown reply.entry) error)) }
         ensures unchanged { OnErr result (AreSame self.old self.new) }
     {
         if !may_be_given(&request.body, &reply) {
             return Err(LedgerError::Refused(codes::NODE_ID_NOT_ALLOWED));
         }
-        match self.calls.node_of(asked) {
-            Some(node) => self.note_answer(at, asked, node, request, reply),
+        match self.calls.find(asked) {
+            Some(waiting) => self.note_answer(at, asked, waiting, request, reply),
             None => {
                 self.truncating |= settles_truncation(&request.body, &reply);
                 Ok(())
@@ -182,7 +190,7 @@ impl<'a> Books<'a> {
     }
 
     /// Notes a request that names these nodes and uses this file handle: a tree request is one more call, and a closing
-    /// closes its handle once.
+    /// closes its handle once; where no opening is left, the offsets that were reached on it go.
     fn note_use(
         &mut self,
         at: u32,
@@ -191,7 +199,7 @@ impl<'a> Books<'a> {
         used: Option<Used>,
     ) -> Result<(), LedgerError>
         requires { (c : List Message) × (m : Message) × (es : List PlainEvent) × Stands c m es (Asked at (request_shown request.now)) self.old × AreNames es (request_shown request.now) names × IsUsedIfAny es (request_shown request.now) self.old.handles.opened.entries used × (request_takes (request_shown request.now) ≡ []) }
-        ensures shows { OnOk result ((c : List Message) (m : Message) (es : List PlainEvent) → Stands c m es (Asked at (request_shown request.now)) self.old → AreNames es (request_shown request.now) names → IsUsedIfAny es (request_shown request.now) self.old.handles.opened.entries used → BooksShow (es ++ Asked at (request_shown request.now) ∷ []) self.new) }
+        ensures shows { OnOk result (WhereStands (Asked at (request_shown request.now)) self.old (λ c m es. AreNames es (request_shown request.now) names → IsUsedIfAny es (request_shown request.now) self.old.handles.opened.entries used → BooksShow (es ++ Asked at (request_shown request.now) ∷ []) self.new)) }
         ensures memory { IfErr result (λ error. (error ≡ Memory) × IsTreeRequest (body_shown request.now.body)) }
         ensures unchanged { OnErr result (AreSame self.old self.new) }
     {
@@ -204,42 +212,91 @@ impl<'a> Books<'a> {
                 handle: used.map(|used| used.handle.name),
                 direct: used.is_some_and(|used| used.handle.direct),
                 truncates: truncates(&request.body, self.truncating),
-                listing: None,
+                listing: self.listing_of(&request.body, used),
                 answer: None,
             };
             self.calls.push(call)?;
         } else if is_closing(&request.body) {
             if let Some(used) = used {
-                self.handles.close(&used.key);
+                if self.handles.close(&used.key) {
+                    self.listings.close(&used.key);
+                }
             }
         }
         Ok(())
     }
 
-    /// Notes the answer to a tree request that named this node: what it gives, what it opens, and the answer.
+    /// What a request that uses this file handle goes on from, if it lists.
+    fn listing_of(&self, body: &RequestBody<'_>, used: Option<Used>) -> Option<Listing>
+        ensures { result ≡ listing_by (offset_asked (body_shown body.now)) used (place_of self.now.listings.by_key.entries) }
+    {
+        let offset = offset_asked(body)?;
+        let used = used?;
+        Some(self.listings.listing(&used.key, offset, used.handle.shared))
+    }
+
+    /// What the answer to this call lists on its file handle, if that is open still.
+    fn listed<'b>(
+        &self,
+        waiting: Waiting,
+        body: &RequestBody<'_>,
+        reply: &Reply<'b>,
+    ) -> Option<ListedOn<'b>>
+        ensures { ListsStillIfAny self.now.handles.opened.entries waiting (body_shown body.now) (reply_shown reply.now) result }
+    {
+        let Reply::Listed(entries) = reply else {
+            return None;
+        };
+        let (fh, kind) = handle_used(body)?;
+        let key = Key {
+            node: waiting.node,
+            fh,
+            kind,
+        };
+        let handle = self.handles.get(&key)?;
+        if waiting.handle != Some(handle.name) {
+            return None;
+        }
+        let count = entries_count(*entries);
+        if count == 0 {
+            return None;
+        }
+        Some(ListedOn {
+            key,
+            adrift: waiting.adrift,
+            entries: *entries,
+            count,
+        })
+    }
+
+    /// Notes the answer to this call: what it gives, what it opens, what it lists, and the answer.
     fn note_answer(
         &mut self,
         at: u32,
         asked: u32,
-        node: NodeName,
+        waiting: Waiting,
         request: &Request<'a>,
         reply: Reply<'a>,
     ) -> Result<(), LedgerError>
-        requires stands { (c : List Message) × (m : Message) × (es : List PlainEvent) × Stands c m es (Answered at asked (request_shown request.now) (reply_shown reply)) self.old }
+        requires stands { StandBefore (Answered at asked (request_shown request.now) (reply_shown reply)) self.old }
         requires allowed { All MayBeGiven (nodes_given (body_shown request.now.body) (reply_shown reply)) }
-        requires waits { (place : ℕ) × (call : PlainCall) × WaitsAt self.old.calls asked place call × (call.node ≡ node) }
-        ensures shows { OnOk result ((c : List Message) (m : Message) (es : List PlainEvent) → Stands c m es (Answered at asked (request_shown request.now) (reply_shown reply.entry)) self.old → BooksShow (es ++ Answered at asked (request_shown request.now) (reply_shown reply.entry) ∷ []) self.new) }
-        ensures memory { IfErr result (λ error. (error ≡ Memory) × ((c : List Message) (m : Message) (es : List PlainEvent) → Stands c m es (Answered at asked (request_shown request.now) (reply_shown reply.entry)) self.old → IsMoreKept es (Answered at asked (request_shown request.now) (reply_shown reply.entry)))) }
+        requires waits { (place : ℕ) × (call : PlainCall) × WaitsAt self.old.calls asked place call × (waiting ≡ waiting_of call) }
+        ensures shows { OnOk result (ShowNext (Answered at asked (request_shown request.now) (reply_shown reply.entry)) self.old self.new) }
+        ensures memory { IfErr result (λ error. (error ≡ Memory) × (WhereStands (Answered at asked (request_shown request.now) (reply_shown reply.entry)) self.old (λ c m es. IsMoreKept es (Answered at asked (request_shown request.now) (reply_shown reply.entry))))) }
         ensures unchanged { OnErr result (AreSame self.old self.new) }
     {
         let given = names_given(self.alloc, &self.nodes, at, &request.body, &reply)?;
         let names = given.names();
-        let opened = opened(node, names, &request.body, &reply);
-        // All room first: nothing fails from here on.
+        let opened = opened(waiting.node, names, &request.body, &reply);
+        let listed = self.listed(waiting, &request.body, &reply);
+        // All room first.
         self.nodes.reserve(names)?;
         self.handles.reserve(&opened)?;
+        self.listings.reserve(&listed)?;
+        // Nothing fails from here on.
         self.nodes.give(names, at);
         let opens = self.handles.note_opened(asked, opened);
+        self.listings.note(asked, listed);
         let answer = Answer {
             at,
             reply,

@@ -51,9 +51,13 @@ pub struct Answer<'a> {
 /// What a READDIR or READDIRPLUS goes on from.
 #[derive(Clone, Copy, Debug, PartialEq, Eq)]
 pub struct Listing {
-    /// The number of the earlier such request whose listing it continues, and how many of that one's entries count.
+    /// The number of the request that it goes on from, and how many entries of its answer count: those up to and with the
+    /// first whose `off` (`struct fuse_dirent` of `fuse.h`) is this request's `offset` (`struct fuse_read_in`). Of several
+    /// earlier answers on the handle with such an entry the last counts, by its message number. None where it begins at
+    /// offset 0, and where there is no such answer (this profile).
     pub before: Option<(u32, u32)>,
-    /// Whether it begins at an offset other than 0 that no earlier reply has, or goes on from a listing that is adrift.
+    /// Whether it begins at an offset other than 0 that no earlier answer on the handle has, or goes on from a listing that
+    /// is adrift.
     pub adrift: bool,
     /// Whether the handle's key stood above one since it was opened, as of this request.
     pub shared: bool,
@@ -78,7 +82,7 @@ pub struct Call<'a> {
     /// Whether its success empties a file that is there (`O_TRUNC` of POSIX `open`): CREATE by that flag, OPEN where
     /// `FUSE_ATOMIC_O_TRUNC` of `fuse.h` was negotiated too. It is the request's, answered or not.
     pub truncates: bool,
-    /// What a READDIR or READDIRPLUS goes on from. None for every call, as this is not judged yet.
+    /// What a READDIR or READDIRPLUS goes on from, answered or not. None for any other call.
     pub listing: Option<Listing>,
     /// Its answer.
     pub answer: Option<Answer<'a>>,

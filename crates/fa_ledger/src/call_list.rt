@@ -1,16 +1,28 @@
 //! The calls so far, in the order of their requests.
 
-ghost use Rattle.std.specs.Prelude.{◌≡◌, ℕ, List, [], ◌∷◌, ◌++◌, map, None, OnOk, OnErr, IfSome, IfNone};
+ghost use Rattle.std.specs.Prelude.{◌≡◌, ℕ, List, [], ◌∷◌, ◌++◌, false, map, None, OnOk, OnErr, IfSome, IfNone};
+ghost use Rattle.std.specs.Option.{option_map_or};
 ghost use Rattle.std.specs.List.Sorted.{IsStrictlyIncreasing};
 ghost use Rattle.fa_ledger.specs.Calls.{PlainCall, answer_shown, call_shown};
-ghost use Rattle.fa_ledger.specs.parts.CallParts.{IsNewNumber, Waits, WaitsAt};
+ghost use Rattle.fa_ledger.specs.parts.CallParts.{IsNewNumber, Waits, WaitsAt, waiting_of};
 ghost use Rattle.fa_ledger.specs.parts.Steps.{with_answer};
 
-use crate::call::{Answer, Call};
+use crate::call::{Answer, Call, Listing};
 use crate::name::NodeName;
 use indexmap::IndexMap;
 use std::alloc::{AllocError, Global};
 use std::marker::Model;
+
+/// What is known of a call that waits for its answer.
+#[derive(Clone, Copy, Debug)]
+pub(crate) struct Waiting {
+    /// The node of its header, by name.
+    pub node: NodeName,
+    /// The file handle that it uses, by name.
+    pub handle: Option<u32>,
+    /// Whether it lists, and its listing is adrift.
+    pub adrift: bool,
+}
 
 /// The calls so far, and which of them wait for an answer.
 #[derive(Drop)]
@@ -27,11 +39,11 @@ impl<'a> Model for CallList<'a> {
 
     ghost Value = { List PlainCall };
 
-    ghost use Rattle.fa_ledger.specs.parts.CallParts.{calls_shown, ArePlaces};
+    ghost use Rattle.fa_ledger.specs.parts.CallParts.{calls_shown, AreWaitingPlaces};
 
     ghost view = { calls_shown };
 
-    ghost invariant = { ArePlaces };
+    ghost invariant = { AreWaitingPlaces };
 }
 
 impl<'a> CallList<'a> {
@@ -61,15 +73,20 @@ impl<'a> CallList<'a> {
         Ok(())
     }
 
-    /// The node of the call that waits under this number.
+    /// The call that waits under this number.
     ///
     /// Takes no memory, in expected constant time.
-    pub fn node_of(&self, asked: u32) -> Option<NodeName>
-        ensures some { IfSome result (λ node. (place : ℕ) × (call : PlainCall) × WaitsAt self.now asked place call × (call.node ≡ node)) }
+    pub fn find(&self, asked: u32) -> Option<Waiting>
+        ensures some { IfSome result (λ waiting. (place : ℕ) × (call : PlainCall) × WaitsAt self.now asked place call × (waiting ≡ waiting_of call)) }
         ensures none { IfNone result ((place : ℕ) (call : PlainCall) → WaitsAt self.now asked place call → ⊥) }
     {
         let place = *self.waiting.get(&asked)?;
-        Some(self.list[place].node)
+        let call = &self.list[place];
+        Some(Waiting {
+            node: call.node,
+            handle: call.handle,
+            adrift: is_adrift(call.listing),
+        })
     }
 
     /// Notes the answer of the call that waits under this number.
@@ -94,4 +111,11 @@ impl<'a> CallList<'a> {
         } = self;
         list
     }
+}
+
+/// Whether what a request goes on from is adrift, if it lists.
+fn is_adrift(listing: Option<Listing>) -> bool
+    ensures { result ≡ option_map_or (λ l. l.adrift) listing false }
+{
+    listing.is_some_and(|listing| listing.adrift)
 }

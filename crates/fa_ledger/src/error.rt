@@ -10,7 +10,7 @@ pub enum LedgerError {
     /// [`codes`](fa_capture::codes).
     #[error("not allowed, by code {0}")]
     Refused(u16),
-    /// Memory for one more call, node or file handle, or for the names of a listing's nodes, was refused.
+    /// Memory for one more call, node or file handle, or for the nodes and the offsets of a listing, was refused.
     #[error("out of memory")]
     Memory,
 }

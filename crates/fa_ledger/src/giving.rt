@@ -9,7 +9,7 @@ ghost use Rattle.fa_bodies.specs.Replies.{reply_shown};
 ghost use Rattle.fa_ledger.specs.Calls.{given_shown};
 ghost use Rattle.fa_ledger.specs.Counts.{node_of, nodes_given, nodes_of_entry, nodes_of_listing};
 ghost use Rattle.fa_ledger.specs.Passing.{MayBeGiven};
-ghost use Rattle.fa_ledger.specs.parts.Steps.{as_list, opened_with, given_to, SettlesTruncation, IsListing};
+ghost use Rattle.fa_ledger.specs.parts.Steps.{as_list, opened_with, given_to, SettlesTruncation, IsListedReply};
 
 use crate::call::GivenNodes;
 use crate::key::{HandleKind, Key};
@@ -42,7 +42,7 @@ fn node_listed(dirent: &Dirent<'_>) -> Option<u64>
 
 /// The node that a reply which is no listing gives, if any.
 fn node_given(body: &RequestBody<'_>, reply: &Reply<'_>) -> Option<u64>
-    ensures { (IsListing (reply_shown reply.now) → ⊥) → as_list result ≡ nodes_given (body_shown body.now) (reply_shown reply.now) }
+    ensures { (IsListedReply (reply_shown reply.now) → ⊥) → as_list result ≡ nodes_given (body_shown body.now) (reply_shown reply.now) }
 {
     match reply {
         Reply::Entry(entry) => match body {
@@ -92,7 +92,7 @@ pub(crate) fn names_given(
     reply: &Reply<'_>,
 ) -> Result<GivenNodes, AllocError>
     ensures named { IfOk result (λ given. given_shown given ≡ map (λ id. given_to id at (get nat_eq nodes.now.known id)) (nodes_given (body_shown body.now) (reply_shown reply.now))) }
-    ensures wanted { OnErr result (IsListing (reply_shown reply.now) × (nodes_given (body_shown body.now) (reply_shown reply.now) ≢ [])) }
+    ensures wanted { OnErr result (IsListedReply (reply_shown reply.now) × (nodes_given (body_shown body.now) (reply_shown reply.now) ≢ [])) }
 {
     match reply {
         Reply::Listed(listing) => names_listed(alloc, nodes, at, *listing),

@@ -88,17 +88,20 @@ impl Handles {
         old.is_none()
     }
 
-    /// Closes one opening of a key.
-    pub fn close(&mut self, key: &Key)
+    /// Closes one opening of a key: whether none is left.
+    pub fn close(&mut self, key: &Key) -> bool
         requires { IfSome (get key_eq self.old.opened key.now) (λ handle. 0 < handle.openings) }
-        ensures { (other : Key) → get key_eq self.new.opened other ≡ cond (key_eq key.now other) (closed_once (get key_eq self.old.opened key.now)) (get key_eq self.old.opened other) }
+        ensures gone { result ≡ is_none (closed_once (get key_eq self.old.opened key.now)) }
+        ensures closed { (other : Key) → get key_eq self.new.opened other ≡ cond (key_eq key.now other) (closed_once (get key_eq self.old.opened key.now)) (get key_eq self.old.opened other) }
     {
         match closed_once(self.get(key)) {
             Some(handle) => {
                 self.opened.insert(*key, handle).unwrap();
+                false
             }
             None => {
                 self.opened.swap_remove(key);
+                true
             }
         }
     }

@@ -69,6 +69,12 @@ impl<'a> Ledger<'a> {
     /// RELEASE, and GETATTR and SETATTR with `GETATTR_FH` and `FATTR_FH`, use the key of a file; READDIR, READDIRPLUS and
     /// RELEASEDIR that of a directory. These are the rules of this profile.
     ///
+    /// **Listings.** A READDIR or READDIRPLUS begins at an `offset` (`struct fuse_read_in`). At one other than 0 it goes on
+    /// from the last answer to either on its file handle that has an entry with that `off` (`struct fuse_dirent`), `.` and
+    /// `..` included; where there is none it is adrift, and so is what goes on from it ([`Listing`](crate::Listing)).
+    /// Nothing is refused for it. What is kept for a handle goes when its key has no opening left. These are rules of this
+    /// profile.
+    ///
     /// # Errors
     ///
     /// The ledger is as it was after each of them.
@@ -77,15 +83,15 @@ impl<'a> Ledger<'a> {
     ///   of [`fa_capture::codes`]: for a request `FORGOTTEN_NODE` where a node that it names is not known, then
     ///   `FORGOTTEN_TOO_OFTEN` where a forget takes more than is left, then `CLOSED_HANDLE` where the key that it uses is not
     ///   open; for a reply `NODE_ID_NOT_ALLOWED` where it gives the root, or 0 where that does not say that there is no node.
-    /// - [`LedgerError::Memory`] where memory was refused for one more call, node or key, or for the names of the nodes of a
-    ///   listing. The message keeps the rules, and its event may be handed in again.
+    /// - [`LedgerError::Memory`] where memory was refused for one more call, node or key, or for what a listing leaves,
+    ///   the names of its nodes and its offsets. The message keeps the rules, and its event may be handed in again.
     ///
     /// # Cost
     ///
     /// Expected constant time, as of hash tables, for each event, for each item of a BATCH_FORGET and for each entry of a
-    /// listing. It keeps a [`Call`](crate::Call) for each tree request, an entry for each node that is known and for each
-    /// key that is open, and for each tree request that waits its place; all grow by doubling. A listing's names take a list
-    /// of their own. No message bytes are copied.
+    /// listing. It keeps a [`Call`](crate::Call) for each tree request, an entry for each node that is known, for each key
+    /// that is open and for each offset that an answer on such a key has, and for each tree request that waits its place;
+    /// all grow by doubling. A listing's names take a list of their own. No message bytes are copied.
     pub fn accept(&mut self, event: Event<'a>) -> Result<(), LedgerError>
         requires { (c : List Message) × (m : Message) × IsNext c m self.old (event_shown event) }
         ensures passes { OnOk result ((c : List Message) (m : Message) → IsNext c m self.old (event_shown event.entry) → Passes c m) }
@@ -105,9 +111,7 @@ impl<'a> Ledger<'a> {
         ensures { (c : List Message) → Shows c self.entry → (result.messages ≡ length c) × AreCalls c (map call_shown result.list.items) }
     {
         let Ledger { messages, books } = self;
-        Calls {
-            messages,
-            list: books.calls.into_list(),
-        }
+        let list = books.calls.into_list();
+        Calls { messages, list }
     }
 }

@@ -1,5 +1,5 @@
 //! What the messages of /dev/fuse say of nodes and file handles: lookup counts, the names of nodes, which handles are
-//! open, and the tree requests with their answers.
+//! open, what each READDIR goes on from, and the tree requests with their answers.
 #![tactic(auto)]
 
 mod books;
@@ -12,6 +12,7 @@ mod handles;
 mod key;
 pub mod laws;
 mod ledger;
+mod listings;
 mod name;
 mod naming;
 mod nodes;

@@ -1,4 +1,4 @@
-//! What a request names: nodes, a file handle, and what its success does.
+//! What a request names: nodes, a file handle, an offset; and what its success does.
 
 ghost use Rattle.std.specs.Prelude.{◌≡◌, ◌↔◌, List, [], IsTrue};
 ghost use Rattle.std.specs.Option.{option_map_or};
@@ -7,6 +7,7 @@ ghost use Rattle.fa_bodies.specs.Requests.{body_shown, request_shown};
 ghost use Rattle.fa_session.specs.Events.{PlainEvent};
 ghost use Rattle.fa_ledger.specs.Calls.{IsNegotiatedFlag, Truncates};
 ghost use Rattle.fa_ledger.specs.Handles.{is_closing};
+ghost use Rattle.fa_ledger.specs.Listings.{offset_asked};
 ghost use Rattle.fa_ledger.specs.Keys.{handle_used};
 ghost use Rattle.fa_ledger.specs.Kinds.{IsTreeRequest};
 ghost use Rattle.fa_ledger.specs.Names.{nodes_named};
@@ -81,6 +82,16 @@ pub(crate) fn handle_used(body: &RequestBody<'_>) -> Option<(u64, HandleKind)>
             Some((read.fh, HandleKind::Directory))
         }
         RequestBody::Releasedir(release) => Some((release.fh, HandleKind::Directory)),
+        _ => None,
+    }
+}
+
+/// The offset at which a request begins to list a directory, if it lists one.
+pub(crate) fn offset_asked(body: &RequestBody<'_>) -> Option<u64>
+    ensures { result ≡ offset_asked (body_shown body.now) }
+{
+    match body {
+        RequestBody::Readdir(read) | RequestBody::Readdirplus(read) => Some(read.offset),
         _ => None,
     }
 }

@@ -166,7 +166,7 @@ fn with_all(mut sample: Sample, messages: &[Sent]) -> Sample {
 }
 
 /// INIT with these flags and its answer with those: the messages 0 and 1.
-fn begun(alloc: Global, flags: (u32, u32)) -> Sample {
+pub fn begun(alloc: Global, flags: (u32, u32)) -> Sample {
     let asked = InitFlags::from_bits_retain(flags.0);
     let answered = InitFlags::from_bits_retain(flags.1);
     Sample::new(alloc)
@@ -541,6 +541,8 @@ enum Mark {
     Handle(u32),
     Direct,
     Truncates,
+    /// What it goes on from, whether its listing is adrift, and whether its handle is shared.
+    Listing(Option<(u32, u32)>, bool, bool),
     /// The number of its answer, and what that says.
     Answer(u32),
     Refusal(i32),
@@ -727,6 +729,7 @@ const LISTINGS: Called = (
             Root,
             &[
                 Handle(8),
+                Listing(None, false, false),
                 Answer(11),
                 Gives(&[Given { id: 5, by: 11 }, Given { id: 5, by: 11 }]),
             ],
@@ -736,11 +739,12 @@ const LISTINGS: Called = (
             Root,
             &[
                 Handle(8),
+                Listing(None, false, false),
                 Answer(13),
                 Gives(&[Given { id: 6, by: 13 }, Given { id: 5, by: 11 }]),
             ],
         ),
-        (14, Root, &[Handle(8)]),
+        (14, Root, &[Handle(8), Listing(None, false, false)]),
     ],
 );
 
@@ -818,6 +822,7 @@ fn is_answer(found: &fa_ledger::Answer<'_>, at: u32, marks: &[Mark]) -> bool {
 fn is_call(found: &Call<'_>, shows: &Shows) -> bool {
     let (asked, node, marks) = shows;
     let (mut other, mut handle, mut answer) = (None, None, None);
+    let mut listing = None;
     let mut flags = (false, false);
     for mark in *marks {
         match mark {
@@ -825,6 +830,13 @@ fn is_call(found: &Call<'_>, shows: &Shows) -> bool {
             Handle(name) => handle = Some(*name),
             Direct => flags.0 = true,
             Truncates => flags.1 = true,
+            Listing(before, adrift, shared) => {
+                listing = Some(fa_ledger::Listing {
+                    before: *before,
+                    adrift: *adrift,
+                    shared: *shared,
+                });
+            }
             Answer(at) => answer = Some(*at),
             _ => {}
         }
@@ -836,7 +848,7 @@ fn is_call(found: &Call<'_>, shows: &Shows) -> bool {
     };
     let is_request = (found.asked, found.node, found.other) == (*asked, *node, other);
     let is_use = (found.handle, found.direct, found.truncates) == (handle, flags.0, flags.1);
-    is_answered && is_request && is_use && found.listing.is_none()
+    is_answered && is_request && is_use && found.listing == listing
 }
 
 /// Whether the calls of messages behind INIT and its answer are these.
@@ -995,18 +1007,23 @@ const OPENDIR: &[(usize, u8)] = &[(0, 48), (4, 27), (8, 1), (16, 1)];
 const DIRECTORY: &[(usize, u8)] = &[(0, 32), (8, 1)];
 
 const READDIRPLUS: &[(usize, u8)] = &[(0, 80), (4, 44), (8, 1), (16, 1), (57, 16)];
-/// Its answer: 336 bytes, of which two entries have 160 each, `a` with the node 10 and `b` with the node 90.
+/// Its answer: 336 bytes, of which two entries have 160 each, `a` with the node 10 and the off 1, and `b` with the node 90
+/// and the off 2.
 const LISTING: &[(usize, u8)] = &[
     (0, 80),
     (1, 1),
     (8, 1),
     (16, 10),
+    (152, 1),
     (160, 1),
     (168, b'a'),
     (176, 90),
+    (312, 2),
     (320, 1),
     (328, b'b'),
 ];
+/// READDIR of 4,096 bytes at the offset 2.
+const READDIR: &[(usize, u8)] = &[(0, 80), (4, 28), (8, 1), (16, 1), (48, 2), (57, 16)];
 
 /// A message in this direction.
 fn packet(direction: Direction, bytes: &[u8]) -> Packet<'_> {
@@ -1022,9 +1039,9 @@ fn gives(call: &Call<'_>, at: u32, names: &[NodeName]) -> bool {
 }
 
 /// Whether the calls are of 30 LOOKUPs, the messages 2 to 31, which are answered by 32 to 61, of 30 OPENs, 62 to 91, of the
-/// nodes that these give, of OPENDIR, 122, and of READDIRPLUS, 124.
+/// nodes that these give, of OPENDIR, 122, of READDIRPLUS, 124, and of READDIR, 126, which goes on from both of its entries.
 fn are_grown(calls: &Calls<'_>) -> bool {
-    let [front @ .., opendir, listing] = calls.list.as_slice() else {
+    let [front @ .., opendir, listing, further] = calls.list.as_slice() else {
         return false;
     };
     let mut are_grown = front.len() == 60 && opendir.asked == 122 && listing.handle == Some(122);
@@ -1036,7 +1053,12 @@ fn are_grown(calls: &Calls<'_>) -> bool {
             && gives(opened, by.saturating_add(60), &[]);
     }
     let given = [Given { id: 10, by: 32 }, Given { id: 90, by: 125 }];
-    are_grown && gives(listing, 125, &given)
+    let listed = Some(fa_ledger::Listing {
+        before: Some((124, 2)),
+        adrift: false,
+        shared: false,
+    });
+    are_grown && gives(listing, 125, &given) && further.listing == listed
 }
 
 /// The sessions and the ledger alone take memory here. An ordinary run has ample memory, so only a run by
@@ -1053,7 +1075,8 @@ fn an_event_without_memory_is_handed_in_again(rt: HostRuntime) {
     let (opens, handles): ([[u8; 48]; 30], [[u8; 32]; 30]) = (thirty(OPEN, 16), thirty(HANDLE, 16));
     let (opendir, directory): ([u8; 48], [u8; 32]) = (spelled(OPENDIR), spelled(DIRECTORY));
     let (readdirplus, listing): ([u8; 80], [u8; 336]) = (spelled(READDIRPLUS), spelled(LISTING));
-    let mut packets = [packet(to, &init); 126];
+    let readdir: [u8; 80] = spelled(READDIR);
+    let mut packets = [packet(to, &init); 127];
     packets[1] = packet(from, &init_answer);
     for place in 0..30 {
         packets[2 + place] = packet(to, &lookups[place]);
@@ -1065,10 +1088,11 @@ fn an_event_without_memory_is_handed_in_again(rt: HostRuntime) {
     packets[123] = packet(from, &directory);
     packets[124] = packet(to, &readdirplus);
     packets[125] = packet(from, &listing);
-    let mut codes = [0; 126];
+    packets[126] = packet(to, &readdir);
+    let mut codes = [0; 127];
     let mut paired = Paired::new(rt.alloc());
     paired.take_each(&packets, &mut codes);
-    assert!(rt; codes == [0; 126]);
+    assert!(rt; codes == [0; 127]);
     assert!(rt; are_grown(&paired.into_calls()));
 }
 
@@ -1079,4 +1103,8 @@ fn laws_do_nothing() {
     fa_ledger::laws::calls_are_one();
     fa_ledger::laws::names_look_back();
     fa_ledger::laws::calls_stay();
+    fa_ledger::laws::listed_is_one();
+    fa_ledger::laws::listed_is_there();
+    fa_ledger::laws::count_is_first();
+    fa_ledger::laws::calls_list_so_far();
 }

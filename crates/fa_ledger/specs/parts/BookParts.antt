@@ -1,5 +1,5 @@
 -- What the books of a ledger show of events, and how one event changes them.
-use Rattle.std.specs.Prelude.{◌≡◌, ◌↔◌, ℕ, ◌<◌, List, [], length, slice_get, nat_eq, All, IsTrue, Option, None, Some, option_map}
+use Rattle.std.specs.Prelude.{◌≡◌, ◌↔◌, ℕ, ◌<◌, List, [], ◌∷◌, ◌++◌, length, slice_get, nat_eq, All, IsTrue, Option, None, Some, option_map}
 use Rattle.std.specs.Map.{lookup}
 use Rattle.fa_capture.specs.declared.codes.TheConstants.{NODE_ID_NOT_ALLOWED}
 use Rattle.fa_capture.specs.declared.limits.TheConstants.{MAX_MESSAGES}
@@ -25,7 +25,8 @@ use Rattle.fa_ledger.specs.Keys.{key_eq, handle_used, key_used}
 use Rattle.fa_ledger.specs.Kinds.{IsTreeRequest}
 use Rattle.fa_ledger.specs.Passing.{NamesKnown, MayBeGiven, asked_rules, ledger_checks}
 use Rattle.fa_ledger.specs.Calls.{IsNegotiatedFlag, AreCallsOf}
-use Rattle.fa_ledger.specs.Shows.{IsNodeOf, IsOpenAs, IsKeyOf}
+use Rattle.fa_ledger.specs.Shows.{IsNodeOf, IsOpenAs, IsKeyOf, ArePlaces}
+use Rattle.fa_ledger.specs.parts.ListingParts.{place_of, listed_shown}
 use Rattle.fa_ledger.specs.Refusals.{IsMoreKept}
 
 -- what the tables of nodes and of keys show of these events
@@ -40,6 +41,7 @@ pub record BooksShow (es : List PlainEvent) (b : Books) : Type 0 where
   pub truncating : IsTrue b.truncating ↔ IsNegotiatedFlag es atomic_o_trunc
   pub nodes : NodesShow es b.nodes.known.entries
   pub keys : KeysShow es b.handles.opened.entries
+  pub places : ArePlaces es (place_of b.listings.by_key.entries)
   pub calls : AreCallsOf es b.calls
 
 -- The books show these events of these messages, and this one is that of the next message.
@@ -49,11 +51,24 @@ pub record Stands (c : List Message) (m : Message) (es : List PlainEvent) (e : P
   pub event : IsEvent c m e
   pub shown : BooksShow es b
 
+-- the books show some events, and this is the event of the next message
+abbrev pub StandBefore : PlainEvent → Books → Type 0
+StandBefore e b = (c : List Message) × (m : Message) × (es : List PlainEvent) × Stands c m es e b
+
+-- this holds for all messages and events of which the books stand so
+abbrev pub WhereStands : PlainEvent → Books → (List Message → Message → List PlainEvent → Type 0) → Type 0
+WhereStands e b Such = (c : List Message) (m : Message) (es : List PlainEvent) → Stands c m es e b → Such c m es
+
+-- books that showed the events before this one show it too
+abbrev pub ShowNext : PlainEvent → (old new : Books) → Type 0
+ShowNext e old new = WhereStands e old (λ c m es. BooksShow (es ++ e ∷ []) new)
+
 -- the books have what they had
 pub record AreSame (old new : Books) : Type 0 where
   pub truncating : new.truncating ≡ old.truncating
   pub nodes : (node : ℕ) → lookup (nat_eq node) new.nodes.known.entries ≡ lookup (nat_eq node) old.nodes.known.entries
   pub keys : new.handles.opened.entries ≡ old.handles.opened.entries
+  pub listed : listed_shown new.listings.by_key.entries ≡ listed_shown old.listings.by_key.entries
   pub calls : new.calls ≡ old.calls
 
 -- ---- requests

@@ -1,7 +1,9 @@
 -- The list of the calls, and which of them wait for an answer.
-use Rattle.std.specs.Prelude.{◌≡◌, ◌↔◌, ℕ, nat_eq, List, map, slice_get, None, Some}
+use Rattle.std.specs.Prelude.{◌≡◌, ◌↔◌, ℕ, nat_eq, false, List, map, slice_get, None, Some}
 use Rattle.std.specs.Map.{lookup}
+use Rattle.std.specs.Option.{option_map_or}
 use Rattle.fa_ledger.specs.declared.call_list.CallList.TheInside.{Inside}
+use Rattle.fa_ledger.specs.declared.call_list.Waiting.{Waiting}
 use Rattle.fa_ledger.specs.Calls.{PlainCall, call_shown}
 
 -- at this place stands this call, which has this number and waits for its answer
@@ -13,6 +15,11 @@ pub record WaitsAt (calls : List PlainCall) (asked place : ℕ) (call : PlainCal
 -- a call waits for its answer under this number
 abbrev pub Waits : List PlainCall → ℕ → Type 0
 Waits calls asked = (place : ℕ) × (call : PlainCall) × WaitsAt calls asked place call
+
+-- what is known of a call that waits
+abbrev pub waiting_of : PlainCall → Waiting
+waiting_of call =
+    record { node = call.node; handle = call.handle; adrift = option_map_or (λ listing. listing.adrift) call.listing false }
 
 -- no call has this number
 abbrev pub IsNewNumber : List PlainCall → ℕ → Type 0
@@ -28,5 +35,5 @@ AreTheirPlaces calls table =
     (asked place : ℕ) → (lookup (nat_eq asked) table ≡ Some place) ↔ ((call : PlainCall) × WaitsAt calls asked place call)
 
 -- the table has the places of the calls that wait
-abbrev pub ArePlaces : Inside → Type 0
-ArePlaces s = AreTheirPlaces (calls_shown s) s.waiting.entries
+abbrev pub AreWaitingPlaces : Inside → Type 0
+AreWaitingPlaces s = AreTheirPlaces (calls_shown s) s.waiting.entries

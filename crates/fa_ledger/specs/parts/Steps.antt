@@ -32,9 +32,9 @@ as_list None = []
 as_list (Some n) = n ∷ []
 
 -- the reply is a listing
-abbrev pub IsListing : PlainReply → Type 0
-IsListing (Listed ds) = Unit {0}
-IsListing other = ⊥
+abbrev pub IsListedReply : PlainReply → Type 0
+IsListedReply (Listed ds) = Unit {0}
+IsListedReply other = ⊥
 
 -- the key that a success opens, and how, where its request named this node and the reply gives these
 abbrev pub opened_with : NodeName → List NodeName → PlainBody → PlainReply → Option (Key × OpenOut)

@@ -7,6 +7,7 @@ use Rattle.fa_ledger.specs.declared.ledger.Ledger.TheInside.{Inside}
 use Rattle.fa_ledger.specs.declared.nodes.Lookups.{Lookups}
 use Rattle.fa_ledger.specs.Plain.{PlainLedger}
 use Rattle.fa_ledger.specs.Shows.{Shows}
+use Rattle.fa_ledger.specs.parts.ListingParts.{listed_shown}
 
 -- the entries of the table of nodes, by rising ids
 abbrev pub by_id : List (ℕ × Lookups) → List (ℕ × Lookups)
@@ -19,6 +20,7 @@ ledger_shown s = record {
   truncating = s.books.truncating;
   nodes = by_id s.books.nodes.known.entries;
   handles = s.books.handles.opened.entries;
+  listed = listed_shown s.books.listings.by_key.entries;
   calls = s.books.calls;
 }
 

@@ -34,4 +34,4 @@ pub returns-in-Notice-clause-keeps : goal.returns-in-Notice-clause-keeps
 returns-in-Notice-clause-keeps c = rw c.in-Notice.is (λ before m es stands. notice_hold before m c.in-Notice.at stands.event)
 
 pub returns-in-Notice-clause-shows : goal.returns-in-Notice-clause-shows
-returns-in-Notice-clause-shows c = rw c.in-Notice.is (λ before m es stands. notice_shows es c.in-Notice.at c.args.self.now stands.shown)
+returns-in-Notice-clause-shows c = rw c.in-Notice.is (λ before m es stands. notice_shows before m es c.in-Notice.at c.args.self.now stands)

@@ -8,7 +8,7 @@ use Rattle.fa_ledger.specs.declared.name.NodeName.{NodeName}
 use Rattle.fa_ledger.specs.Calls.{given_shown}
 use Rattle.fa_ledger.specs.Keys.{key_eq}
 use Rattle.fa_ledger.specs.parts.Steps.{given_again, times_named, count_left, opened_with, opens_new, some_new, IsOpenedBy}
-use Rattle.fa_ledger.proofs.ReplyBookLemmas.{give_fits, open_fits, answer_shows, names_more, nodes_more, keys_more}
+use Rattle.fa_ledger.proofs.ReplyBookLemmas.{give_fits, open_fits, answer_shows, names_more, nodes_more, keys_more, listed_more, listed_counted, listed_anew, noted_also}
 use Rattle.fa_ledger.proofs.books.Books.note_answer.Goals as goal
 
 pub returns-in_err-given-clause-memory : goal.returns-in_err-given-clause-memory
@@ -35,7 +35,7 @@ returns-in_err-reserve-2-clause-memory c =
           keys_more before m es c.args.at c.args.asked (request_shown c.args.request.now) (reply_shown c.args.reply) c.args.self.now c.names-names.result.now c.opened-opened.result (record {
             stands = stands;
             may = c.requires.allowed;
-            node = c.args.node;
+            waiting = c.args.waiting;
             place = c.requires.waits.0;
             call = c.requires.waits.1;
             waits = c.requires.waits.2;
@@ -60,6 +60,31 @@ note_opened-opens-requires-clause-few c = λ key handle there.
     let stands = c.requires.stands in
     open_fits stands.0 stands.1 stands.2 _ c.args.self.now stands.3 key handle (subst (λ opened. lookup (key_eq key) opened ≡ Some handle) c.in_ok-reserve-2.ensures.kept there)
 
+pub returns-in_err-reserve-3-clause-memory : goal.returns-in_err-reserve-3-clause-memory
+returns-in_err-reserve-3-clause-memory c =
+    let p = err_from_is_err_and c.from_residual-in_err-reserve-3.result c.from_residual-in_err-reserve-3.ensures.1 in
+    rw p.1 (
+      p.2,
+      λ before m es stands.
+          listed_more before m es c.args.at c.args.asked (request_shown c.args.request.now) (reply_shown c.args.reply) c.args.self.now c.requires.waits.0 c.requires.waits.1 c.args.waiting c.listed-listed.result
+          stands c.requires.waits.2 c.requires.waits.3 c.listed-listed.ensures c.in_err-reserve-3.ensures.wanted,
+    )
+
+pub note-requires-clause-fresh : goal.note-requires-clause-fresh
+note-requires-clause-fresh c =
+    let stands = c.requires.stands in
+    listed_anew stands.0 stands.1 stands.2 c.args.at c.args.asked (request_shown c.args.request.now) (reply_shown c.args.reply) c.args.self.now stands.3 _ c.in_ok-reserve-3.ensures.same
+
+pub note-requires-clause-counted : goal.note-requires-clause-counted
+note-requires-clause-counted c =
+    let stands = c.requires.stands in
+    (listed_counted stands.0 stands.1 c.args.at c.args.asked (request_shown c.args.request.now) (reply_shown c.args.reply) stands.3.event c.args.self.now.handles.opened.entries c.args.waiting c.requires.waits.1 c.requires.waits.3 c.listed-listed.result c.listed-listed.ensures).0
+
+pub note-requires-clause-few : goal.note-requires-clause-few
+note-requires-clause-few c =
+    let stands = c.requires.stands in
+    (listed_counted stands.0 stands.1 c.args.at c.args.asked (request_shown c.args.request.now) (reply_shown c.args.reply) stands.3.event c.args.self.now.handles.opened.entries c.args.waiting c.requires.waits.1 c.requires.waits.3 c.listed-listed.result c.listed-listed.ensures).1
+
 pub returns-clause-shows : goal.returns-clause-shows
 returns-clause-shows c = λ before m es stands.
     let names : List NodeName = given_shown c.in_ok-given.given in
@@ -68,17 +93,19 @@ returns-clause-shows c = λ before m es stands.
     answer_shows before m es c.args.at c.args.asked (request_shown c.args.request.now) (reply_shown c.args.reply) c.args.self.now _ names which c.note_opened-opens.result (record {
       stands = stands;
       may = c.requires.allowed;
-      node = c.args.node;
+      waiting = c.args.waiting;
       place = c.requires.waits.0;
       call = c.requires.waits.1;
       waits = c.requires.waits.2;
       own = c.requires.waits.3;
       named = c.in_ok-given.ensures.named;
-      opens = c.opened-opened.ensures ∙ ap (λ ns. opened_with c.args.node ns (body_shown c.args.request.now.body) (reply_shown c.args.reply)) same;
+      opens = c.opened-opened.ensures ∙ ap (λ ns. opened_with c.args.waiting.node ns (body_shown c.args.request.now.body) (reply_shown c.args.reply)) same;
     })
     (c.note_opened-opens.ensures.anew ∙ ap (λ opened. opens_new opened which) c.in_ok-reserve-2.ensures.kept)
     refl
     (λ node. c.give.ensures node ∙ ap (λ ns. given_again c.args.at (times_named node ns) (lookup (nat_eq node) c.reserve.new.self.known.entries)) same
     ∙ ap (λ known. given_again c.args.at (times_named node names) (lookup (nat_eq node) known)) c.in_ok-reserve.ensures.kept)
     (subst (λ opened. IsOpenedBy c.args.asked which opened c.note_opened-opens.new.self.opened.entries) c.in_ok-reserve-2.ensures.kept c.note_opened-opens.ensures.noted)
+    c.listed-listed.result c.listed-listed.ensures
+    (noted_also c.args.asked c.listed-listed.result _ _ _ c.in_ok-reserve-3.ensures.same c.note.ensures)
     c.answer.ensures

@@ -75,8 +75,8 @@ pub returns-in_ok-forget-in-Forget-clause-shows : goal.returns-in_ok-forget-in-F
 returns-in_ok-forget-in-Forget-clause-shows c = λ before m es stands.
     let r = request_shown c.args.request.now in
     let body = ap body_shown c.in-Forget.is in
-    shows_taken es c.args.at r c.args.self.now c.forget.new.self ((r.node, c.in-Forget.nlookup) ∷ []) (ap (named_nodes r.node) body) (ap (λ b. but_root (body_takes r.node b)) body)
-    c.in_ok-forget-in-Forget.ensures.taken stands.shown
+    shows_taken before m es c.args.at r c.args.self.now c.forget.new.self ((r.node, c.in-Forget.nlookup) ∷ []) (ap (named_nodes r.node) body) (ap (λ b. but_root (body_takes r.node b)) body)
+    c.in_ok-forget-in-Forget.ensures.taken stands
 
 pub returns-in_ok-forget_all-in-BatchForget-clause-keeps : goal.returns-in_ok-forget_all-in-BatchForget-clause-keeps
 returns-in_ok-forget_all-in-BatchForget-clause-keeps c = λ before m es stands.
@@ -89,8 +89,8 @@ pub returns-in_ok-forget_all-in-BatchForget-clause-shows : goal.returns-in_ok-fo
 returns-in_ok-forget_all-in-BatchForget-clause-shows c = λ before m es stands.
     let r = request_shown c.args.request.now in
     let body = ap body_shown c.in-BatchForget.is in
-    shows_taken es c.args.at r c.args.self.now c.forget_all.new.self (items_in c.in-BatchForget.items.now) (ap (named_nodes r.node) body) (ap (λ b. but_root (body_takes r.node b)) body)
-    c.in_ok-forget_all-in-BatchForget.ensures.taken stands.shown
+    shows_taken before m es c.args.at r c.args.self.now c.forget_all.new.self (items_in c.in-BatchForget.items.now) (ap (named_nodes r.node) body) (ap (λ b. but_root (body_takes r.node b)) body)
+    c.in_ok-forget_all-in-BatchForget.ensures.taken stands
 
 pub returns-in_ok-note_use-in_default-clause-keeps : goal.returns-in_ok-note_use-in_default-clause-keeps
 returns-in_ok-note_use-in_default-clause-keeps c = λ before m es stands.
@@ -117,4 +117,4 @@ returns-in_default-2-clause-shows c = λ before m es stands.
     let r = request_shown c.args.request.now in
     let takes = takes_none r.node c.args.request.now.body c.in_default.not-Forget c.in_default.not-BatchForget in
     let none = subst (λ (names : Option Names). AreNamesIfAny es r names) c.in_default-2.is (c.in_ok-names-in_default.ensures.named es stands.shown.nodes) in
-    none_shows es c.args.at r c.args.self.now none takes stands.shown
+    none_shows before m es c.args.at r c.args.self.now none takes stands

@@ -3,23 +3,29 @@ use Rattle.std.specs.Option.{IsSomeAnd}
 use Rattle.fa_bodies.specs.Requests.{request_shown}
 use Rattle.fa_ledger.specs.declared.books.Used.{Used}
 use Rattle.fa_ledger.specs.parts.BookParts.{IsUsedIfAny}
-use Rattle.fa_ledger.proofs.RequestBookLemmas.{match_then, shows_left, shows_closed, shows_called}
+use Rattle.fa_ledger.proofs.RequestBookLemmas.{match_then, shows_left, shows_closed, shows_gone, shows_called}
 use Rattle.fa_ledger.proofs.books.Books.note_use.Goals as goal
 
 pub returns-in_ok-push-clause-shows : goal.returns-in_ok-push-clause-shows
 returns-in_ok-push-clause-shows c = λ before m es stands names used.
-    shows_called before m es c.args.at (request_shown c.args.request.now) c.args.self.now c.args.names c.args.used c.map.result c.is_some_and.result c.truncates.result c.push.new.self
+    shows_called before m es c.args.at (request_shown c.args.request.now) c.args.self.now c.args.names c.args.used c.map.result c.is_some_and.result c.truncates.result c.listing_of.result c.push.new.self
     stands names used c.requires.6 (c.if-is_tree_request.ensures.0 refl)
     (match_then c.args.used (c.map.result ≡ None) (λ u. IsSomeAnd c.map.result (λ name. name ≡ u.handle.name)) c.map.ensures.cases (λ u named. search rules))
     (match_then c.args.used (c.is_some_and.result ≡ false) (λ u. c.is_some_and.result ≡ u.handle.direct) c.is_some_and.ensures (λ u marked. search rules))
-    c.truncates.ensures c.in_ok-push.ensures.pushed
+    c.truncates.ensures c.listing_of.ensures c.in_ok-push.ensures.pushed
 
-pub returns-in-Some-clause-shows : goal.returns-in-Some-clause-shows
-returns-in-Some-clause-shows c = λ before m es stands names used.
-    shows_closed es c.args.at (request_shown c.args.request.now) c.args.self.now c.close.new.self c.in-Some.used c.requires.6 (sym c.if-is_closing.ensures) (λ tree. let clash = c.if-is_tree_request.ensures.1 tree in absurd cc)
+pub returns-then-close-clause-shows : goal.returns-then-close-clause-shows
+returns-then-close-clause-shows c = λ before m es stands names used.
+    shows_gone before m es c.args.at (request_shown c.args.request.now) c.args.self.now c.close.new.self c.close-then-close.new.self c.in-Some.used c.requires.6 (sym c.if-is_closing.ensures) (λ tree. let clash = c.if-is_tree_request.ensures.1 tree in absurd cc)
     (subst (λ (u : Option Used). IsUsedIfAny es (request_shown c.args.request.now) c.args.self.now.handles.opened.entries u) c.in-Some.is used)
-    c.close.ensures stands.shown
+    c.close.ensures.closed c.if-close.ensures.gone c.close-then-close.ensures stands
+
+pub returns-else-close-clause-shows : goal.returns-else-close-clause-shows
+returns-else-close-clause-shows c = λ before m es stands names used.
+    shows_closed before m es c.args.at (request_shown c.args.request.now) c.args.self.now c.close.new.self c.in-Some.used c.requires.6 (sym c.if-is_closing.ensures) (λ tree. let clash = c.if-is_tree_request.ensures.1 tree in absurd cc)
+    (subst (λ (u : Option Used). IsUsedIfAny es (request_shown c.args.request.now) c.args.self.now.handles.opened.entries u) c.in-Some.is used)
+    c.close.ensures.closed c.if-close.ensures.gone stands
 
 pub returns-else-is_closing-clause-shows : goal.returns-else-is_closing-clause-shows
 returns-else-is_closing-clause-shows c = λ before m es stands names used.
-    shows_left es c.args.at (request_shown c.args.request.now) c.args.self.now c.requires.6 (sym c.if-is_closing.ensures) (λ tree. let clash = c.if-is_tree_request.ensures.1 tree in absurd cc) stands.shown
+    shows_left before m es c.args.at (request_shown c.args.request.now) c.args.self.now c.requires.6 (sym c.if-is_closing.ensures) (λ tree. let clash = c.if-is_tree_request.ensures.1 tree in absurd cc) stands

@@ -1,18 +1,18 @@
 use Rattle.std.proofs.Common.{◌<◌, ℕ, sym, subst}
-use Rattle.fa_ledger.proofs.CallListLemmas.{place_within, none_waits, node_there}
-use Rattle.fa_ledger.proofs.call_list.CallList.node_of.Goals as goal
+use Rattle.fa_ledger.proofs.CallListLemmas.{place_within, none_waits, waiting_there}
+use Rattle.fa_ledger.proofs.call_list.CallList.find.Goals as goal
 
 pub returns-in_err-place-clause-none : goal.returns-in_err-place-clause-none
 returns-in_err-place-clause-none c =
     rw c.from_residual.ensures
     (none_waits c.self.inside.list.items c.args.self.now c.self.inside.waiting.entries c.args.asked c.self.view_is c.self.invariant (sym c.in_err-place.ensures.value))
 
-pub index-requires : goal.index-requires
-index-requires c =
+pub index-call-requires : goal.index-call-requires
+index-call-requires c =
     subst (λ (n : ℕ). c.in_ok-place.field-0.now < n) (sym c.self.inside.list.ok.0)
     (place_within c.self.inside.list.items c.self.inside.waiting.entries c.args.asked c.in_ok-place.field-0.now c.self.invariant (sym c.in_ok-place.ensures.value))
 
 pub returns-clause-some : goal.returns-clause-some
 returns-clause-some c =
-    node_there c.self.inside.list.items c.args.self.now c.self.inside.waiting.entries c.args.asked c.in_ok-place.field-0.now c.index.result.now
-    c.self.view_is c.self.invariant (sym c.in_ok-place.ensures.value) c.index.ensures
+    waiting_there c.self.inside.list.items c.args.self.now c.self.inside.waiting.entries c.args.asked c.in_ok-place.field-0.now c.index-call.result.now c.is_adrift.result
+    c.self.view_is c.self.invariant (sym c.in_ok-place.ensures.value) c.index-call.ensures c.is_adrift.ensures
