@@ -11,6 +11,8 @@ mod first;
 #[cfg(test)]
 mod ledgers;
 #[cfg(test)]
+mod listings;
+#[cfg(test)]
 mod paired;
 #[cfg(test)]
 mod sessions;
