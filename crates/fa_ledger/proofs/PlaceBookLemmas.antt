@@ -1,7 +1,8 @@
 -- What one event does to the places of the offsets, in the words of the books: by the tables of keys before and after it, and
 -- by what an answer lists.
-use Rattle.std.proofs.Common.{◌≡◌, ◌≢◌, ◌⊎◌, ℕ, ◌≤◌, Bool, true, false, cond, List, [], ◌∷◌, ◌++◌, take, Option, None, Some, refl, sym, ap, subst, ◌∙◌, inl, inr, arith}
-use Rattle.std.specs.Prelude.{nat_eq, is_none, option_map, option_and_then}
+use Rattle.std.proofs.Common.{◌≡◌, ◌≢◌, ◌⊎◌, ℕ, suc, ◌≤◌, Bool, true, false, cond, List, [], ◌∷◌, ◌++◌, take, Option, None, Some, refl, sym, ap, subst, ◌∙◌, inl, inr, arith}
+use Rattle.std.specs.List.{list_any}
+use Rattle.std.specs.Prelude.{◌||◌, Contains, nat_eq, is_none, option_map, option_and_then}
 use Rattle.std.specs.Map.{lookup}
 use Rattle.std.specs.Option.{option_map_or}
 use Rattle.fa_capture.specs.Message.{Message}
@@ -27,13 +28,13 @@ use Rattle.fa_ledger.specs.Names.{name_at}
 use Rattle.fa_ledger.specs.Keys.{key_eq, key_at, key_used, handle_used}
 use Rattle.fa_ledger.specs.Handles.{IsOpen, IsHandle}
 use Rattle.fa_ledger.specs.Kinds.{IsTreeRequest}
-use Rattle.fa_ledger.specs.Listings.{UsesHandle, IsListingIfAny, IsListedSoFar, offset_asked}
+use Rattle.fa_ledger.specs.Listings.{UsesHandle, IsListingIfAny, IsListedSoFar, offset_asked, IsNeverReached}
 use Rattle.fa_ledger.specs.Calls.{PlainCall, IsCall, IsAskedCall, IsHandleUsed, AreCallsOf}
 use Rattle.fa_ledger.specs.Refusals.{ListsOn}
 use Rattle.fa_ledger.specs.Shows.{IsKeyOf, IsOpenAs, IsPlaceOf, ArePlaces, place_in}
 use Rattle.fa_ledger.specs.parts.BookParts.{KeysShow, IsUsedIfAny}
 use Rattle.fa_ledger.specs.parts.CallParts.{WaitsAt, waiting_of}
-use Rattle.fa_ledger.specs.parts.ListingParts.{place_of, listed_shown, listing_by, ListsStill, ListsStillIfAny, IsNotedBy}
+use Rattle.fa_ledger.specs.parts.ListingParts.{place_of, listed_shown, listing_by, ListsNew, ListsStill, ListsStillIfAny, IsNotedBy}
 use Rattle.fa_ledger.specs.parts.Steps.{closed_once}
 use Rattle.fa_ledger.proofs.HandleLemmas.{key_same, key_self, handle_is_one, since_open}
 use Rattle.fa_ledger.proofs.CallLemmas.{call_at}
@@ -338,18 +339,47 @@ places_replied c m es at asked r reply are event no_tree =
     let begins = answer_begins c m at asked r ds e in
     no_tree (lists_tree r.body begins.0 begins.1))
 
+-- an entry that passes a test, where some does
+any_there : {X : Type 0} (test : X → Bool) (xs : List X) → list_any test xs ≡ true → (x : X) × Contains xs x × (test x ≡ true)
+any_there test [] some = let clash : false ≡ true = some in absurd cc
+any_there {X = X} test (y ∷ xs) some =
+    elim (test y) as (λ b. test y ≡ b → (b || list_any test xs) ≡ true → (x : X) × Contains (y ∷ xs) x × (test x ≡ true)) [
+      | true ↦ λ here any. (y, (0, omega arith, refl), here)
+      | false ↦ λ here any.
+          let later = any_there test xs any in
+          let at = later.1 in
+          (later.0, (suc at.0, omega (arith, at.1), at.2), later.2)
+    ] refl some
+
+-- where none stands for an offset, it was never reached
+none_reached : (es : List PlainEvent) (handle offset : ℕ) (place : Option Place) → IsPlaceOf es handle offset place → is_none place ≡ true → IsNeverReached es handle offset
+none_reached es handle offset None is none = is
+none_reached es handle offset (Some p) is none = let clash : false ≡ true = none in absurd cc
+
 -- what is noted is more to be kept
 pub lists_on : (c : List Message) (m : Message) (es : List PlainEvent) (at asked : ℕ) (r : PlainRequest) (reply : PlainReply) → AreEvents c es → IsEvent c m (Answered at asked r reply)
     → (calls : List PlainCall) → AreCallsOf es calls → (k : ℕ) (call : PlainCall) → WaitsAt calls asked k call → (opened : List (Key × Handle)) → KeysShow es opened
-    → (l : ListedOn) → ListsStillIfAny opened (waiting_of call) r.body reply (Some l) → ListsOn es asked r reply
-lists_on c m es at asked r reply are event calls exact k call waits opened keys l still =
+    → (l : ListedOn) → ListsStillIfAny opened (waiting_of call) r.body reply (Some l) → (table : List (Key × Offsets)) → ArePlaces es (place_of table) → ListsNew table (Some l)
+    → ListsOn es asked r reply
+lists_on c m es at asked r reply are event calls exact k call waits opened keys l still table places new =
     let ds = entries_left l.entries in
     let lists : reply ≡ Listed ds = still.0.lists in
     let e : IsEvent c m (Answered at asked r (Listed ds)) = subst (λ (x : PlainReply). IsEvent c m (Answered at asked r x)) lists event in
     let there : ListsStill opened (waiting_of call) r.body (Listed ds) l.key ds = subst (λ (x : PlainReply). ListsStill opened (waiting_of call) r.body x l.key ds) lists still.0 in
     let is = answer_listing c m es at asked r ds are e calls exact k call waits opened keys in
     let on = still_named c m es at asked r call opened ds ds l.key is there in
-    record { entries = ds; lists = lists; some = there.some; handle = is.lister.handle; uses = is.lister.uses; «open» = on.named }
+    let entry = any_there (λ d. is_none (place_of table l.key d.off)) ds new in
+    let none : is_none (place_of table is.lister.uses.key entry.0.off) ≡ true = subst (λ key. is_none (place_of table key entry.0.off) ≡ true) on.key_is entry.2 in
+    record {
+      entries = ds;
+      lists = lists;
+      handle = is.lister.handle;
+      uses = is.lister.uses;
+      «open» = on.named;
+      entry = entry.0;
+      listed = entry.1;
+      new = none_reached es is.lister.handle entry.0.off _ (places.«open» is.lister.uses.key is.lister.handle entry.0.off on.named) none;
+    }
 
 -- an answer lists few entries
 pub count_fits : (c : List Message) (m : Message) (at asked : ℕ) (r : PlainRequest) (reply : PlainReply) → IsEvent c m (Answered at asked r reply) → (opened : List (Key × Handle)) (call : PlainCall)

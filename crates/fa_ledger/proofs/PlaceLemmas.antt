@@ -1,6 +1,7 @@
 -- The table of the offsets that were reached, in the words of its steps.
 use Rattle.std.proofs.Common.{◌≡◌, ◌≢◌, ℕ, zero, suc, ◌+◌, ◌≤◌, Bool, true, false, cond, List, [], ◌∷◌, ◌++◌, length, Option, None, Some, refl, sym, ap, subst, ◌∙◌, arith}
-use Rattle.std.specs.Prelude.{◌==◌, if◌then◌else◌, nat_eq, option_map, option_and_then}
+use Rattle.std.specs.List.{list_any}
+use Rattle.std.specs.Prelude.{◌||◌, ◌==◌, if◌then◌else◌, nat_eq, is_none, IsTrue, option_map, option_and_then}
 use Rattle.std.specs.Map.{lookup, set_value}
 use Rattle.std.specs.Option.{option_or, option_map_or}
 use Rattle.std.proofs.lemmas.Bool.Decides.{nat_tests}
@@ -11,7 +12,7 @@ use Rattle.fa_ledger.specs.declared.listings.Offsets.{Offsets}
 use Rattle.fa_ledger.specs.declared.listings.Place.{Place}
 use Rattle.fa_ledger.specs.Keys.{key_eq}
 use Rattle.fa_ledger.specs.Listings.{count_to}
-use Rattle.fa_ledger.specs.parts.ListingParts.{place_of, listed_shown, noted, noted_once}
+use Rattle.fa_ledger.specs.parts.ListingParts.{place_of, listed_shown, noted, noted_once, some_unreached}
 use Rattle.fa_ledger.proofs.HandleLemmas.{key_same}
 
 -- ---- few entries
@@ -30,6 +31,40 @@ few_first (suc n) plus bytes = few_found n plus (first_entry plus bytes) (few_fi
 pub few_entries : (plus : Bool) (bytes : List ℕ) → length (entries_in plus bytes) ≤ length bytes
 unfolding entries_in
 few_entries plus bytes = few_first (length bytes) plus bytes
+
+-- ---- some entry
+
+-- a test that an entry passes, some entry passes
+pub any_at : {X : Type 0} (test : X → Bool) (front : List X) (x : X) (rest : List X) → test x ≡ true → list_any test (front ++ x ∷ rest) ≡ true
+any_at test [] x rest is = any_first (test x) (list_any test rest) is
+  where
+    any_first : (a b : Bool) → a ≡ true → (a || b) ≡ true
+    any_first true b is = refl
+    any_first false b is = absurd (let clash : false ≡ true = is in cc)
+any_at test (y ∷ front) x rest is = any_later (test y) (list_any test (front ++ x ∷ rest)) (any_at test front x rest is)
+  where
+    any_later : (a b : Bool) → b ≡ true → (a || b) ≡ true
+    any_later true b is = refl
+    any_later false b is = is
+
+-- a test that no entry so far passes, nor one more
+pub none_more : {X : Type 0} (test : X → Bool) (front : List X) (x : X) → list_any test front ≡ false → test x ≡ false → list_any test (front ++ x ∷ []) ≡ false
+none_more test [] x none is = rw is refl
+none_more test (y ∷ front) x none is = none_either (test y) (list_any test front) (list_any test (front ++ x ∷ [])) none (λ later. none_more test front x later is)
+  where
+    none_either : (a b c : Bool) → (a || b) ≡ false → (b ≡ false → c ≡ false) → (a || c) ≡ false
+    none_either true b c none so = absurd (let clash : true ≡ false = none in cc)
+    none_either false b c none so = so none
+
+-- tests that agree
+pub any_alike : {X : Type 0} (test other : X → Bool) (xs : List X) → ((x : X) → test x ≡ other x) → list_any test xs ≡ list_any other xs
+any_alike test other [] same = refl
+any_alike test other (x ∷ xs) same = rw (same x, any_alike test other xs same) refl
+
+-- an offset that stands for nothing once it is noted stood for nothing before
+pub noted_none : (asked : ℕ) (adrift : Bool) (count : Option ℕ) (old : Option Place) → noted asked adrift count old ≡ None → old ≡ None
+noted_none asked adrift None old none = none
+noted_none asked adrift (Some n) old none = absurd (let clash = none in cc)
 
 -- ---- one entry more
 
@@ -146,3 +181,14 @@ shown_alike test (row ∷ table) old w found same = shown_row (test row.0) row t
         let is : row.1 ≡ old = cc in
         ap (λ offsets. (row.0, offsets) ∷ listed_shown table) (same ∙ ap (λ o. o.places.entries) (sym is))
     shown_row false row table old w found same later = ap (λ rows. (row.0, row.1.places.entries) ∷ rows) (later found same)
+
+-- where a key has no table, and has one if some offset is new, no entry is noted
+pub nothing_noted : (table : List (Key × Offsets)) (key : Key) (asked : ℕ) (adrift : Bool) (ds : List PlainDirent) → lookup (key_eq key) table ≡ None
+    → (IsTrue (some_unreached table key ds) → (offsets : Offsets) × (lookup (key_eq key) table ≡ Some offsets))
+    → (other : Key) (offset : ℕ) → place_of table other offset ≡ cond (key_eq key other) (noted asked adrift (count_to offset ds) (place_of table other offset)) (place_of table other offset)
+nothing_noted table key asked adrift [] none room other offset = sym (same_either (key_eq key other) (place_of table other offset))
+nothing_noted table key asked adrift (d ∷ ds) none room other offset =
+    let absent : is_none (place_of table key d.off) ≡ true = ap is_none (place_found table key d.off None none) in
+    let found = room (rw absent refl) in
+    let clash : None ≡ Some found.0 = sym none ∙ found.1 in
+    absurd cc

@@ -1,6 +1,6 @@
 -- The books, and the answer to a request.
-use Rattle.std.proofs.Common.{◌≡◌, ◌≢◌, ℕ, ◌+◌, ◌<◌, ◌≤◌, Bool, true, false, cond, List, [], ◌∷◌, ◌++◌, length, take, Option, None, Some, refl, sym, ap, subst, ◌∙◌, inl, inr, arith}
-use Rattle.std.specs.Prelude.{◌↔◌, ◌||◌, ◌==◌, nat_eq, map, count_by, All, IsTrue, IsSome, IfSome}
+use Rattle.std.proofs.Common.{◌≡◌, ◌≢◌, ℕ, ◌+◌, ◌<◌, ◌≤◌, Bool, cond, List, [], ◌∷◌, ◌++◌, length, take, Option, None, Some, refl, sym, ap, subst, ◌∙◌, inl, inr, arith}
+use Rattle.std.specs.Prelude.{◌↔◌, ◌||◌, ◌==◌, nat_eq, map, count_by, All, IsTrue, IfSome}
 use Rattle.std.specs.Map.{lookup}
 use Rattle.std.proofs.lemmas.List.{length-map}
 use Rattle.fa_capture.specs.declared.limits.TheConstants.{MAX_MESSAGES}
@@ -37,7 +37,7 @@ use Rattle.fa_ledger.specs.Shows.{IsNodeOf, IsKeyOf, ArePlaces}
 use Rattle.fa_ledger.specs.Refusals.{IsMoreKept}
 use Rattle.fa_ledger.specs.parts.Steps.{given_to, given_again, times_named, count_left, opened_with, opens_new, some_new, with_answer, IsOpenedBy, IsListedReply, SettlesTruncation}
 use Rattle.fa_ledger.specs.parts.CallParts.{WaitsAt, waiting_of}
-use Rattle.fa_ledger.specs.parts.ListingParts.{place_of, noted, ListsStillIfAny, IsNotedBy}
+use Rattle.fa_ledger.specs.parts.ListingParts.{place_of, noted, ListsNew, ListsStillIfAny, IsNotedBy}
 use Rattle.fa_ledger.specs.Listings.{count_to}
 use Rattle.fa_ledger.specs.parts.BookParts.{BooksShow, Stands, IsAnsweredRefusal}
 use Rattle.fa_ledger.proofs.CallStepLemmas.{calls_kept, calls_answered, call_waits, waiting_call}
@@ -170,12 +170,12 @@ keys_more c m es at asked r reply old names which p new =
 
 -- and so is where a listing has its offsets
 pub listed_more : (c : List Message) (m : Message) (es : List PlainEvent) (at asked : ℕ) (r : PlainRequest) (reply : PlainReply) (old : Books) (place : ℕ) (call : PlainCall) (waiting : Waiting) (listed : Option ListedOn)
-    → Stands c m es (Answered at asked r reply) old → WaitsAt old.calls asked place call → waiting ≡ waiting_of call → ListsStillIfAny old.handles.opened.entries waiting r.body reply listed → IsSome listed
+    → Stands c m es (Answered at asked r reply) old → WaitsAt old.calls asked place call → waiting ≡ waiting_of call → ListsStillIfAny old.handles.opened.entries waiting r.body reply listed → ListsNew old.listings.by_key.entries listed
     → IsMoreKept es (Answered at asked r reply)
-listed_more c m es at asked r reply old place call waiting None stands waits own lists some = let clash : false ≡ true = some in absurd cc
-listed_more c m es at asked r reply old place call waiting (Some l) stands waits own lists some =
+listed_more c m es at asked r reply old place call waiting None stands waits own lists new = absurd new
+listed_more c m es at asked r reply old place call waiting (Some l) stands waits own lists new =
     inr (inr (inr (lists_on c m es at asked r reply stands.are stands.event old.calls stands.shown.calls place call waits old.handles.opened.entries stands.shown.keys l
-    (subst (λ x. ListsStillIfAny old.handles.opened.entries x r.body reply (Some l)) own lists))))
+    (subst (λ x. ListsStillIfAny old.handles.opened.entries x r.body reply (Some l)) own lists) old.listings.by_key.entries stands.shown.places new)))
 
 -- how many entries it has
 pub listed_counted : (c : List Message) (m : Message) (at asked : ℕ) (r : PlainRequest) (reply : PlainReply) → IsEvent c m (Answered at asked r reply) → (opened : List (Key × Handle)) (waiting : Waiting) (call : PlainCall) → waiting ≡ waiting_of call

@@ -1,5 +1,5 @@
 -- What comes next, and why a ledger does not take it.
-use Rattle.std.specs.Prelude.{◌≡◌, ◌≢◌, ℕ, ◌<◌, ◌⊎◌, List, [], ◌∷◌, ◌++◌, length, take, Contains}
+use Rattle.std.specs.Prelude.{◌≡◌, ℕ, ◌<◌, ◌⊎◌, List, [], ◌∷◌, ◌++◌, length, take, Contains}
 use Rattle.fa_capture.specs.declared.limits.TheConstants.{MAX_MESSAGES}
 use Rattle.fa_capture.specs.Checks.{FirstFailure}
 use Rattle.fa_capture.specs.Message.{Message}
@@ -15,7 +15,7 @@ use Rattle.fa_ledger.specs.declared.error.LedgerError.TheVariants.{Refused, Memo
 use Rattle.fa_ledger.specs.Events.{AreEvents}
 use Rattle.fa_ledger.specs.Counts.{nodes_given, IsCounted}
 use Rattle.fa_ledger.specs.Handles.{IsHandle}
-use Rattle.fa_ledger.specs.Listings.{UsesHandle}
+use Rattle.fa_ledger.specs.Listings.{UsesHandle, IsNeverReached}
 use Rattle.fa_ledger.specs.Kinds.{IsTreeRequest}
 use Rattle.fa_ledger.specs.Passing.{message_checks, Passes}
 use Rattle.fa_ledger.specs.Calls.{OpensAnew}
@@ -38,18 +38,19 @@ abbrev pub ListsNodes : PlainRequest → PlainReply → Type 0
 ListsNodes r (Listed ds) = (node : ℕ) × Contains (nodes_given r.body (Listed ds)) node
 ListsNodes r other = ⊥
 
--- The reply lists entries on a file handle that is open still.
+-- The reply lists, on a file handle that is open still, an entry with an offset that no earlier reply on it has.
 pub record ListsOn (es : List PlainEvent) (asked : ℕ) (r : PlainRequest) (reply : PlainReply) : Type 0 where
   pub entries : List PlainDirent
   pub lists : reply ≡ Listed entries
-  pub some : entries ≢ []
   pub handle : ℕ
   pub uses : UsesHandle (take asked es) r handle
   pub «open» : IsHandle es uses.key handle
+  pub entry : PlainDirent
+  pub listed : Contains entries entry
+  pub new : IsNeverReached es handle entry.off
 
 -- More is to be kept after the event: a further call; a node that was not counted, the names of a listing's nodes, a key that
--- was not open, or, on a handle that is still open, the offsets of the entries that the answer lists. For these room is made
--- for each, also where an earlier answer had it.
+-- was not open, or, on a handle that is still open, an offset that no earlier answer on it had.
 abbrev pub IsMoreKept : List PlainEvent → PlainEvent → Type 0
 IsMoreKept es (Asked at r) = IsTreeRequest r.body
 IsMoreKept es (Answered at asked r reply) =

@@ -1,6 +1,6 @@
 //! For each directory that is open: which answer on its handle has an entry with an offset last.
 
-ghost use Rattle.std.specs.Prelude.{◌≡◌, ◌≢◌, ◌<◌, ◌≤◌, ◌+◌, ◌∷◌, ◌++◌, [], ℕ, cond, length, nat_eq, IfOk, IfSome, IsSome, None, Some, OnOk, OnErr};
+ghost use Rattle.std.specs.Prelude.{◌≡◌, ◌≢◌, ◌<◌, ◌≤◌, ◌+◌, ◌∷◌, ◌++◌, [], ℕ, cond, length, nat_eq, IfOk, IfSome, IsTrue, None, Some, OnOk, OnErr};
 ghost use Rattle.indexmap.specs.IndexMap.{get, spare, IsUnchanged};
 ghost use Rattle.fa_bodies.specs.Dirents.{dirent_shown};
 ghost use Rattle.fa_bodies.specs.Listing.{entries_left};
@@ -8,7 +8,7 @@ ghost use Rattle.fa_ledger.specs.declared.key.Key.{Key};
 ghost use Rattle.fa_ledger.specs.declared.listings.Place.{Place};
 ghost use Rattle.fa_ledger.specs.Keys.{key_eq};
 ghost use Rattle.fa_ledger.specs.Listings.{count_to};
-ghost use Rattle.fa_ledger.specs.parts.ListingParts.{place_of, listed_shown, noted, noted_once, going_on, HasRoom, HasRoomIfAny, IsNotedBy};
+ghost use Rattle.fa_ledger.specs.parts.ListingParts.{place_of, listed_shown, noted, noted_once, going_on, some_new, some_unreached, HasRoom, HasRoomIfNew, ListsNew, IsNotedBy};
 
 use crate::call::Listing;
 use crate::key::Key;
@@ -67,7 +67,7 @@ impl Offsets {
     /// first counts.
     fn note(&mut self, asked: u32, adrift: bool, listing: Entries<'_>)
         requires fresh { (offset : ℕ) (place : Place) → get nat_eq self.old.places offset ≡ Some place → place.asked ≢ asked }
-        requires room { length (entries_left listing) ≤ spare self.old.places }
+        requires room { IsTrue (some_new self.old.places.entries (entries_left listing)) → length (entries_left listing) ≤ spare self.old.places }
         requires few { length (entries_left listing) ≤ 4294967295 }
         ensures { (offset : ℕ) → get nat_eq self.new.places offset ≡ noted asked adrift (count_to offset (entries_left listing.entry)) (get nat_eq self.old.places offset) }
     {
@@ -87,7 +87,7 @@ impl Offsets {
 
     /// Notes an entry with this offset, unless one of the same answer is noted.
     fn note_one(&mut self, offset: u64, place: Place)
-        requires { 0 < spare self.old.places }
+        requires { get nat_eq self.old.places offset ≡ None → 0 < spare self.old.places }
         ensures noted { (other : ℕ) → get nat_eq self.new.places other ≡ cond (nat_eq offset other) (noted_once place (get nat_eq self.old.places offset)) (get nat_eq self.old.places other) }
         ensures room { spare self.old.places ≤ spare self.new.places + 1 }
     {
@@ -141,23 +141,35 @@ impl Listings {
         }
     }
 
-    /// Makes room for what an answer lists, if anything, so that it can be noted without memory.
+    /// Makes room for what an answer lists, if some offset of it is new, so that it can be noted without memory.
     pub fn reserve(&mut self, listed: &Option<ListedOn<'_>>) -> Result<(), AllocError>
         ensures same { (other : Key) (offset : ℕ) → place_of self.new.by_key.entries other offset ≡ place_of self.old.by_key.entries other offset }
-        ensures room { OnOk result (HasRoomIfAny self.new.by_key listed.now) }
+        ensures room { OnOk result (HasRoomIfNew self.new.by_key listed.now) }
         ensures unchanged { OnErr result (listed_shown self.new.by_key.entries ≡ listed_shown self.old.by_key.entries) }
-        ensures wanted { OnErr result (IsSome listed.now) }
+        ensures wanted { OnErr result (ListsNew self.old.by_key.entries listed.now) }
     {
         match listed {
-            Some(listed) => self.reserve_on(&listed.key, listed.count),
-            None => Ok(()),
+            Some(listed) if self.has_new(listed) => self.reserve_on(&listed.key, listed.count),
+            _ => Ok(()),
         }
+    }
+
+    /// Whether an answer lists an entry with an offset that was not reached on its handle.
+    fn has_new(&self, listed: &ListedOn<'_>) -> bool
+        ensures { result ≡ some_unreached self.now.by_key.entries listed.now.key (entries_left listed.now.entries) }
+    {
+        for dirent in listed.entries {
+            if self.place(&listed.key, dirent.off).is_none() {
+                return true;
+            }
+        }
+        false
     }
 
     /// Notes what the answer to the request of this number lists, if anything.
     pub fn note(&mut self, asked: u32, listed: Option<ListedOn<'_>>)
         requires fresh { (key : Key) (offset : ℕ) (place : Place) → place_of self.old.by_key.entries key offset ≡ Some place → place.asked ≢ asked }
-        requires room { HasRoomIfAny self.old.by_key listed }
+        requires room { HasRoomIfNew self.old.by_key listed }
         requires counted { IfSome listed (λ l. l.count ≡ length (entries_left l.entries)) }
         requires few { IfSome listed (λ l. l.count ≤ 4294967295) }
         ensures { IsNotedBy asked listed.entry self.old.by_key.entries self.new.by_key.entries }
@@ -186,12 +198,14 @@ impl Listings {
     /// Notes the answer to the request of this number on the handle of this key.
     fn note_on(&mut self, key: &Key, asked: u32, adrift: bool, listing: Entries<'_>)
         requires fresh { (offset : ℕ) (place : Place) → place_of self.old.by_key.entries key.now offset ≡ Some place → place.asked ≢ asked }
-        requires room { HasRoom self.old.by_key key.now (length (entries_left listing)) }
+        requires room { IsTrue (some_unreached self.old.by_key.entries key.now (entries_left listing)) → HasRoom self.old.by_key key.now (length (entries_left listing)) }
         requires few { length (entries_left listing) ≤ 4294967295 }
         ensures { (other : Key) (offset : ℕ) → place_of self.new.by_key.entries other offset ≡ cond (key_eq key.now other) (noted asked adrift (count_to offset (entries_left listing.entry)) (place_of self.old.by_key.entries other offset)) (place_of self.old.by_key.entries other offset) }
     {
-        if let Some(offsets) = self.by_key.get_mut(key) {
-            offsets.note(asked, adrift, listing);
+        match self.by_key.get_mut(key) {
+            Some(offsets) => offsets.note(asked, adrift, listing),
+            // Without a table there is no entry: each offset would be new, and have room.
+            None => {}
         }
     }
 

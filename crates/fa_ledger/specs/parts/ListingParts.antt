@@ -1,5 +1,6 @@
 -- The table of the offsets that were reached.
-use Rattle.std.specs.Prelude.{cond, ◌≡◌, ◌≢◌, ℕ, ◌≤◌, ◌==◌, if◌then◌else◌, Bool, true, false, nat_eq, List, [], length, map, Option, None, Some, option_and_then}
+use Rattle.std.specs.Prelude.{cond, ◌≡◌, ◌≢◌, ℕ, ◌≤◌, ◌==◌, if◌then◌else◌, Bool, true, false, nat_eq, List, [], length, map, is_none, IsTrue, Option, None, Some, option_and_then}
+use Rattle.std.specs.List.{list_any}
 use Rattle.std.specs.Map.{lookup}
 use Rattle.indexmap.specs.IndexMap.{IndexMap, get, spare}
 use Rattle.fa_bodies.specs.Dirents.{PlainDirent}
@@ -32,10 +33,23 @@ abbrev pub HasRoom : {S : Type 0} → IndexMap Key Offsets S → Key → ℕ →
 HasRoom table key additional =
     (offsets : Offsets) × (get key_eq table key ≡ Some offsets) × (additional ≤ spare offsets.places)
 
--- the handle on which an answer lists has room for its entries, if it lists any
-abbrev pub HasRoomIfAny : {S : Type 0} → IndexMap Key Offsets S → Option ListedOn → Type 0
-HasRoomIfAny table None = Unit {0}
-HasRoomIfAny table (Some listed) = HasRoom table listed.key listed.count
+-- some entry has an offset that is not in the table, as a test; and one that was not reached on the handle of a key
+abbrev pub some_new : List (ℕ × Place) → List PlainDirent → Bool
+some_new table entries = list_any (λ d. is_none (lookup (nat_eq d.off) table)) entries
+
+abbrev pub some_unreached : List (Key × Offsets) → Key → List PlainDirent → Bool
+some_unreached table key entries = list_any (λ d. is_none (place_of table key d.off)) entries
+
+-- an answer lists an entry with an offset that was not reached on its handle
+abbrev pub ListsNew : List (Key × Offsets) → Option ListedOn → Type 0
+ListsNew table None = ⊥
+ListsNew table (Some listed) = IsTrue (some_unreached table listed.key (entries_left listed.entries))
+
+-- the handle on which an answer lists has room for its entries, if it lists a new one
+abbrev pub HasRoomIfNew : {S : Type 0} → IndexMap Key Offsets S → Option ListedOn → Type 0
+HasRoomIfNew table None = Unit {0}
+HasRoomIfNew table (Some listed) =
+    IsTrue (some_unreached table.entries listed.key (entries_left listed.entries)) → HasRoom table listed.key listed.count
 
 -- where an offset was last reached, once the answer to the request of this number came, which counts so many entries up to it
 -- or has none with it
