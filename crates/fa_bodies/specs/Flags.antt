@@ -1,5 +1,5 @@
 -- What the flag words of messages show: their bits, those without a name included.
-use Rattle.std.specs.Prelude.{◌≡◌, ℕ}
+use Rattle.std.specs.Prelude.{◌≡◌, ◌==◌, ℕ, Bool}
 use Rattle.std.specs.Int.RustNames.{bit_and}
 use Rattle.fa_bodies.specs.declared.flags.InitFlags.{InitFlags}
 use Rattle.fa_bodies.specs.declared.flags.GetattrFlags.{GetattrFlags}
@@ -30,3 +30,7 @@ fopen_bits f = f.0
 -- the flag word has this flag
 abbrev pub HasFlag : ℕ → ℕ → Type 0
 HasFlag flags flag = bit_and flags flag ≡ flag
+
+-- and as a test
+abbrev pub has_flag : ℕ → ℕ → Bool
+has_flag flags flag = bit_and flags flag == flag

@@ -3,8 +3,8 @@
 use Rattle.std.specs.Prelude.{◌≡◌, ◌≢◌, ℕ, ◌⊎◌, ◌*◌, ◌^◌, Option, Some, None}
 use Rattle.std.specs.Int.RustNames.{bit_and}
 use Rattle.fa_bodies.specs.declared.mode.Mode.{Mode}
-use Rattle.fa_bodies.specs.declared.mode.FileType.{FileType}
-use Rattle.fa_bodies.specs.declared.mode.FileType.TheVariants.{Fifo, CharDevice, Directory, BlockDevice, Regular, Symlink, Socket}
+use Rattle.fa_bodies.specs.declared.mode.Kind.{Kind}
+use Rattle.fa_bodies.specs.declared.mode.Kind.TheVariants.{Fifo, CharDevice, Directory, BlockDevice, Regular, Symlink, Socket}
 
 -- the bits of a mode
 abbrev pub mode_bits : Mode → ℕ
@@ -15,7 +15,7 @@ abbrev pub type_bits : ℕ → ℕ
 type_bits mode = bit_and mode (15 * 2 ^ 12)
 
 -- this part for each type (S_IFIFO, S_IFCHR, ..)
-abbrev pub type_number : FileType → ℕ
+abbrev pub type_number : Kind → ℕ
 type_number Fifo = 1 * 2 ^ 12  -- 0010000
 type_number CharDevice = 2 * 2 ^ 12  -- 0020000
 type_number Directory = 4 * 2 ^ 12  -- 0040000
@@ -25,13 +25,13 @@ type_number Symlink = 10 * 2 ^ 12  -- 0120000
 type_number Socket = 12 * 2 ^ 12  -- 0140000
 
 -- the type that a mode tells, or that it tells none
-abbrev pub HasFileType : ℕ → Option FileType → Type 0
+abbrev pub HasFileType : ℕ → Option Kind → Type 0
 HasFileType mode (Some t) = type_bits mode ≡ type_number t
-HasFileType mode None = (t : FileType) → type_bits mode ≢ type_number t
+HasFileType mode None = (t : Kind) → type_bits mode ≢ type_number t
 
 -- A mode that MKNOD may give a file: of any type but a directory and a symbolic link. Type 0 stands
 -- for a regular file.
 abbrev pub IsNodeMode : ℕ → Type 0
 IsNodeMode mode =
     (type_bits mode ≡ 0)
-    ⊎ ((t : FileType) × HasFileType mode (Some t) × (t ≢ Directory) × (t ≢ Symlink))
+    ⊎ ((t : Kind) × HasFileType mode (Some t) × (t ≢ Directory) × (t ≢ Symlink))

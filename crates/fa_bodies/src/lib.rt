@@ -41,7 +41,7 @@ pub use forget_one::Items;
 pub use getattr::GetattrIn;
 pub use handles::{FlushIn, OpenIn, OpenOut, ReadIn, ReleaseIn};
 pub use init::{InitIn, Negotiated};
-pub use mode::{FileType, Mode};
+pub use mode::{Kind, Mode};
 pub use names::{MAX_NAME, is_name, is_target};
 pub use reading::{reply_body, reply_head, request};
 pub use replies::{Reply, ReplyHead};

@@ -23,7 +23,7 @@ const S_IFSOCK: u32 = 0o140000;
 
 /// What a file is (`S_IFMT` of POSIX).
 #[derive(Clone, Copy, Debug, PartialEq, Eq)]
-pub enum FileType {
+pub enum Kind {
     /// A pipe with a name.
     Fifo,
     /// A device that gives and takes characters.
@@ -58,17 +58,17 @@ impl Mode {
     }
 
     /// The type that its bits tell (`S_IFMT`), or None where they tell none.
-    pub fn file_type(self) -> Option<FileType>
+    pub fn file_type(self) -> Option<Kind>
         ensures { HasFileType (mode_bits self) result }
     {
         match self.0 & S_IFMT {
-            S_IFIFO => Some(FileType::Fifo),
-            S_IFCHR => Some(FileType::CharDevice),
-            S_IFDIR => Some(FileType::Directory),
-            S_IFBLK => Some(FileType::BlockDevice),
-            S_IFREG => Some(FileType::Regular),
-            S_IFLNK => Some(FileType::Symlink),
-            S_IFSOCK => Some(FileType::Socket),
+            S_IFIFO => Some(Kind::Fifo),
+            S_IFCHR => Some(Kind::CharDevice),
+            S_IFDIR => Some(Kind::Directory),
+            S_IFBLK => Some(Kind::BlockDevice),
+            S_IFREG => Some(Kind::Regular),
+            S_IFLNK => Some(Kind::Symlink),
+            S_IFSOCK => Some(Kind::Socket),
             _ => None,
         }
     }
@@ -79,7 +79,7 @@ impl Mode {
         ensures { IsTrue result ↔ IsNodeMode (mode_bits self) }
     {
         match self.file_type() {
-            Some(FileType::Directory | FileType::Symlink) => false,
+            Some(Kind::Directory | Kind::Symlink) => false,
             Some(_) => true,
             None => self.0 & S_IFMT == 0,
         }

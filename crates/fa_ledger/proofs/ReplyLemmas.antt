@@ -14,7 +14,7 @@ use Rattle.fa_bodies.specs.declared.init.InitIn.{InitIn}
 use Rattle.fa_bodies.specs.declared.init.Negotiated.{Negotiated}
 use Rattle.fa_bodies.specs.declared.requests.TheConstants.{ROOT_ID}
 use Rattle.fa_bodies.specs.FlagBits.{atomic_o_trunc, fopen_direct_io}
-use Rattle.fa_bodies.specs.Flags.{HasFlag, fopen_bits, init_bits}
+use Rattle.fa_bodies.specs.Flags.{HasFlag, has_flag, fopen_bits, init_bits}
 use Rattle.fa_bodies.specs.Requests.{PlainBody, PlainRequest}
 use Rattle.fa_bodies.specs.Requests.PlainBody.{Forget, Open, Release, Flush, Init, Opendir, Releasedir, Create, BatchForget, Passed}
 use Rattle.fa_bodies.specs.Replies.{PlainReply, IsSuccessBody}
@@ -29,7 +29,7 @@ use Rattle.fa_ledger.specs.declared.name.NodeName.TheVariants.{Root, Given}
 use Rattle.fa_ledger.specs.declared.nodes.Lookups.{Lookups}
 use Rattle.fa_ledger.specs.Counts.{nodes_given, nodes_of_listing, times_given, IsCounted}
 use Rattle.fa_ledger.specs.Names.{name_at}
-use Rattle.fa_ledger.specs.Keys.{key_eq, has_flag}
+use Rattle.fa_ledger.specs.Keys.{key_eq}
 use Rattle.fa_ledger.specs.Kinds.{IsTreeRequest}
 use Rattle.fa_ledger.specs.Handles.{opened_by, opening, times_opened, times_closed}
 use Rattle.fa_ledger.specs.Passing.{MayBeGiven}

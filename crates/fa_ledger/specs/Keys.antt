@@ -1,9 +1,8 @@
 -- Keys of file handles: a number of a handle (`fh` of struct fuse_open_out of fuse.h) counts under the name of its node, and
 -- for files and directories apart (this profile). And which key a request uses.
 use Rattle.std.specs.Prelude.{ℕ, ◌==◌, Bool, true, false, ◌&&◌, if◌then◌else◌, List, Option, Some, None, option_map, option_and_then}
-use Rattle.std.specs.Int.RustNames.{bit_and}
 use Rattle.fa_bodies.specs.FlagBits.{getattr_fh, fattr_fh}
-use Rattle.fa_bodies.specs.Flags.{getattr_bits, fattr_bits}
+use Rattle.fa_bodies.specs.Flags.{has_flag, getattr_bits, fattr_bits}
 use Rattle.fa_bodies.specs.Requests.{PlainRequest, PlainBody}
 use Rattle.fa_bodies.specs.Requests.PlainBody.{Lookup, Forget, Getattr, Setattr, Readlink, Symlink, Mknod, Mkdir, Unlink, Rmdir, Rename, Link, Open, Read, Write, Release, Flush, Init, Opendir, Readdir, Releasedir, Create, BatchForget, Readdirplus, Passed}
 use Rattle.fa_session.specs.Events.{PlainEvent}
@@ -36,10 +35,6 @@ abbrev pub key_at : List PlainEvent → ℕ → ℕ × HandleKind → Option Key
 key_at es node handle = option_map (λ name. record { node = name; fh = handle.0; kind = handle.1 }) (name_at es node)
 
 -- ---- what a request uses
-
--- the flag word has this flag, as a test
-abbrev pub has_flag : ℕ → ℕ → Bool
-has_flag flags flag = bit_and flags flag == flag
 
 -- the handle that a request of this body uses, if any; GETATTR and SETATTR only where their flags say so
 abbrev pub handle_used : PlainBody → Option (ℕ × HandleKind)

@@ -2,7 +2,7 @@
 
 use crate::messages::code_of;
 use fa_bodies::sample::Field::{self, Bytes, Name, U32, U64, Zeros};
-use fa_bodies::{FileType, Mode};
+use fa_bodies::{Kind, Mode};
 
 const LONG_NAME: [u8; 1024] = [b'n'; 1024];
 
@@ -220,20 +220,20 @@ fn bodies_that_are_cut(rt: HostRuntime) {
 }
 
 /// The bits of a type, the type, and the code of a MKNOD of it.
-const TYPES: [(u32, Option<FileType>, u16); 16] = [
+const TYPES: [(u32, Option<Kind>, u16); 16] = [
     (0o000000, None, 0),
-    (0o010000, Some(FileType::Fifo), 0),
-    (0o020000, Some(FileType::CharDevice), 0),
+    (0o010000, Some(Kind::Fifo), 0),
+    (0o020000, Some(Kind::CharDevice), 0),
     (0o030000, None, 13),
-    (0o040000, Some(FileType::Directory), 13),
+    (0o040000, Some(Kind::Directory), 13),
     (0o050000, None, 13),
-    (0o060000, Some(FileType::BlockDevice), 0),
+    (0o060000, Some(Kind::BlockDevice), 0),
     (0o070000, None, 13),
-    (0o100000, Some(FileType::Regular), 0),
+    (0o100000, Some(Kind::Regular), 0),
     (0o110000, None, 13),
-    (0o120000, Some(FileType::Symlink), 13),
+    (0o120000, Some(Kind::Symlink), 13),
     (0o130000, None, 13),
-    (0o140000, Some(FileType::Socket), 0),
+    (0o140000, Some(Kind::Socket), 0),
     (0o150000, None, 13),
     (0o160000, None, 13),
     (0o170000, None, 13),

@@ -6,7 +6,7 @@ use Rattle.std.specs.Option.{option_map_or}
 use Rattle.fa_bodies.specs.declared.requests.TheConstants.{ROOT_ID}
 use Rattle.fa_bodies.specs.declared.handles.OpenOut.{OpenOut}
 use Rattle.fa_bodies.specs.FlagBits.{atomic_o_trunc, fopen_direct_io}
-use Rattle.fa_bodies.specs.Flags.{HasFlag, init_bits, fopen_bits}
+use Rattle.fa_bodies.specs.Flags.{HasFlag, has_flag, init_bits, fopen_bits}
 use Rattle.fa_bodies.specs.Requests.{PlainBody}
 use Rattle.fa_bodies.specs.Requests.PlainBody.{Init, Open, Opendir, Create}
 use Rattle.fa_bodies.specs.Replies.{PlainReply}
@@ -19,7 +19,7 @@ use Rattle.fa_ledger.specs.declared.name.NodeName.TheVariants.{Root, Given}
 use Rattle.fa_ledger.specs.declared.naming.Named.{Named}
 use Rattle.fa_ledger.specs.declared.nodes.Lookups.{Lookups}
 use Rattle.fa_ledger.specs.Counts.{total_taken}
-use Rattle.fa_ledger.specs.Keys.{key_eq, has_flag}
+use Rattle.fa_ledger.specs.Keys.{key_eq}
 use Rattle.fa_ledger.specs.Calls.{PlainCall, PlainAnswer}
 
 -- the nodes that are named, as a list
