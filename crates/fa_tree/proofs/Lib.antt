@@ -1,0 +1,3 @@
+pub mod ChangeLemmas
+pub mod PlaceOrderLemmas
+pub mod ShapeLemmas

@@ -1,0 +1,434 @@
+-- What is stored stays a tree.
+use Rattle.std.proofs.Common.{◌≡◌, ◌≢◌, ◌⊎◌, ℕ, zero, suc, ◌<◌, ◌≤◌, Bool, true, false, if◌then◌else◌, List, [], ◌∷◌, ◌++◌, length, get_or, slice_get, slice_set, Option, None, Some, refl, sym, ap, subst, ◌∙◌, inl, inr, arith, ◌==◌}
+use Rattle.std.specs.Option.{option_map_or}
+use Rattle.std.specs.FinMap.{get, insert, remove, get-empty}
+use Rattle.std.proofs.lemmas.Bool.{eqb-false}
+use Rattle.std.proofs.lemmas.Option.{slice_get_within, slice_get-get_or}
+use Rattle.fa_bodies.specs.declared.mode.Kind.{Kind}
+use Rattle.fa_bodies.specs.declared.mode.Kind.TheVariants.{Directory}
+use Rattle.fa_bodies.specs.Requests.{PlainBody}
+use Rattle.fa_bodies.specs.Requests.PlainBody.{Setattr, Symlink, Mknod, Mkdir, Unlink, Rmdir, Rename, Link, Open, Write, Create}
+use Rattle.fa_tree.specs.State.{File, Store, Place, TreeState, place_cmp, root, HasName, IsOfKind, IsDirectory, IsLinked, IsParent, IsBelow}
+use Rattle.fa_tree.specs.State.IsBelow.{child, further}
+use Rattle.fa_tree.specs.Resolved.{Resolved, OfOther}
+use Rattle.fa_tree.specs.Edits.{names_after}
+use Rattle.fa_tree.specs.Edits.Edit.{Added, Removed}
+use Rattle.fa_tree.specs.Lookups.{file_set}
+use Rattle.fa_tree.specs.Making.{emptied, new_symlink, new_node, new_directory as made_directory, new_regular}
+use Rattle.fa_tree.specs.Renaming.{MayBeRenamed, moved, moved_if_any, rename_edits}
+use Rattle.fa_tree.specs.Linking.{MayBeLinked}
+use Rattle.fa_tree.specs.Conditions.{MayBeDone}
+use Rattle.fa_tree.specs.Changes.{edits, with_file, file_written, files_created, files_after}
+use Rattle.fa_tree.specs.Shape.{IsRooted, IsTree}
+use Rattle.fa_tree.specs.Shape.IsRooted.{rooted}
+use Rattle.fa_tree.specs.Building.{MayBeAdded, MayBeLinkedTo, empty_tree, tree_added, tree_linked}
+use Rattle.fa_tree.specs.Laws.{ChangesKeepTrees, FilesStay}
+use Rattle.fa_tree.proofs.PlaceOrderLemmas.{name_added, name_left}
+
+-- ---- files and their kinds
+
+-- the list has a file of this kind at this number
+abbrev HasKind : List File → ℕ → Kind → Type 0
+HasKind files number kind = (file : File) × (slice_get files number ≡ Some file) × (file.kind ≡ kind)
+
+-- files that stay: there are no fewer, and each keeps its kind
+record Stay (old new : List File) : Type 0 where
+  longer : length old ≤ length new
+  kinds : (number : ℕ) (kind : Kind) → HasKind old number kind → HasKind new number kind
+
+-- nothing changes
+all_stay : (files : List File) → Stay files files
+all_stay files = record { longer = omega arith; kinds = λ number kind has. has }
+
+-- one more at the end
+more_kinds : (files : List File) (new : File) (number : ℕ) (kind : Kind) → HasKind files number kind → HasKind (files ++ new ∷ []) number kind
+more_kinds [] new number kind has = let none : None ≡ Some has.0 = has.1 in absurd cc
+more_kinds (file ∷ files) new zero kind has = has
+more_kinds (file ∷ files) new (suc number) kind has = more_kinds files new number kind has
+
+-- and so one longer
+more_length : (files : List File) (new : File) → length (files ++ new ∷ []) ≡ suc (length files)
+more_length [] new = refl
+more_length (file ∷ files) new = ap suc (more_length files new)
+
+-- so all stay
+more_stay : (files : List File) (new : File) → Stay files (files ++ new ∷ [])
+more_stay files new = record { longer = omega (arith, more_length files new); kinds = more_kinds files new }
+
+-- one changed, of its own kind
+set_kinds : (files : List File) (at : ℕ) (file new : File) → slice_get files at ≡ Some file → new.kind ≡ file.kind
+    → (number : ℕ) (kind : Kind) → HasKind files number kind → HasKind (slice_set files at new) number kind
+set_kinds [] at file new is same number kind has = let none : None ≡ Some has.0 = has.1 in absurd cc
+set_kinds (f ∷ files) zero file new is same zero kind has =
+    let own : f ≡ file = cc in
+    let had : f ≡ has.0 = cc in
+    (new, refl, same ∙ ap (λ (x : File). x.kind) (sym own ∙ had) ∙ has.2)
+set_kinds (f ∷ files) zero file new is same (suc number) kind has = has
+set_kinds (f ∷ files) (suc at) file new is same zero kind has = has
+set_kinds (f ∷ files) (suc at) file new is same (suc number) kind has = set_kinds files at file new is same number kind has
+
+-- the list stays as long
+set_length : (files : List File) (at : ℕ) (new : File) → length (slice_set files at new) ≡ length files
+set_length [] at new = refl
+set_length (f ∷ files) zero new = refl
+set_length (f ∷ files) (suc at) new = ap suc (set_length files at new)
+
+-- so all stay
+with_stay : (files : List File) (at : ℕ) (change : File → File) → ((file : File) → (change file).kind ≡ file.kind) → Stay files (with_file files at change)
+with_stay files at change keeps = by (slice_get files at) refl
+  where
+    by : (o : Option File) → slice_get files at ≡ o → Stay files (option_map_or (λ file. slice_set files at (change file)) o files)
+    by None is = all_stay files
+    by (Some file) is = record {
+      longer = omega (arith, set_length files at (change file));
+      kinds = set_kinds files at file (change file) is (keeps file);
+    }
+
+-- what CREATE leaves
+created_stay : (files : List File) (truncates : Bool) (new : File) (found : Option ℕ) → Stay files (files_created files truncates new found)
+created_stay files truncates new None = more_stay files new
+created_stay files true new (Some number) = with_stay files number emptied (λ file. refl)
+created_stay files false new (Some number) = all_stay files
+
+-- what OPEN leaves
+opened_stay : (files : List File) (truncates : Bool) (number : ℕ) → Stay files (if truncates then with_file files number emptied else files)
+opened_stay files true number = with_stay files number emptied (λ file. refl)
+opened_stay files false number = all_stay files
+
+-- what a request leaves
+files_stay_after : (s : Store) (x : Resolved) (truncates : Bool) (count : ℕ) (body : PlainBody) → Stay s.files (files_after s x truncates body count)
+files_stay_after s x truncates count (Setattr a) = with_stay s.files x.node (file_set a) (λ file. refl)
+files_stay_after s x truncates count (Symlink name target) = more_stay s.files (new_symlink target)
+files_stay_after s x truncates count (Mknod mode rdev umask name) = more_stay s.files (new_node mode umask)
+files_stay_after s x truncates count (Mkdir mode umask name) = more_stay s.files (made_directory mode umask)
+files_stay_after s x truncates count (Open o) = opened_stay s.files truncates x.node
+files_stay_after s x truncates count (Write fh offset size write_flags lock_owner flags payload) =
+    with_stay s.files x.node (file_written offset payload count) (λ file. refl)
+files_stay_after s x truncates count (Create flags mode umask name) =
+    created_stay s.files truncates (new_regular mode umask) (get s.names (x.node, name))
+files_stay_after s x truncates count other = all_stay s.files
+
+-- each file keeps its number and its kind
+pub files_stay : FilesStay
+files_stay s x q count number kind has = (files_stay_after s x q.truncates count q.body).kinds number kind has
+
+-- among files that stay, one that was there is of the kind that it has now
+was_of_kind : (old new : List File) → Stay old new → (number : ℕ) (kind : Kind) → number < length old → HasKind new number kind → HasKind old number kind
+was_of_kind old new stay number kind within has =
+    let own = get_or old number has.0 in
+    let there : slice_get old number ≡ Some own = slice_get-get_or old number has.0 within in
+    let kept = stay.kinds number own.kind (own, there, refl) in
+    let same : kept.0 ≡ has.0 = (let both : Some kept.0 ≡ Some has.0 = sym kept.1 ∙ has.1 in cc) in
+    (own, there, sym kept.2 ∙ ap (λ (x : File). x.kind) same ∙ has.2)
+
+-- ---- ways up
+
+-- where there are no more parents, each way up still ends
+fewer_rooted : (s t : Store) → ((parent file : ℕ) → IsParent t parent file → IsParent s parent file) → (file : ℕ) → IsRooted s file → IsRooted t file
+fewer_rooted s t fewer file (rooted _ up) = rooted file (λ parent is. fewer_rooted s t fewer parent (up parent (fewer parent file is)))
+
+-- where there are no more parents, no more is below
+fewer_below : (s t : Store) → ((parent file : ℕ) → IsParent t parent file → IsParent s parent file) → (above below : ℕ) → IsBelow t above below → IsBelow s above below
+fewer_below s t fewer above below (child _ _ is) = child above below (fewer above below is)
+fewer_below s t fewer above below (further _ between _ is up) = further above between below (fewer between below is) (fewer_below s t fewer above between up)
+
+-- what is above another has a name in it
+above_has_name : (s : Store) (above below : ℕ) → IsBelow s above below → (file : ℕ) × IsParent s above file
+above_has_name s above below (child _ _ is) = (below, is)
+above_has_name s above below (further _ between _ is up) = above_has_name s above between up
+
+-- and so is a directory
+above_is_directory : (s : Store) → IsTree s → (above below : ℕ) → IsBelow s above below → IsDirectory s above
+above_is_directory s tree above below is =
+    let one = above_has_name s above below is in
+    tree.inside above one.1.0 one.0 one.1.1
+
+-- a number past the end is of no file
+past_is_none : (s : Store) (kind : Kind) → IsOfKind s (length s.files) kind → ⊥
+past_is_none s kind is = let within : length s.files < length s.files = slice_get_within s.files (length s.files) is.0 is.1 in omega arith
+
+-- ---- files change
+
+-- a tree stays one where its files stay
+files_keep_tree : (s : Store) (files : List File) → Stay s.files files → IsTree s → IsTree (record { names = s.names; files = files })
+files_keep_tree s files stay tree = record {
+  root_is_one = stay.kinds root Directory tree.root_is_one;
+  inside = λ directory name file is. stay.kinds directory Directory (tree.inside directory name file is);
+  there = λ directory name file is. omega (arith, tree.there directory name file is, stay.longer);
+  one_name = λ directory other name more file is also kind.
+      tree.one_name directory other name more file is also (was_of_kind s.files files stay file Directory (tree.there directory name file is) kind);
+  ends = λ file. fewer_rooted s (record { names = s.names; files = files }) (λ parent file is. is) file (tree.ends file);
+}
+
+-- ---- a name goes
+
+-- the store without the name
+abbrev without : Store → Place → Store
+without s place = record { names = remove s.names place; files = s.files }
+
+-- a name that goes leaves no more parents
+fewer_without : (s : Store) (place : Place) (parent file : ℕ) → IsParent (without s place) parent file → IsParent s parent file
+fewer_without s place parent file is = (is.0, (name_left s.names place (parent, is.0) file is.1).1)
+
+-- a tree stays one without a name
+pub removal_keeps_tree : (s : Store) (place : Place) → IsTree s → IsTree (without s place)
+removal_keeps_tree s place tree =
+    let was : (directory : ℕ) (name : List ℕ) (file : ℕ) → HasName (without s place) directory name file → HasName s directory name file =
+    λ directory name file is. (name_left s.names place (directory, name) file is).1 in
+    record {
+      root_is_one = tree.root_is_one;
+      inside = λ directory name file is. tree.inside directory name file (was directory name file is);
+      there = λ directory name file is. tree.there directory name file (was directory name file is);
+      one_name = λ directory other name more file is also kind.
+          tree.one_name directory other name more file (was directory name file is) (was other more file also) kind;
+      ends = λ file. fewer_rooted s (without s place) (fewer_without s place) file (tree.ends file);
+    }
+
+-- ---- a name comes
+
+-- the store with one more name
+abbrev with_name : Store → (directory : ℕ) → (name : List ℕ) → (file : ℕ) → Store
+with_name s directory name file = record { names = insert s.names (directory, name) file; files = s.files }
+
+-- a name may come in a directory for a file that is not that directory and not above it, and is no directory with a name
+record MayCome (s : Store) (directory file : ℕ) : Type 0 where
+  in_directory : IsDirectory s directory
+  there : file < length s.files
+  unnamed : IsDirectory s file → (other : ℕ) (name : List ℕ) → HasName s other name file → ⊥
+  not_itself : directory ≢ file
+  not_above : IsBelow s file directory → ⊥
+
+-- a parent then: the directory that the name came in, or one from before
+parent_then : (s : Store) (directory : ℕ) (name : List ℕ) (file parent x : ℕ) → IsParent (with_name s directory name file) parent x
+    → ((parent ≡ directory) × (x ≡ file)) ⊎ IsParent s parent x
+parent_then s directory name file parent x is =
+    elim (name_added s.names (directory, name) (parent, is.0) file x is.1) [
+      | inl new ↦ inl (ap (λ (p : Place). p.0) new.0, new.1)
+      | inr old ↦ inr (is.0, old)
+    ]
+
+-- the ways up from what is not the file and not below it stay
+others_rooted : (s : Store) (directory : ℕ) (name : List ℕ) (file : ℕ) (x : ℕ) → IsRooted s x → x ≢ file → (IsBelow s file x → ⊥)
+    → IsRooted (with_name s directory name file) x
+others_rooted s directory name file x (rooted _ up) other apart =
+    rooted x (λ parent is. elim (parent_then s directory name file parent x is) [
+      | inl new ↦ absurd (other new.1)
+      | inr old ↦ others_rooted s directory name file parent (up parent old)
+          (λ same. apart (child file x (subst (λ p. IsParent s p x) same old)))
+          (λ below. apart (further file parent x old below))
+    ])
+
+-- all ways up end, if the one of the directory does
+all_rooted : (s : Store) (directory : ℕ) (name : List ℕ) (file : ℕ) → IsRooted (with_name s directory name file) directory
+    → (x : ℕ) → IsRooted s x → IsRooted (with_name s directory name file) x
+all_rooted s directory name file ends x (rooted _ up) =
+    rooted x (λ parent is. elim (parent_then s directory name file parent x is) [
+      | inl new ↦ subst (IsRooted (with_name s directory name file)) (sym new.0) ends
+      | inr old ↦ all_rooted s directory name file ends parent (up parent old)
+    ])
+
+-- a name then: the one that is added, or one from before
+abbrev IsAddedOr : Store → (directory : ℕ) → (name : List ℕ) → (file d : ℕ) → (n : List ℕ) → (f : ℕ) → Type 0
+IsAddedOr s directory name file d n f = (◌≡◌ {A = Place} (d, n) (directory, name) × (f ≡ file)) ⊎ HasName s d n f
+
+-- where a name may come, a tree stays one
+addition_keeps_tree : (s : Store) (directory : ℕ) (name : List ℕ) (file : ℕ) → IsTree s → MayCome s directory file → IsTree (with_name s directory name file)
+addition_keeps_tree s directory name file tree may = record {
+  root_is_one = tree.root_is_one;
+  inside = λ d n f is. inside_then d n f (name_added s.names (directory, name) (d, n) file f is);
+  there = λ d n f is. there_then d n f (name_added s.names (directory, name) (d, n) file f is);
+  one_name = λ d o n m f is also kind. one_then d o n m f (name_added s.names (directory, name) (d, n) file f is) (name_added s.names (directory, name) (o, m) file f also) kind;
+  ends = λ x. all_rooted s directory name file
+      (others_rooted s directory name file directory (tree.ends directory) may.not_itself may.not_above) x (tree.ends x);
+}
+  where
+    inside_then : (d : ℕ) (n : List ℕ) (f : ℕ) → IsAddedOr s directory name file d n f → IsDirectory s d
+    inside_then d n f (inl new) = subst (IsDirectory s) (sym (ap (λ (p : Place). p.0) new.0)) may.in_directory
+    inside_then d n f (inr old) = tree.inside d n f old
+
+    there_then : (d : ℕ) (n : List ℕ) (f : ℕ) → IsAddedOr s directory name file d n f → f < length s.files
+    there_then d n f (inl new) = omega (arith, may.there, new.1)
+    there_then d n f (inr old) = tree.there d n f old
+
+    one_then : (d o : ℕ) (n m : List ℕ) (f : ℕ) → IsAddedOr s directory name file d n f → IsAddedOr s directory name file o m f → IsDirectory s f → (d ≡ o) × (n ≡ m)
+    one_then d o n m f (inl new) (inl also) kind =
+        let places : ◌≡◌ {A = Place} (d, n) (o, m) = new.0 ∙ sym also.0 in
+        (ap (λ (p : Place). p.0) places, ap (λ (p : Place). p.1) places)
+    one_then d o n m f (inl new) (inr old) kind =
+        absurd (may.unnamed (subst (IsDirectory s) new.1 kind) o m (subst (HasName s o m) new.1 old))
+    one_then d o n m f (inr old) (inl new) kind =
+        absurd (may.unnamed (subst (IsDirectory s) new.1 kind) d n (subst (HasName s d n) new.1 old))
+    one_then d o n m f (inr old) (inr also) kind = tree.one_name d o n m f old also kind
+
+-- ---- a file comes
+
+-- no name is for a new file yet, and none is in it
+pub making_keeps_tree : (s : Store) (directory : ℕ) (name : List ℕ) (new : File) → IsTree s → IsDirectory s directory
+    → IsTree (record { names = insert s.names (directory, name) (length s.files); files = s.files ++ new ∷ [] })
+making_keeps_tree s directory name new tree is =
+    let grown : Store = record { names = s.names; files = s.files ++ new ∷ [] } in
+    addition_keeps_tree grown directory name (length s.files) (files_keep_tree s (s.files ++ new ∷ []) (more_stay s.files new) tree) (record {
+      in_directory = more_kinds s.files new directory Directory is;
+      there = omega (arith, more_length s.files new);
+      unnamed = λ kind other name has. omega (arith, tree.there other name (length s.files) has);
+      not_itself = λ same. past_is_none s Directory (subst (IsDirectory s) same is);
+      not_above = λ below.
+          let one = above_has_name grown (length s.files) directory below in
+          past_is_none s Directory (tree.inside (length s.files) one.1.0 one.0 one.1.1);
+    })
+
+-- ---- a further name
+
+-- what is no directory is above nothing
+pub linking_keeps_tree : (s : Store) (directory : ℕ) (name : List ℕ) (file : ℕ) → IsTree s → IsDirectory s directory → file < length s.files → (IsDirectory s file → ⊥)
+    → IsTree (with_name s directory name file)
+linking_keeps_tree s directory name file tree is there none =
+    addition_keeps_tree s directory name file tree (record {
+      in_directory = is;
+      there = there;
+      unnamed = λ kind other name has. none kind;
+      not_itself = λ same. none (subst (IsDirectory s) same is);
+      not_above = λ below. none (above_is_directory s tree file directory below);
+    })
+
+-- a linked file is there
+linked_is_there : (s : Store) → IsTree s → (file : ℕ) → IsLinked s file → file < length s.files
+linked_is_there s tree file (inl is) =
+    let one = tree.root_is_one in
+    let within : root < length s.files = slice_get_within s.files root one.0 one.1 in
+    omega arith
+linked_is_there s tree file (inr has) = tree.there has.0 has.1 file has.2
+
+-- ---- RENAME
+
+-- the file that moves, after its old name went
+record MayMove (s : Store) (old_directory : ℕ) (old_name : List ℕ) (new_directory : ℕ) (file : ℕ) : Type 0 where
+  there : HasName s old_directory old_name file
+  to : IsDirectory s new_directory
+  moves : IsDirectory s file → (new_directory ≢ file) × (IsBelow s file new_directory → ⊥)
+
+-- a name comes for the file that moves, once its old name went, whatever names went else
+move_comes : (s t : Store) (old_directory : ℕ) (old_name : List ℕ) (new_directory file : ℕ) → IsTree s → MayMove s old_directory old_name new_directory file
+    → t.files ≡ s.files → ((directory : ℕ) (name : List ℕ) (f : ℕ) → HasName t directory name f → ◌≢◌ {A = Place} (directory, name) (old_directory, old_name) × HasName s directory name f)
+    → MayCome t new_directory file
+move_comes s t old_directory old_name new_directory file tree may same fewer =
+    let was : IsDirectory t file → IsDirectory s file = λ kind. subst (λ files. HasKind files file Directory) same kind in
+    record {
+      in_directory = subst (λ files. HasKind files new_directory Directory) (sym same) may.to;
+      there = subst (λ (files : List File). file < length files) (sym same) (tree.there old_directory old_name file may.there);
+      unnamed = λ kind other name has.
+          let left = fewer other name file has in
+          let one = tree.one_name other old_directory name old_name file left.1 may.there (was kind) in
+          left.0 (λ i. (one.0 i, one.1 i));
+      not_itself = λ itself. (may.moves (subst (IsDirectory s) itself may.to)).0 itself;
+      not_above = λ below.
+          let before = fewer_below s t (λ parent x is. (is.0, (fewer parent is.0 x is.1).1)) file new_directory below in
+          (may.moves (above_is_directory s tree file new_directory before)).1 before;
+    }
+
+-- the edits of a rename, by the file that has the new name
+moved_keeps_tree : (s : Store) (old_directory : ℕ) (old_name : List ℕ) (new_directory : ℕ) (new_name : List ℕ) (file : ℕ) → IsTree s
+    → HasName s old_directory old_name file → IsDirectory s new_directory
+    → (IsDirectory s file → (HasName s new_directory new_name file → ⊥) → (new_directory ≢ file) × (IsBelow s file new_directory → ⊥))
+    → (found : Option ℕ) → get s.names (new_directory, new_name) ≡ found
+    → IsTree (record { names = names_after (moved old_directory old_name new_directory new_name file found) s.names; files = s.files })
+moved_keeps_tree s old_directory old_name new_directory new_name file tree there to moves None is =
+    let old : Place = (old_directory, old_name) in
+    let left : Store = without s old in
+    let may : MayMove s old_directory old_name new_directory file = record { there = there; to = to; moves = λ kind. moves kind (λ has. absurd cc) } in
+    addition_keeps_tree left new_directory new_name file (removal_keeps_tree s old tree)
+    (move_comes s left old_directory old_name new_directory file tree may refl (λ directory name f has. name_left s.names old (directory, name) f has))
+moved_keeps_tree s old_directory old_name new_directory new_name file tree there to moves (Some other) is =
+    by (other == file) refl
+  where
+    by : (b : Bool) → (other == file) ≡ b
+        → IsTree (record { names = names_after (if b then [] else Removed old_directory old_name ∷ Removed new_directory new_name ∷ Added new_directory new_name file ∷ []) s.names; files = s.files })
+    by true test = tree
+    by false test =
+        let old : Place = (old_directory, old_name) in
+        let new : Place = (new_directory, new_name) in
+        let left : Store = without s old in
+        let last : Store = without left new in
+        let apart : HasName s new_directory new_name file → ⊥ =
+        λ has. (let same : Some other ≡ Some file = sym is ∙ has in let one : other ≡ file = cc in eqb-false other file test one) in
+        let may : MayMove s old_directory old_name new_directory file = record { there = there; to = to; moves = λ kind. moves kind apart } in
+        addition_keeps_tree last new_directory new_name file (removal_keeps_tree left new (removal_keeps_tree s old tree))
+        (move_comes s last old_directory old_name new_directory file tree may refl
+        (λ directory name f has. name_left s.names old (directory, name) f (name_left left.names new (directory, name) f has).1))
+
+-- the edits are those of the file that has the old name
+pub renaming_keeps_tree : (s : Store) (old_directory : ℕ) (old_name : List ℕ) (new_directory : ℕ) (new_name : List ℕ) → IsTree s
+    → MayBeRenamed s old_directory old_name new_directory new_name
+    → IsTree (record { names = names_after (rename_edits s old_directory old_name new_directory new_name) s.names; files = s.files })
+renaming_keeps_tree s old_directory old_name new_directory new_name tree may =
+    subst (λ found. IsTree (record { names = names_after (moved_if_any s old_directory old_name new_directory new_name found) s.names; files = s.files })) (sym may.there)
+    (moved_keeps_tree s old_directory old_name new_directory new_name may.file tree may.there may.to.0 may.moves (get s.names (new_directory, new_name)) refl)
+
+-- ---- RENAME, LINK and CREATE, by what they find
+
+-- RENAME, by the new directory
+renamed_tree : (s : Store) (old_directory : ℕ) (old_name new_name : List ℕ) (other : Option ℕ) → IsTree s
+    → OfOther other (λ directory. MayBeRenamed s old_directory old_name directory new_name)
+    → IsTree (record { names = names_after (option_map_or (λ directory. rename_edits s old_directory old_name directory new_name) other []) s.names; files = s.files })
+renamed_tree s old_directory old_name new_name None tree may = absurd may
+renamed_tree s old_directory old_name new_name (Some directory) tree may = renaming_keeps_tree s old_directory old_name directory new_name tree may
+
+-- LINK, by the file
+linked_tree : (s : Store) (directory : ℕ) (name : List ℕ) (other : Option ℕ) → IsTree s → OfOther other (λ file. MayBeLinked s directory name file)
+    → IsTree (record { names = names_after (option_map_or (λ file. Added directory name file ∷ []) other []) s.names; files = s.files })
+linked_tree s directory name None tree may = absurd may
+linked_tree s directory name (Some file) tree may =
+    linking_keeps_tree s directory name file tree may.0.0 (linked_is_there s tree file may.2) may.3
+
+-- CREATE, by the file that has the name
+created_tree : (s : Store) (directory : ℕ) (name : List ℕ) (truncates : Bool) (new : File) (found : Option ℕ) → IsTree s → IsDirectory s directory
+    → IsTree (record { names = names_after (option_map_or (λ file. []) found (Added directory name (length s.files) ∷ [])) s.names; files = files_created s.files truncates new found })
+created_tree s directory name truncates new None tree is = making_keeps_tree s directory name new tree is
+created_tree s directory name truncates new (Some file) tree is =
+    files_keep_tree s (files_created s.files truncates new (Some file)) (created_stay s.files truncates new (Some file)) tree
+
+-- ---- a request
+
+-- each request, by its body
+changes_tree : (s : Store) (x : Resolved) (truncates : Bool) (count : ℕ) (body : PlainBody) → IsTree s → MayBeDone s x body
+    → IsTree (record { names = names_after (edits s x body) s.names; files = files_after s x truncates body count })
+changes_tree s x truncates count (Symlink name target) tree may = making_keeps_tree s x.node name (new_symlink target) tree may.0.0
+changes_tree s x truncates count (Mknod mode rdev umask name) tree may = making_keeps_tree s x.node name (new_node mode umask) tree may.0.0
+changes_tree s x truncates count (Mkdir mode umask name) tree may = making_keeps_tree s x.node name (made_directory mode umask) tree may.0.0
+changes_tree s x truncates count (Unlink name) tree may = removal_keeps_tree s (x.node, name) tree
+changes_tree s x truncates count (Rmdir name) tree may = removal_keeps_tree s (x.node, name) tree
+changes_tree s x truncates count (Rename newdir old_name new_name) tree may = renamed_tree s x.node old_name new_name x.other tree may
+changes_tree s x truncates count (Link oldnodeid new_name) tree may = linked_tree s x.node new_name x.other tree may
+changes_tree s x truncates count (Create flags mode umask name) tree may =
+    created_tree s x.node name truncates (new_regular mode umask) (get s.names (x.node, name)) tree may.0.0
+changes_tree s x truncates count other tree may = files_keep_tree s (files_after s x truncates other count) (files_stay_after s x truncates count other) tree
+
+-- a request leaves a tree where there was one
+pub changes_keep_trees : ChangesKeepTrees
+changes_keep_trees s x q count tree may = changes_tree s x q.truncates count q.body tree may
+
+-- ---- trees that are put together
+
+-- a root alone
+pub empty_is_tree : (bits : ℕ) → IsTree (empty_tree bits).store
+empty_is_tree bits =
+    let s : Store = (empty_tree bits).store in
+    let none : (directory : ℕ) (name : List ℕ) (file : ℕ) → HasName s directory name file → ⊥ =
+    λ directory name file has. (let free : get s.names (directory, name) ≡ None = get-empty place_cmp (directory, name) in absurd cc) in
+    record {
+      root_is_one = (record { kind = Directory; bits = bits; bytes = [] }, refl, refl);
+      inside = λ directory name file has. absurd (none directory name file has);
+      there = λ directory name file has. absurd (none directory name file has);
+      one_name = λ directory other name more file has also kind. absurd (none directory name file has);
+      ends = λ file. rooted file (λ parent is. absurd (none parent is.0 file is.1));
+    }
+
+-- a file more
+pub adding_keeps_tree : (t : TreeState) (parent : ℕ) (name : List ℕ) (file : File) → IsTree t.store → MayBeAdded t parent name file.bytes
+    → IsTree (tree_added t parent name file).store
+adding_keeps_tree t parent name file tree may = making_keeps_tree t.store parent name file tree may.0.0.0
+
+-- a name more
+pub naming_keeps_tree : (t : TreeState) (parent : ℕ) (name : List ℕ) (file : ℕ) → IsTree t.store → MayBeLinkedTo t parent name file → file < length t.store.files
+    → IsTree (tree_linked t parent name file).store
+naming_keeps_tree t parent name file tree may there = linking_keeps_tree t.store parent name file tree may.0.0.0 there may.2

@@ -1,0 +1,67 @@
+-- READDIR and READDIRPLUS (POSIX readdir: what is added or removed after opendir may be given or not; what stayed is given).
+use Rattle.std.specs.Prelude.{◌≡◌, ◌≢◌, ◌+◌, ◌*◌, ◌^◌, ◌⊎◌, ◌≤◌, ℕ, false, List, [], ◌++◌, All, Contains, count_by, filter, not, slice_get, Some, IsTrue}
+use Rattle.std.specs.FinMap.{get}
+use Rattle.std.specs.FinSet.{contains}
+use Rattle.std.specs.Str.{bytes_eq}
+use Rattle.fa_bodies.specs.declared.entry.EntryOut.{EntryOut}
+use Rattle.fa_bodies.specs.Dirents.{PlainDirent}
+use Rattle.fa_bodies.specs.Modes.{mode_bits, type_number, HasFileType}
+use Rattle.fa_ledger.specs.declared.call.Listing.{Listing}
+use Rattle.fa_ledger.specs.Counts.{is_dots}
+use Rattle.fa_tree.specs.State.{File, Store, OpenDirectory, HasName}
+
+-- the entries that are judged: all but `.` and `..`
+abbrev pub judged : List PlainDirent → List PlainDirent
+judged entries = filter (λ d. not (is_dots d.name)) entries
+
+-- The name was in the directory at some moment since it was opened.
+abbrev pub WasThere : OpenDirectory → PlainDirent → Type 0
+WasThere h d = IsTrue (contains h.since d.name)
+
+-- The type of an entry (`type` of struct fuse_dirent) is 0 or that of this file.
+abbrev pub IsTypeOf : Store → ℕ → PlainDirent → Type 0
+IsTypeOf s number d =
+    (d.kind ≡ 0) ⊎ ((file : File) × (slice_get s.files number ≡ Some file) × (d.kind * 2 ^ 12 ≡ type_number file.kind))
+
+-- Where a file stayed under the entry's name, the type is that file's.
+abbrev pub IsTypedAsStayed : Store → OpenDirectory → PlainDirent → Type 0
+IsTypedAsStayed s h d = (file : ℕ) → get h.stayed d.name ≡ Some file → IsTypeOf s file d
+
+-- how often entries have the name
+abbrev pub times_listed : (name : List ℕ) → List PlainDirent → ℕ
+times_listed name entries = count_by (λ d. bytes_eq d.name name) entries
+
+-- The least size of an answer into which any entry fits: 128 bytes for its node (struct fuse_entry_out), 24 for itself (struct
+-- fuse_dirent) and 1,024 for its name.
+abbrev pub room_for_any : ℕ
+room_for_any = 128 + (24 + 1024)
+
+-- A listing that begins at the start, without gaps, on a handle of its own: what was listed so far and this answer name
+-- nothing twice that stayed; and an answer without an entry, where there was room for one, comes only when all that stayed was
+-- listed (this profile).
+pub record IsOrderly (h : OpenDirectory) (so_far entries : List PlainDirent) (size : ℕ) : Type 0 where
+  pub once : (name : List ℕ) (file : ℕ) → get h.stayed name ≡ Some file → times_listed name (so_far ++ entries) ≤ 1
+  pub whole : entries ≡ [] → room_for_any ≤ size → (name : List ℕ) (file : ℕ) → get h.stayed name ≡ Some file
+      → (d : PlainDirent) × Contains so_far d × (d.name ≡ name)
+
+-- the entry looks its name up: it has a node id other than 0
+abbrev pub LooksUp : PlainDirent → Type 0
+LooksUp d = (entry : EntryOut) × (d.entry ≡ Some entry) × (entry.nodeid ≢ 0)
+
+-- Then its name is in the directory now (this profile: a READDIRPLUS acts at one moment, and looks all its entries with a node
+-- up together).
+abbrev pub IsThereIfLookedUp : Store → (directory : ℕ) → PlainDirent → Type 0
+IsThereIfLookedUp s directory d = LooksUp d → (file : ℕ) × HasName s directory d.name file
+
+-- And the type in its attributes is that of the file which has the name (told with the attributes, not with the listing).
+abbrev pub IsTypedIfLookedUp : Store → (directory : ℕ) → PlainDirent → Type 0
+IsTypedIfLookedUp s directory d =
+    (entry : EntryOut) (number : ℕ) (file : File) → d.entry ≡ Some entry → entry.nodeid ≢ 0 → HasName s directory d.name number
+    → slice_get s.files number ≡ Some file → HasFileType (mode_bits entry.attr.mode) (Some file.kind)
+
+-- The rule of listings, for a request of this size that goes on from this listing, after what was listed so far.
+pub record IsListed (s : Store) (directory : ℕ) (h : OpenDirectory) (listing : Listing) (size : ℕ) (so_far entries : List PlainDirent) : Type 0 where
+  pub there : All (WasThere h) (judged entries)
+  pub typed : All (IsTypedAsStayed s h) (judged entries)
+  pub orderly : listing.adrift ≡ false → listing.shared ≡ false → IsOrderly h so_far entries size
+  pub now : All (IsThereIfLookedUp s directory) (judged entries)

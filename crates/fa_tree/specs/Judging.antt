@@ -1,0 +1,135 @@
+-- What a success says of the store that it left: attributes, bytes, listings, and for which files it gives names of nodes.
+use Rattle.std.specs.Prelude.{◌≡◌, ◌≢◌, ℕ, Bool, List, [], ◌∷◌, ◌++◌, All, Option, Some, None, option_and_then}
+use Rattle.std.specs.FinMap.{get}
+use Rattle.fa_bodies.specs.declared.entry.EntryOut.{EntryOut}
+use Rattle.fa_bodies.specs.Dirents.{PlainDirent}
+use Rattle.fa_bodies.specs.Requests.{PlainBody}
+use Rattle.fa_bodies.specs.Requests.PlainBody.{Lookup, Getattr, Setattr, Readlink, Symlink, Mknod, Mkdir, Unlink, Rmdir, Rename, Link, Open, Read, Write, Opendir, Readdir, Create, Readdirplus}
+use Rattle.fa_bodies.specs.Replies.{PlainReply}
+use Rattle.fa_bodies.specs.Replies.PlainReply.{Refused, Empty, Entry, Created, Attributes, Opened, Written, Bytes, Listed, InitAnswer, Skipped}
+use Rattle.fa_ledger.specs.declared.call.Listing.{Listing}
+use Rattle.fa_ledger.specs.Counts.{nodes_of_entry}
+use Rattle.fa_tree.specs.State.{Store, OpenDirectory}
+use Rattle.fa_tree.specs.Resolved.{Question, Resolved}
+use Rattle.fa_tree.specs.Attributes.{Fits}
+use Rattle.fa_tree.specs.Contents.{IsReadFrom}
+use Rattle.fa_tree.specs.Lookups.{IsFoundAs, IsTargetOf}
+use Rattle.fa_tree.specs.Directories.{judged, IsTypedIfLookedUp, IsListed}
+
+-- ---- what answers what
+
+-- A success of a request has this form (the bodies of replies in fuse.h); no other answers it.
+abbrev pub IsAnswerTo : PlainBody → PlainReply → Type 0
+IsAnswerTo (Lookup name) (Entry entry) = Unit {0}
+IsAnswerTo (Getattr g) (Attributes a) = Unit {0}
+IsAnswerTo (Setattr s) (Attributes a) = Unit {0}
+IsAnswerTo Readlink (Bytes bytes) = Unit {0}
+IsAnswerTo (Symlink name target) (Entry entry) = Unit {0}
+IsAnswerTo (Mknod mode rdev umask name) (Entry entry) = Unit {0}
+IsAnswerTo (Mkdir mode umask name) (Entry entry) = Unit {0}
+IsAnswerTo (Unlink name) Empty = Unit {0}
+IsAnswerTo (Rmdir name) Empty = Unit {0}
+IsAnswerTo (Rename newdir old_name new_name) Empty = Unit {0}
+IsAnswerTo (Link oldnodeid new_name) (Entry entry) = Unit {0}
+IsAnswerTo (Open o) (Opened out) = Unit {0}
+IsAnswerTo (Read r) (Bytes bytes) = Unit {0}
+IsAnswerTo (Write fh offset size write_flags lock_owner flags payload) (Written count) = Unit {0}
+IsAnswerTo (Opendir o) (Opened out) = Unit {0}
+IsAnswerTo (Readdir r) (Listed entries) = Unit {0}
+IsAnswerTo (Create flags mode umask name) (Created entry out) = Unit {0}
+IsAnswerTo (Readdirplus r) (Listed entries) = Unit {0}
+IsAnswerTo body reply = ⊥
+
+-- ---- where a name was looked up
+
+-- LOOKUP finds the name, or not, as its answer says. No other success says so.
+abbrev pub FindsAsSaid : Store → Resolved → PlainBody → PlainReply → Type 0
+FindsAsSaid s x (Lookup name) (Entry entry) = IsFoundAs s x.node name entry.nodeid
+FindsAsSaid s x body reply = Unit {0}
+
+-- the name whose file a reply gives by an entry
+abbrev pub entry_name : PlainBody → Option (List ℕ)
+entry_name (Lookup name) = Some name
+entry_name (Symlink name target) = Some name
+entry_name (Mknod mode rdev umask name) = Some name
+entry_name (Mkdir mode umask name) = Some name
+entry_name (Link oldnodeid new_name) = Some new_name
+entry_name (Create flags mode umask name) = Some name
+entry_name other = None
+
+-- the file of that name now
+abbrev pub entry_file : Store → Resolved → PlainBody → Option ℕ
+entry_file s x body = option_and_then (λ name. get s.names (x.node, name)) (entry_name body)
+
+-- ---- attributes
+
+-- The attributes of an entry are those of the file that has the name.
+abbrev pub EntryFits : Store → Resolved → PlainBody → EntryOut → Type 0
+EntryFits s x body entry = (file : ℕ) × (entry_file s x body ≡ Some file) × Fits s file entry.attr
+
+-- the attributes that a success gives fit; where LOOKUP says that the name is not there, nothing is judged
+abbrev pub AttributesFit : Store → Resolved → PlainBody → PlainReply → Type 0
+AttributesFit s x (Lookup name) (Entry entry) = entry.nodeid ≢ 0 → EntryFits s x (Lookup name) entry
+AttributesFit s x body (Entry entry) = EntryFits s x body entry
+AttributesFit s x body (Created entry out) = EntryFits s x body entry
+AttributesFit s x body (Attributes a) = Fits s x.node a.attr
+AttributesFit s x body (Listed entries) = All (IsTypedIfLookedUp s x.node) (judged entries)
+AttributesFit s x body Empty = Unit {0}
+AttributesFit s x body (Opened out) = Unit {0}
+AttributesFit s x body (Written size) = Unit {0}
+AttributesFit s x body (Bytes bytes) = Unit {0}
+AttributesFit s x body other = ⊥
+
+-- ---- nodes
+
+-- the file for the node of an entry, if the entry gives one
+abbrev pub file_if : (nodes : List ℕ) → Option ℕ → List (Option ℕ)
+file_if [] file = []
+file_if (node ∷ nodes) file = file ∷ []
+
+-- the files of the entries that give a name to a node, in their order
+abbrev pub files_listed : Store → (directory : ℕ) → List PlainDirent → List (Option ℕ)
+files_listed s directory [] = []
+files_listed s directory (d ∷ ds) =
+    file_if (nodes_of_entry d.entry d.name) (get s.names (directory, d.name)) ++ files_listed s directory ds
+
+-- the files for which a success gives names of nodes, in the order of these
+abbrev pub files_given : Store → Resolved → PlainBody → PlainReply → List (Option ℕ)
+files_given s x body (Listed entries) = files_listed s x.node entries
+files_given s x body (Entry entry) = entry_file s x body ∷ []
+files_given s x body (Created entry out) = entry_file s x body ∷ []
+files_given s x body Empty = []
+files_given s x body (Attributes a) = []
+files_given s x body (Opened out) = []
+files_given s x body (Written size) = []
+files_given s x body (Bytes bytes) = []
+files_given s x body (Refused error) = []
+files_given s x body (InitAnswer n) = []
+files_given s x body Skipped = []
+
+-- ---- bytes and listings
+
+-- the bytes that a success of READLINK or READ gives
+abbrev pub BytesAre : Store → Resolved → (direct : Bool) → PlainBody → List ℕ → Type 0
+BytesAre s x direct Readlink bytes = IsTargetOf s x.node bytes
+BytesAre s x direct (Read r) bytes = IsReadFrom s x.node direct r.offset r.size bytes
+BytesAre s x direct other bytes = ⊥
+
+abbrev pub BytesFit : Store → Resolved → Question → PlainReply → Type 0
+BytesFit s x q (Bytes bytes) = BytesAre s x q.direct q.body bytes
+BytesFit s x q other = Unit {0}
+
+-- the size that a request to list asks for (`size` of struct fuse_read_in)
+abbrev pub size_asked : PlainBody → Option ℕ
+size_asked (Readdir r) = Some r.size
+size_asked (Readdirplus r) = Some r.size
+size_asked other = None
+
+-- the entries that a success of READDIR or READDIRPLUS gives on an open directory, after what was listed so far
+abbrev pub EntriesAre : Store → (directory : ℕ) → (size : Option ℕ) → Option OpenDirectory → Option Listing → (so_far entries : List PlainDirent) → Type 0
+EntriesAre s directory (Some size) (Some h) (Some listing) so_far entries = IsListed s directory h listing size so_far entries
+EntriesAre s directory size h listing so_far entries = ⊥
+
+abbrev pub ListingFits : Store → Resolved → Question → (so_far : List PlainDirent) → PlainReply → Type 0
+ListingFits s x q so_far (Listed entries) = EntriesAre s x.node (size_asked q.body) x.handle q.listing so_far entries
+ListingFits s x q so_far other = Unit {0}

@@ -1,0 +1,55 @@
+-- SYMLINK, MKNOD, MKDIR and CREATE (POSIX symlink, mknod, mkdir, open with O_CREAT).
+use Rattle.std.specs.Prelude.{◌⊎◌, ◌-◌, ◌==◌, if◌then◌else◌, ℕ, List, []}
+use Rattle.std.specs.Int.RustNames.{bit_and}
+use Rattle.fa_bodies.specs.declared.flags.OpenFlags.{OpenFlags}
+use Rattle.fa_bodies.specs.declared.mode.Kind.{Kind}
+use Rattle.fa_bodies.specs.declared.mode.Kind.TheVariants.{Fifo, CharDevice, Directory, BlockDevice, Regular, Symlink, Socket}
+use Rattle.fa_bodies.specs.declared.mode.Mode.{Mode}
+use Rattle.fa_bodies.specs.FlagBits.{o_excl}
+use Rattle.fa_bodies.specs.Flags.{HasFlag, open_bits}
+use Rattle.fa_bodies.specs.Modes.{mode_bits, type_bits, type_number}
+use Rattle.fa_tree.specs.State.{File, Store, HasName, IsFree, IsRegular, IsLinkedDirectory}
+use Rattle.fa_tree.specs.Attributes.{permission_bits}
+
+-- A file is made in a linked directory under a name that is not in it.
+abbrev pub MayBeMade : Store → (directory : ℕ) → (name : List ℕ) → Type 0
+MayBeMade s directory name = IsLinkedDirectory s directory × IsFree s directory name
+
+-- CREATE makes a regular file, or opens a regular file that is there (this profile: of no other type), unless O_EXCL asks for a
+-- new one.
+abbrev pub MayBeCreated : Store → (directory : ℕ) → (name : List ℕ) → OpenFlags → Type 0
+MayBeCreated s directory name flags =
+    IsLinkedDirectory s directory
+    × (IsFree s directory name
+    ⊎ ((file : ℕ) × HasName s directory name file × IsRegular s file × (HasFlag (open_bits flags) o_excl → ⊥)))
+
+-- the permission bits of a new file: those of its mode that the umask does not take (this profile: that of the request alone)
+abbrev pub new_bits : Mode → (umask : ℕ) → ℕ
+new_bits mode umask = bit_and (permission_bits (mode_bits mode)) (511 - permission_bits umask)
+
+-- the type of a file that MKNOD makes, by the type in its mode; type 0 stands for a regular file, and the message grammar lets
+-- directories and symbolic links not pass
+abbrev pub node_kind : Mode → Kind
+node_kind mode =
+    (if type_bits (mode_bits mode) == type_number Fifo then Fifo
+    else if type_bits (mode_bits mode) == type_number CharDevice then CharDevice
+    else if type_bits (mode_bits mode) == type_number BlockDevice then BlockDevice
+    else if type_bits (mode_bits mode) == type_number Socket then Socket
+    else Regular)
+
+-- the files that are made: a symbolic link has all permission bits, 0777, and its target
+abbrev pub new_symlink : (target : List ℕ) → File
+new_symlink target = record { kind = Symlink; bits = 511; bytes = target }
+
+abbrev pub new_node : Mode → (umask : ℕ) → File
+new_node mode umask = record { kind = node_kind mode; bits = new_bits mode umask; bytes = [] }
+
+abbrev pub new_directory : Mode → (umask : ℕ) → File
+new_directory mode umask = record { kind = Directory; bits = new_bits mode umask; bytes = [] }
+
+abbrev pub new_regular : Mode → (umask : ℕ) → File
+new_regular mode umask = record { kind = Regular; bits = new_bits mode umask; bytes = [] }
+
+-- a file that is emptied
+abbrev pub emptied : File → File
+emptied file = record { kind = file.kind; bits = file.bits; bytes = [] }

@@ -1,0 +1,42 @@
+-- RENAME (POSIX rename).
+use Rattle.std.specs.Prelude.{◌≡◌, ◌≢◌, ◌⊎◌, ℕ, ◌==◌, if◌then◌else◌, List, [], ◌∷◌, Option, Some, None}
+use Rattle.std.specs.FinMap.{get}
+use Rattle.fa_tree.specs.State.{Store, HasName, IsDirectory, IsLinkedDirectory, IsEmptyDirectory, IsBelow}
+use Rattle.fa_tree.specs.Edits.{Edit}
+use Rattle.fa_tree.specs.Edits.Edit.{Added, Removed}
+
+-- A file may take the name of another: of itself; a directory that of an empty directory; what is no directory that of what
+-- is none either.
+abbrev pub MayReplace : Store → (file other : ℕ) → Type 0
+MayReplace s file other =
+    (other ≡ file) ⊎ ((IsDirectory s file × IsEmptyDirectory s other) ⊎ ((IsDirectory s file → ⊥) × (IsDirectory s other → ⊥)))
+
+-- The old name is in its directory, and the new directory is linked. A file that has the new name may be replaced. A directory
+-- does not move to itself nor below itself, unless the new name is its own already.
+pub record MayBeRenamed (s : Store) (old_directory : ℕ) (old_name : List ℕ) (new_directory : ℕ) (new_name : List ℕ) : Type 0 where
+  pub from : IsDirectory s old_directory
+  pub to : IsLinkedDirectory s new_directory
+  pub file : ℕ
+  pub there : HasName s old_directory old_name file
+  pub replaces : (other : ℕ) → HasName s new_directory new_name other → MayReplace s file other
+  pub moves : IsDirectory s file → (HasName s new_directory new_name file → ⊥)
+      → (new_directory ≢ file) × (IsBelow s file new_directory → ⊥)
+
+-- The edits of a rename of this file, by the file that has the new name, if one has it: none where it is this file (both names
+-- stay); else the old name goes, then the other file's name, and then the new name is added for this file.
+abbrev pub moved : (old_directory : ℕ) → (old_name : List ℕ) → (new_directory : ℕ) → (new_name : List ℕ) → (file : ℕ) → Option ℕ → List Edit
+moved old_directory old_name new_directory new_name file None =
+    Removed old_directory old_name ∷ Added new_directory new_name file ∷ []
+moved old_directory old_name new_directory new_name file (Some other) =
+    (if other == file then []
+    else Removed old_directory old_name ∷ Removed new_directory new_name ∷ Added new_directory new_name file ∷ [])
+
+abbrev pub moved_if_any : Store → (old_directory : ℕ) → (old_name : List ℕ) → (new_directory : ℕ) → (new_name : List ℕ) → Option ℕ → List Edit
+moved_if_any s old_directory old_name new_directory new_name None = []
+moved_if_any s old_directory old_name new_directory new_name (Some file) =
+    moved old_directory old_name new_directory new_name file (get s.names (new_directory, new_name))
+
+-- the edits of a RENAME
+abbrev pub rename_edits : Store → (old_directory : ℕ) → (old_name : List ℕ) → (new_directory : ℕ) → (new_name : List ℕ) → List Edit
+rename_edits s old_directory old_name new_directory new_name =
+    moved_if_any s old_directory old_name new_directory new_name (get s.names (old_directory, old_name))
