@@ -8,7 +8,7 @@ use Rattle.fa_bodies.specs.declared.mode.Kind.{Kind}
 use Rattle.fa_bodies.specs.declared.mode.Kind.TheVariants.{Directory}
 use Rattle.fa_bodies.specs.Requests.{PlainBody}
 use Rattle.fa_bodies.specs.Requests.PlainBody.{Setattr, Symlink, Mknod, Mkdir, Unlink, Rmdir, Rename, Link, Open, Write, Create}
-use Rattle.fa_tree.specs.State.{File, Store, Place, TreeState, place_cmp, root, HasName, IsOfKind, IsDirectory, IsLinked, IsParent, IsBelow}
+use Rattle.fa_tree.specs.State.{File, Store, Place, place_cmp, root, HasName, IsOfKind, IsDirectory, IsLinked, IsParent, IsBelow}
 use Rattle.fa_tree.specs.State.IsBelow.{child, further}
 use Rattle.fa_tree.specs.Resolved.{Resolved, OfOther}
 use Rattle.fa_tree.specs.Edits.{names_after}
@@ -21,20 +21,20 @@ use Rattle.fa_tree.specs.Conditions.{MayBeDone}
 use Rattle.fa_tree.specs.Changes.{edits, with_file, file_written, files_created, files_after}
 use Rattle.fa_tree.specs.Shape.{IsRooted, IsTree}
 use Rattle.fa_tree.specs.Shape.IsRooted.{rooted}
-use Rattle.fa_tree.specs.Building.{MayBeAdded, MayBeLinkedTo, empty_tree, tree_added, tree_linked}
+use Rattle.fa_tree.specs.Building.{empty_tree}
 use Rattle.fa_tree.specs.Laws.{ChangesKeepTrees, FilesStay}
 use Rattle.fa_tree.proofs.PlaceOrderLemmas.{name_added, name_left}
 
 -- ---- files and their kinds
 
 -- the list has a file of this kind at this number
-abbrev HasKind : List File → ℕ → Kind → Type 0
+abbrev pub HasKind : List File → ℕ → Kind → Type 0
 HasKind files number kind = (file : File) × (slice_get files number ≡ Some file) × (file.kind ≡ kind)
 
 -- files that stay: there are no fewer, and each keeps its kind
-record Stay (old new : List File) : Type 0 where
-  longer : length old ≤ length new
-  kinds : (number : ℕ) (kind : Kind) → HasKind old number kind → HasKind new number kind
+pub record Stay (old new : List File) : Type 0 where
+  pub longer : length old ≤ length new
+  pub kinds : (number : ℕ) (kind : Kind) → HasKind old number kind → HasKind new number kind
 
 -- nothing changes
 all_stay : (files : List File) → Stay files files
@@ -74,7 +74,7 @@ set_length (f ∷ files) zero new = refl
 set_length (f ∷ files) (suc at) new = ap suc (set_length files at new)
 
 -- so all stay
-with_stay : (files : List File) (at : ℕ) (change : File → File) → ((file : File) → (change file).kind ≡ file.kind) → Stay files (with_file files at change)
+pub with_stay : (files : List File) (at : ℕ) (change : File → File) → ((file : File) → (change file).kind ≡ file.kind) → Stay files (with_file files at change)
 with_stay files at change keeps = by (slice_get files at) refl
   where
     by : (o : Option File) → slice_get files at ≡ o → Stay files (option_map_or (λ file. slice_set files at (change file)) o files)
@@ -150,7 +150,7 @@ past_is_none s kind is = let within : length s.files < length s.files = slice_ge
 -- ---- files change
 
 -- a tree stays one where its files stay
-files_keep_tree : (s : Store) (files : List File) → Stay s.files files → IsTree s → IsTree (record { names = s.names; files = files })
+pub files_keep_tree : (s : Store) (files : List File) → Stay s.files files → IsTree s → IsTree (record { names = s.names; files = files })
 files_keep_tree s files stay tree = record {
   root_is_one = stay.kinds root Directory tree.root_is_one;
   inside = λ directory name file is. stay.kinds directory Directory (tree.inside directory name file is);
@@ -292,7 +292,7 @@ linking_keeps_tree s directory name file tree is there none =
     })
 
 -- a linked file is there
-linked_is_there : (s : Store) → IsTree s → (file : ℕ) → IsLinked s file → file < length s.files
+pub linked_is_there : (s : Store) → IsTree s → (file : ℕ) → IsLinked s file → file < length s.files
 linked_is_there s tree file (inl is) =
     let one = tree.root_is_one in
     let within : root < length s.files = slice_get_within s.files root one.0 one.1 in
@@ -422,13 +422,3 @@ empty_is_tree bits =
       one_name = λ directory other name more file has also kind. absurd (none directory name file has);
       ends = λ file. rooted file (λ parent is. absurd (none parent is.0 file is.1));
     }
-
--- a file more
-pub adding_keeps_tree : (t : TreeState) (parent : ℕ) (name : List ℕ) (file : File) → IsTree t.store → MayBeAdded t parent name file.bytes
-    → IsTree (tree_added t parent name file).store
-adding_keeps_tree t parent name file tree may = making_keeps_tree t.store parent name file tree may.0.0.0
-
--- a name more
-pub naming_keeps_tree : (t : TreeState) (parent : ℕ) (name : List ℕ) (file : ℕ) → IsTree t.store → MayBeLinkedTo t parent name file → file < length t.store.files
-    → IsTree (tree_linked t parent name file).store
-naming_keeps_tree t parent name file tree may there = linking_keeps_tree t.store parent name file tree may.0.0.0 there may.2

@@ -1,11 +1,11 @@
 -- Trees that are put together name by name (this profile: what a tree text says).
-use Rattle.std.specs.Prelude.{◌≡◌, ◌≤◌, ℕ, List, [], ◌∷◌, ◌++◌, length}
+use Rattle.std.specs.Prelude.{◌≡◌, ◌≢◌, ◌≤◌, ℕ, List, [], ◌∷◌, ◌++◌, length, slice_get, Some}
 use Rattle.std.specs.FinMap as map
 use Rattle.fa_bodies.specs.declared.bodies.TheConstants.{MAX_FILE_BYTES}
 use Rattle.fa_bodies.specs.declared.mode.Kind.{Kind}
 use Rattle.fa_bodies.specs.declared.mode.Kind.TheVariants.{Fifo, CharDevice, Directory, BlockDevice, Regular, Symlink, Socket}
 use Rattle.fa_bodies.specs.Names.{IsName, IsTarget}
-use Rattle.fa_tree.specs.State.{File, TreeState, IsDirectory}
+use Rattle.fa_tree.specs.State.{File, Store, TreeState}
 use Rattle.fa_tree.specs.Edits.{names_after, handles_after}
 use Rattle.fa_tree.specs.Edits.Edit.{Added}
 use Rattle.fa_tree.specs.Making.{MayBeMade, new_symlink}
@@ -38,9 +38,11 @@ MayHold Directory body = body ≡ []
 MayHold BlockDevice body = body ≡ []
 MayHold Socket body = body ≡ []
 
--- A file may be added as it may be made, under a name that is permitted, with no more bytes than a file may have.
-abbrev pub MayBeAdded : TreeState → (parent : ℕ) → (name body : List ℕ) → Type 0
-MayBeAdded t parent name body = MayBeMade t.store parent name × IsName name × (length body ≤ MAX_FILE_BYTES)
+-- A file may be added as it may be made, under a name that is permitted, with a body that a file of its type may hold and no
+-- more bytes than a file may have.
+abbrev pub MayBeAdded : TreeState → (parent : ℕ) → (name : List ℕ) → Kind → (body : List ℕ) → Type 0
+MayBeAdded t parent name kind body =
+    MayBeMade t.store parent name × IsName name × MayHold kind body × (length body ≤ MAX_FILE_BYTES)
 
 -- the tree with this file added, which takes the next number
 abbrev pub tree_added : TreeState → (parent : ℕ) → (name : List ℕ) → File → TreeState
@@ -53,9 +55,13 @@ tree_added t parent name file = record {
   handles = handles_after (Added parent name (length t.store.files) ∷ []) t.handles;
 }
 
+-- there is a file of this number, and it is no directory
+abbrev pub IsOther : Store → ℕ → Type 0
+IsOther s number = (file : File) × (slice_get s.files number ≡ Some file) × (file.kind ≢ Directory)
+
 -- A further name may be added in a linked directory that has not the name, if it is permitted, for a file that is no directory.
 abbrev pub MayBeLinkedTo : TreeState → (parent : ℕ) → (name : List ℕ) → (file : ℕ) → Type 0
-MayBeLinkedTo t parent name file = MayBeMade t.store parent name × IsName name × (IsDirectory t.store file → ⊥)
+MayBeLinkedTo t parent name file = MayBeMade t.store parent name × IsName name × IsOther t.store file
 
 -- the tree with this name added for a file that is there
 abbrev pub tree_linked : TreeState → (parent : ℕ) → (name : List ℕ) → (file : ℕ) → TreeState

@@ -27,7 +27,10 @@ pub mod Outcomes
 pub mod Steps
 -- trees that are put together, and what makes them trees
 pub mod Building
-
+pub mod Refusals
+pub mod Known
 pub mod Shape
 -- what follows from the definitions alone
 pub mod Laws
+-- the vocabulary of private contracts
+pub mod parts

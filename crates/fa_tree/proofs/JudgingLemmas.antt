@@ -1,0 +1,341 @@
+-- The file that an answer speaks of, and what its attributes are judged by, after a request.
+use Rattle.std.proofs.Common.{◌≡◌, ℕ, zero, suc, ◌+◌, ◌==◌, Bool, true, false, cond, List, [], ◌∷◌, ◌++◌, length, slice_get, slice_set, count_by, Option, None, Some, refl, sym, ap, subst, ◌∙◌, arith, eq-eqb, eqb-true}
+use Rattle.std.specs.Prelude.{◌↔◌, IsTrue, IfSome, IfNone, if◌then◌else◌}
+use Rattle.std.specs.Option.{option_map_or}
+use Rattle.std.specs.Ordering.{is_eq}
+use Rattle.std.specs.declared.cmp.Ordering.TheVariants.{Less, Equal, Greater}
+use Rattle.std.specs.FinMap.{get, insert, entries, find, put, get-insert, get-entries, entries-insert}
+use Rattle.std.specs.FinMap.Entries.{by_order}
+use Rattle.std.proofs.lemmas.List.Sums.{sum_by-cons}
+use Rattle.fa_bodies.specs.declared.attributes.Attributes.{Attributes}
+use Rattle.fa_bodies.specs.declared.attributes.AttrOut.{AttrOut}
+use Rattle.fa_bodies.specs.declared.entry.EntryOut.{EntryOut}
+use Rattle.fa_bodies.specs.declared.handles.OpenOut.{OpenOut}
+use Rattle.fa_bodies.specs.declared.mode.Kind.{Kind}
+use Rattle.fa_bodies.specs.declared.mode.Kind.TheVariants.{Regular}
+use Rattle.fa_bodies.specs.declared.setattr.SetattrIn.{SetattrIn}
+use Rattle.fa_bodies.specs.FlagBits.{fattr_size}
+use Rattle.fa_bodies.specs.Flags.{HasFlag, has_flag, fattr_bits}
+use Rattle.fa_bodies.specs.Modes.{type_number}
+use Rattle.fa_bodies.specs.Replies.PlainReply.{Entry, Created, Attributes as AttributesReply}
+use Rattle.fa_bodies.specs.Requests.{PlainBody}
+use Rattle.fa_bodies.specs.Requests.PlainBody.{Lookup, Getattr, Setattr, Symlink as SymlinkBody, Mknod, Mkdir, Link, Create}
+use Rattle.fa_tree.specs.State.{File, Store, Place, place_cmp, IsFree, links}
+use Rattle.fa_tree.specs.Attributes.{Fits}
+use Rattle.fa_tree.specs.Changes.{with_file, files_created}
+use Rattle.fa_tree.specs.Contents.{resized}
+use Rattle.fa_tree.specs.Edits.{names_after}
+use Rattle.fa_tree.specs.Edits.Edit.{Added}
+use Rattle.fa_tree.specs.Lookups.{bits_set, file_set}
+use Rattle.fa_tree.specs.Judging.{IsAnswerTo, AttributesFit}
+use Rattle.fa_tree.specs.Linking.{MayBeLinked}
+use Rattle.fa_tree.specs.Resolved.{Resolved, OfOther}
+use Rattle.fa_tree.specs.Shape.{IsTree}
+use Rattle.fa_tree.specs.declared.facts.Facts.{Facts}
+use Rattle.fa_tree.specs.parts.FactParts.{AreFactsOf, AreFit, AreFactsIfAny, AreNewFacts, AreFurtherFacts, AreSetFacts, AreCreatedFacts, IsFoundOrNext, SpokenFit, IsLookup, spoken_of}
+use Rattle.fa_tree.specs.parts.ShapeParts.{parent_in, parent_of}
+use Rattle.fa_tree.proofs.PlaceOrderLemmas.{place_cmp_total, place_self}
+use Rattle.fa_tree.proofs.WalkLemmas.{parent_is}
+
+-- ---- how many names a file has
+
+-- how many entries are of a file
+abbrev count_of : ℕ → List (Place × ℕ) → ℕ
+count_of number es = count_by (λ entry. entry.1 == number) es
+
+-- one entry more
+count_more : (number : ℕ) (e : Place × ℕ) (es : List (Place × ℕ)) → count_of number (e ∷ es) ≡ cond (e.1 == number) 1 0 + count_of number es
+count_more number e es = sum_by-cons (λ entry. cond (entry.1 == number) 1 0) e es
+
+-- a name that comes is one more
+count_put : (place : Place) (file number : ℕ) (es : List (Place × ℕ)) → find place_cmp place es ≡ None
+    → count_of number (put place_cmp place file es) ≡ cond (file == number) 1 0 + count_of number es
+count_put place file number [] none = count_more number (place, file) []
+count_put place file number (e ∷ es) none =
+    elim (place_cmp place e.0) as (λ r. cond (is_eq r) (Some e.1) (find place_cmp place es) ≡ None
+    → count_of number (by_order r ((place, file) ∷ e ∷ es) ((e.0, file) ∷ es) (e ∷ put place_cmp place file es)) ≡ cond (file == number) 1 0 + count_of number (e ∷ es)) [
+      | Less ↦ λ free. count_more number (place, file) (e ∷ es)
+      | Equal ↦ λ free. absurd cc
+      | Greater ↦ λ free. let rest = count_put place file number es free in
+          let now = count_more number e (put place_cmp place file es) in
+          let was = count_more number e es in
+          omega (arith, rest, now, was)
+    ] none
+
+-- the store with one more name
+abbrev named : Store → (directory : ℕ) → (name : List ℕ) → (file : ℕ) → List File → Store
+named s directory name file files = record { names = insert s.names (directory, name) file; files = files }
+
+-- and its names
+links_more : (s : Store) (directory : ℕ) (name : List ℕ) (file number : ℕ) (files : List File) → IsFree s directory name
+    → links (named s directory name file files) number ≡ cond (file == number) 1 0 + links s number
+links_more s directory name file number files free =
+    ap (count_of number) (entries-insert place_cmp_total s.names (directory, name) file)
+    ∙ count_put (directory, name) file number (entries s.names) (sym (get-entries s.names (directory, name)) ∙ free)
+
+-- one more of the file itself
+links_own : (s : Store) (directory : ℕ) (name : List ℕ) (file : ℕ) (files : List File) → IsFree s directory name
+    → links (named s directory name file files) file ≡ 1 + links s file
+links_own s directory name file files free =
+    links_more s directory name file file files free ∙ ap (λ b. cond b 1 0 + links s file) (eq-eqb file file refl)
+
+-- where no entry is the first for a file there is none
+none_counted : (es : List (Place × ℕ)) (file : ℕ) → parent_in es file ≡ None → count_of file es ≡ 0
+none_counted [] file none = refl
+none_counted (e ∷ es) file none = count_more file e es ∙
+    elim (e.1 == file) as (λ b. cond b (Some e.0.0) (parent_in es file) ≡ None → cond b 1 0 + count_of file es ≡ 0) [
+      | true ↦ λ is. absurd cc
+      | false ↦ λ is. let rest = none_counted es file is in omega (arith, rest)
+    ] none
+
+-- no name is for the next file
+pub next_unnamed : (s : Store) → IsTree s → links s (length s.files) ≡ 0
+next_unnamed s tree = none_counted (entries s.names) (length s.files) (none (parent_of s (length s.files)) refl)
+  where
+    none : (o : Option ℕ) → parent_of s (length s.files) ≡ o → o ≡ None
+    none None is = refl
+    none (Some parent) is =
+        let one = parent_is s (length s.files) parent is in
+        let within = tree.there parent one.0 (length s.files) one.1 in
+        absurd (omega (arith, within))
+
+-- ---- a file that is made, and a further name
+
+-- a name that comes is found
+pub found_after : (s : Store) (directory : ℕ) (name : List ℕ) (file : ℕ) → get (insert s.names (directory, name) file) (directory, name) ≡ Some file
+found_after s directory name file =
+    get-insert place_cmp_total s.names (directory, name) file (directory, name)
+    ∙ ap (λ b. cond b (Some file) (get s.names (directory, name))) (place_self (directory, name))
+
+-- the file behind the others
+last_there : (files : List File) (new : File) → slice_get (files ++ new ∷ []) (length files) ≡ Some new
+last_there [] new = refl
+last_there (file ∷ files) new = last_there files new
+
+-- the facts of a file that is made
+pub made_facts : (s : Store) (directory : ℕ) (name : List ℕ) (new : File) (facts : Facts) → IsFree s directory name
+    → AreNewFacts s new.kind new.bits (length new.bytes) facts
+    → AreFactsIfAny (named s directory name (length s.files) (s.files ++ new ∷ [])) (get (insert s.names (directory, name) (length s.files)) (directory, name)) (Some facts)
+made_facts s directory name new facts free are = (
+  length s.files,
+  found_after s directory name (length s.files),
+  record {
+    file = new;
+    there = last_there s.files new;
+    kind = are.kind_is;
+    bits = are.bits_are;
+    size = are.size_is;
+    names = links_own s directory name (length s.files) (s.files ++ new ∷ []) free ∙ ap (λ n. 1 + n) are.unnamed ∙ sym are.one_name;
+  },
+)
+
+-- facts of a new file, of the same type, bits and size
+pub same_new : (s : Store) (kind k : Kind) (bits b size : ℕ) (facts : Facts) → kind ≡ k → bits ≡ b → AreNewFacts s kind bits size facts → AreNewFacts s k b size facts
+same_new s kind k bits b size facts same also are = record {
+  kind_is = are.kind_is ∙ same;
+  bits_are = are.bits_are ∙ also;
+  size_is = are.size_is;
+  one_name = are.one_name;
+  unnamed = are.unnamed;
+}
+
+-- the facts of a file that gets a further name
+further_facts : (s : Store) (directory : ℕ) (name : List ℕ) (file : ℕ) (facts : Option Facts) → IsFree s directory name
+    → AreFurtherFacts s (Some file) facts
+    → AreFactsIfAny (named s directory name file s.files) (get (insert s.names (directory, name) file) (directory, name)) facts
+further_facts s directory name file None free none = λ other is.
+    none other (sym (found_after s directory name file) ∙ is)
+further_facts s directory name file (Some facts) free (of, before, found, plain, are, same) =
+    let own : file ≡ of = (let both : Some file ≡ Some of = found in cc) in
+    let all : AreFactsOf s file before = subst (λ n. AreFactsOf s n before) (sym own) are in
+    let links_now = links_own s directory name file s.files free in
+    let was : links s file ≡ before.links + 0 = all.names ∙ ap (λ b. before.links + (if b then 1 else 0)) plain in
+    let count : facts.links + (if facts.further then 1 else 0) ≡ before.links + 1 =
+    ap (λ (f : Facts). f.links + (if f.further then 1 else 0)) same in (
+      file,
+      found_after s directory name file,
+      record {
+        file = all.file;
+        there = all.there;
+        kind = ap (λ (f : Facts). f.kind) same ∙ all.kind;
+        bits = ap (λ (f : Facts). f.bits) same ∙ all.bits;
+        size = ap (λ (f : Facts). f.size) same ∙ all.size;
+        names = omega (arith, links_now, was, count);
+      },
+    )
+
+-- the same, for LINK
+pub linked_facts : (s : Store) (directory : ℕ) (name : List ℕ) (other : Option ℕ) (facts : Option Facts) → OfOther other (λ file. MayBeLinked s directory name file)
+    → AreFurtherFacts s other facts
+    → AreFactsIfAny (record { names = names_after (option_map_or (λ file. Added directory name file ∷ []) other []) s.names; files = s.files })
+    (get (names_after (option_map_or (λ file. Added directory name file ∷ []) other []) s.names) (directory, name)) facts
+linked_facts s directory name None facts may are = absurd may
+linked_facts s directory name (Some file) facts may are = further_facts s directory name file facts may.1 are
+
+-- and its file
+pub linked_file : (s : Store) (directory : ℕ) (name : List ℕ) (other : Option ℕ) → OfOther other (λ file. MayBeLinked s directory name file)
+    → other ≡ get (names_after (option_map_or (λ file. Added directory name file ∷ []) other []) s.names) (directory, name)
+linked_file s directory name None may = absurd may
+linked_file s directory name (Some file) may = sym (found_after s directory name file)
+
+-- ---- CREATE
+
+-- what CREATE leaves, by the file that has the name
+abbrev created : Store → (directory : ℕ) → (name : List ℕ) → (new : File) → Option ℕ → Store
+created s directory name new found = record {
+  names = names_after (option_map_or (λ file. []) found (Added directory name (length s.files) ∷ [])) s.names;
+  files = files_created s.files false new found;
+}
+
+-- the facts of the file that it finds or makes
+pub created_facts : (s : Store) (directory : ℕ) (name : List ℕ) (new : File) (bits : ℕ) (facts : Option Facts) (found : Option ℕ) → get s.names (directory, name) ≡ found
+    → new.kind ≡ Regular → new.bytes ≡ [] → bits ≡ new.bits → AreCreatedFacts s found bits facts
+    → AreFactsIfAny (created s directory name new found) (get (created s directory name new found).names (directory, name)) facts
+created_facts s directory name new bits None (Some file) is kind bytes same_bits none = λ other also.
+    let both : Some file ≡ Some other = sym is ∙ also in
+    let same : file ≡ other = cc in
+    subst (λ n. slice_get s.files n ≡ None) same none
+created_facts s directory name new bits (Some facts) (Some file) is kind bytes same_bits are = (file, is, are)
+created_facts s directory name new bits None None is kind bytes same_bits are = absurd are
+created_facts s directory name new bits (Some facts) None is kind bytes same_bits are =
+    made_facts s directory name new facts is (record {
+      kind_is = are.kind_is ∙ sym kind;
+      bits_are = are.bits_are ∙ same_bits;
+      size_is = are.size_is ∙ sym (ap length bytes);
+      one_name = are.one_name;
+      unnamed = are.unnamed;
+    })
+
+-- the file that it finds or makes
+pub created_file : (s : Store) (directory : ℕ) (name : List ℕ) (new : File) (file : ℕ) (found : Option ℕ) → get s.names (directory, name) ≡ found
+    → IsFoundOrNext s found file → Some file ≡ get (created s directory name new found).names (directory, name)
+created_file s directory name new file (Some other) is same = ap (λ n. Some n) same ∙ sym is
+created_file s directory name new file None is same = ap (λ n. Some n) same ∙ sym (found_after s directory name (length s.files))
+
+-- ---- SETATTR
+
+-- what is set is there
+set_there : (files : List File) (number : ℕ) (file new : File) → slice_get files number ≡ Some file → slice_get (slice_set files number new) number ≡ Some new
+set_there [] number file new is = absurd cc
+set_there (f ∷ files) zero file new is = refl
+set_there (f ∷ files) (suc number) file new is = set_there files number file new is
+
+-- a file that a change was made of is there
+with_there : (files : List File) (number : ℕ) (file : File) (change : File → File) → slice_get files number ≡ Some file
+    → slice_get (with_file files number change) number ≡ Some (change file)
+with_there files number file change is =
+    ap (λ o. slice_get (option_map_or (λ f. slice_set files number (change f)) o files) number) is ∙ set_there files number file (change file) is
+
+-- where there was none there is none
+with_none : (files : List File) (number : ℕ) (change : File → File) → slice_get files number ≡ None
+    → slice_get (with_file files number change) number ≡ None
+with_none files number change is =
+    ap (λ o. slice_get (option_map_or (λ f. slice_set files number (change f)) o files) number) is ∙ is
+
+-- a file of which no size is set stays as long
+as_long : (a : SetattrIn) (file : File) → (HasFlag (fattr_bits a.valid) fattr_size → ⊥) → length (file_set a file).bytes ≡ length file.bytes
+as_long a file none = by (has_flag (fattr_bits a.valid) fattr_size) refl
+  where
+    by : (b : Bool) → has_flag (fattr_bits a.valid) fattr_size ≡ b → length (if b then resized file.bytes a.size else file.bytes) ≡ length file.bytes
+    by true is = absurd (none (eqb-true _ _ is))
+    by false is = refl
+
+-- the facts of a file after SETATTR
+pub set_facts : (s : Store) (a : SetattrIn) (number : ℕ) (facts : Option Facts) → (HasFlag (fattr_bits a.valid) fattr_size → ⊥)
+    → AreSetFacts s a number facts
+    → AreFactsIfAny (record { names = s.names; files = with_file s.files number (file_set a) }) (Some number) facts
+set_facts s a number None none are = λ other is.
+    let same : number ≡ other = (let both : Some number ≡ Some other = is in cc) in
+    subst (λ n. slice_get (with_file s.files number (file_set a)) n ≡ None) same (with_none s.files number (file_set a) are)
+set_facts s a number (Some facts) none (before, are, plain, same) = (
+  number,
+  refl,
+  record {
+    file = file_set a are.file;
+    there = with_there s.files number are.file (file_set a) are.there;
+    kind = ap (λ (f : Facts). f.kind) same ∙ are.kind;
+    bits = ap (λ (f : Facts). f.bits) same ∙ (λ i. bits_set a (are.kind i) (are.bits i));
+    size = ap (λ (f : Facts). f.size) same ∙ are.size ∙ sym (as_long a are.file none);
+    names = are.names ∙ ap (λ b. before.links + (if b then 1 else 0)) plain ∙ sym (ap (λ (f : Facts). f.links + (if f.further then 1 else 0)) same);
+  },
+)
+
+-- ---- GETATTR
+
+-- the facts of a file that stays
+pub got_facts : (s : Store) (number : ℕ) (facts : Option Facts) → IfSome facts (λ f. AreFactsOf s number f) → IfNone facts (slice_get s.files number ≡ None)
+    → AreFactsIfAny s (Some number) facts
+got_facts s number None are none = λ other is.
+    let same : number ≡ other = (let both : Some number ≡ Some other = is in cc) in
+    subst (λ n. slice_get s.files n ≡ None) same none
+got_facts s number (Some facts) are none = (number, refl, are)
+
+-- ---- attributes against facts
+
+-- what fits the facts of a file fits it
+fit_to : (s : Store) (number : ℕ) (facts : Facts) (attr : Attributes) → AreFactsOf s number facts → AreFit facts attr → Fits s number attr
+fit_to s number facts attr are fit = record {
+  file = are.file;
+  there = are.there;
+  kind = fit.kind ∙ ap type_number are.kind;
+  bits = λ other. fit.bits (λ is. other (sym are.kind ∙ is)) ∙ are.bits;
+  size = λ regular. fit.size (are.kind ∙ regular) ∙ are.size;
+  nlink = λ other. fit.nlink (λ is. other (sym are.kind ∙ is)) ∙ sym are.names;
+}
+
+-- and what fits a file fits its facts
+fit_from : (s : Store) (number : ℕ) (facts : Facts) (attr : Attributes) → AreFactsOf s number facts → Fits s number attr → AreFit facts attr
+fit_from s number facts attr are fit =
+    let same : fit.file ≡ are.file = (let both : Some fit.file ≡ Some are.file = sym fit.there ∙ are.there in cc) in
+    let kind = are.kind ∙ sym (ap (λ (f : File). f.kind) same) in
+    record {
+      kind = fit.kind ∙ sym (ap type_number kind);
+      bits = λ other. fit.bits (λ is. other (kind ∙ is)) ∙ ap (λ (f : File). f.bits) same ∙ sym are.bits;
+      size = λ regular. fit.size (sym kind ∙ regular) ∙ ap (λ (f : File). length f.bytes) same ∙ sym are.size;
+      nlink = λ other. fit.nlink (λ is. other (kind ∙ is)) ∙ are.names;
+    }
+
+-- so attributes fit the file that is spoken of where they fit its facts
+pub spoken_fit : (s : Store) (found : Option ℕ) (facts : Facts) (attr : Attributes) (b : Bool) → AreFactsIfAny s found (Some facts)
+    → IsTrue b ↔ AreFit facts attr → IsTrue b ↔ SpokenFit s found attr
+spoken_fit s found facts attr b (number, is, are) told = (
+  λ t. (number, is, fit_to s number facts attr are (told.0 t)),
+  λ fit.
+      let same : number ≡ fit.0 = (let both : Some number ≡ Some fit.0 = sym is ∙ fit.1 in cc) in
+      told.1 (fit_from s number facts attr are (subst (λ n. Fits s n attr) (sym same) fit.2)),
+)
+
+-- ---- what an answer gives
+
+-- an entry gives attributes of the file that it speaks of, but where LOOKUP finds nothing
+pub entry_judged : (s : Store) (x : Resolved) (body : PlainBody) (entry : EntryOut) (b : Bool) → IsAnswerTo body (Entry entry)
+    → (IsLookup body × (entry.nodeid ≡ 0) → ⊥) → IsTrue b ↔ SpokenFit s (spoken_of s x body) entry.attr → IsTrue b ↔ AttributesFit s x body (Entry entry)
+entry_judged s x (Lookup name) entry b answers finds told = (λ t other. told.0 t, λ fits. told.1 (fits (λ zero. finds (tt, zero))))
+entry_judged s x (SymlinkBody name target) entry b answers finds told = told
+entry_judged s x (Mknod mode rdev umask name) entry b answers finds told = told
+entry_judged s x (Mkdir mode umask name) entry b answers finds told = told
+entry_judged s x (Link oldnodeid new_name) entry b answers finds told = told
+entry_judged s x other entry b answers finds told = absurd answers
+
+-- and so does the answer of CREATE
+pub created_judged : (s : Store) (x : Resolved) (body : PlainBody) (entry : EntryOut) (out : OpenOut) (b : Bool) → IsAnswerTo body (Created entry out)
+    → IsTrue b ↔ SpokenFit s (spoken_of s x body) entry.attr → IsTrue b ↔ AttributesFit s x body (Created entry out)
+created_judged s x (Create flags mode umask name) entry out b answers told = told
+created_judged s x other entry out b answers told = absurd answers
+
+-- what fits the file of the node is what is spoken of
+of_node : (s : Store) (number : ℕ) (attr : Attributes) (b : Bool) → IsTrue b ↔ SpokenFit s (Some number) attr → IsTrue b ↔ Fits s number attr
+of_node s number attr b told = (
+  λ t.
+      let fit = told.0 t in
+      let same : number ≡ fit.0 = (let both : Some number ≡ Some fit.0 = fit.1 in cc) in
+      subst (λ n. Fits s n attr) (sym same) fit.2,
+  λ fit. told.1 (number, refl, fit),
+)
+
+-- attributes alone are of the file of the node
+pub attributes_judged : (s : Store) (x : Resolved) (body : PlainBody) (a : AttrOut) (b : Bool) → IsAnswerTo body (AttributesReply a)
+    → IsTrue b ↔ SpokenFit s (spoken_of s x body) a.attr → IsTrue b ↔ AttributesFit s x body (AttributesReply a)
+attributes_judged s x (Getattr g) a b answers told = of_node s x.node a.attr b told
+attributes_judged s x (Setattr set) a b answers told = of_node s x.node a.attr b told
+attributes_judged s x other a b answers told = absurd answers

@@ -1,0 +1,21 @@
+use Rattle.std.proofs.Common.{Some, refl, sym, ap, ◌∙◌, is_some}
+use Rattle.fa_tree.specs.State as state
+use Rattle.fa_tree.specs.State.{place_cmp}
+use Rattle.fa_tree.specs.parts.SlotParts.{slot_at, gone_at}
+use Rattle.fa_tree.proofs.SlotLemmas.{after_write, changed_at, keys_same, unchanged_at}
+use Rattle.fa_tree.proofs.slots.Slots.remove.Goals as goal
+
+pub returns-in-Some : goal.returns-in-Some
+returns-in-Some c = λ q.
+    let place : state.Place = (c.args.directory, c.args.name.now) in
+    let old = c.args.self.now.table.entries in
+    let wrote = (c.get_mut.follows.holds c.remove.new.self).3 (ap is_some (sym c.in-Some.ensures.value)) in
+    after_write _ keys_same place _ (λ k. refl) old (c.get_mut.follows.lender c.remove.new.self).entries (Some c.remove.new.self) wrote.1 wrote.3 q
+    ∙ changed_at old place q (gone_at c.args.at) _ (c.remove.ensures ∙ ap (gone_at c.args.at) c.in-Some.ensures.value)
+
+pub returns-in-None : goal.returns-in-None
+returns-in-None c = λ q.
+    let place : state.Place = (c.args.directory, c.args.name.now) in
+    let old = c.args.self.now.table.entries in
+    ap (λ table. slot_at table.entries q) c.get_mut.follows.holds-at-none
+    ∙ unchanged_at old place q (gone_at c.args.at) (sym c.in-None.ensures.value ∙ ap (gone_at c.args.at) c.in-None.ensures.value)

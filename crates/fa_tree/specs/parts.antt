@@ -1,0 +1,22 @@
+-- The vocabulary of the crate's private contracts.
+
+-- the order of places, with its laws; and the table of slots
+pub mod PlaceLaws
+pub mod SlotParts
+-- the table of names: its value, and what its body shows of it
+pub mod NameParts
+pub mod NameViews
+-- files
+pub mod FileParts
+pub mod FactParts
+-- names of nodes
+pub mod NodeParts
+-- what a call names
+pub mod NamedParts
+-- ways up the tree
+pub mod ShapeParts
+-- what a tree stores, and trees, as values
+pub mod StoredParts
+pub mod StateCodes
+pub mod StoredView
+pub mod TreeView

@@ -1,0 +1,11 @@
+-- What the fields of what is stored show.
+use Rattle.fa_tree.specs.Shape.{IsTree}
+use Rattle.fa_tree.specs.declared.stored.Stored.TheInside.{Inside}
+use Rattle.fa_tree.specs.parts.StoredParts.{StoredShown}
+
+abbrev pub stored_shown : Inside → StoredShown
+stored_shown t = record { store = record { names = t.names.names; files = t.files }; handles = t.names.handles }
+
+-- what they hold is a tree
+abbrev pub HoldsTree : Inside → Type 0
+HoldsTree t = IsTree (stored_shown t).store

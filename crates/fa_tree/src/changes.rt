@@ -1,0 +1,135 @@
+//! What requests make of what a tree stores.
+
+ghost use Rattle.std.specs.Prelude.{◌≡◌, ◌≢◌, ◌∷◌, [], ℕ, Option, Some, OnOk, OnErr};
+ghost use Rattle.std.specs.FinMap.{get};
+ghost use Rattle.fa_bodies.specs.FlagBits.{fattr_size};
+ghost use Rattle.fa_bodies.specs.Flags.{HasFlag, fattr_bits};
+ghost use Rattle.fa_bodies.specs.Requests.{body_shown};
+ghost use Rattle.fa_tree.specs.State.{OpenDirectory};
+ghost use Rattle.fa_tree.specs.Edits.Edit.{Removed};
+ghost use Rattle.fa_tree.specs.Lookups.{file_set};
+ghost use Rattle.fa_tree.specs.Renaming.{MayBeRenamed, rename_edits};
+ghost use Rattle.fa_tree.specs.Changes.{with_file};
+ghost use Rattle.fa_tree.specs.Conditions.{MayBeDone};
+ghost use Rattle.fa_tree.specs.Known.{IsKnownBody};
+ghost use Rattle.fa_tree.specs.parts.NamedParts.{named_shown};
+ghost use Rattle.fa_tree.specs.parts.StoredParts.{stored_changed, stored_edited, stored_with, stored_opened};
+
+use crate::file::permission_bits;
+use crate::id::FileId;
+use crate::making::{new_directory, new_node, new_regular, new_symlink};
+use crate::named::Named;
+use crate::stored::Stored;
+use bitflags::Flags;
+use fa_bodies::{FattrFlags, RequestBody, SetattrIn};
+use std::alloc::AllocError;
+
+impl Stored {
+    /// Sets attributes of a file, but for its size.
+    fn set_attributes(&mut self, file: FileId, setattr: &SetattrIn)
+        requires { HasFlag (fattr_bits setattr.now.valid) fattr_size → ⊥ }
+        ensures { self.new ≡ stored_with (with_file self.old.store.files file (file_set setattr.now)) self.old }
+    {
+        if setattr.valid.contains(FattrFlags::MODE) && !self.is_symlink(file) {
+            self.files.set_bits(file, permission_bits(setattr.mode));
+        }
+    }
+
+    /// Takes a name away, if it is there.
+    fn remove(&mut self, directory: FileId, name: &[u8])
+        ensures { self.new ≡ stored_edited (Removed directory name.now ∷ []) self.old }
+    {
+        self.names.remove(directory, name);
+    }
+
+    /// Moves a name, as RENAME does.
+    fn rename(
+        &mut self,
+        old_directory: FileId,
+        old_name: &[u8],
+        new_directory: FileId,
+        new_name: &[u8],
+    ) -> Result<(), AllocError>
+        requires { MayBeRenamed self.old.store old_directory old_name.now new_directory new_name.now }
+        ensures renamed { OnOk result (self.new ≡ stored_edited (rename_edits self.old.store old_directory old_name.now new_directory new_name.now) self.old) }
+        ensures unchanged { OnErr result (self.new ≡ self.old) }
+    {
+        let taken = self.names.get(new_directory, new_name);
+        match self.names.get(old_directory, old_name) {
+            None => Ok(()),
+            Some(file) if taken == Some(file) => Ok(()),
+            Some(file) => {
+                self.names
+                    .rename(old_directory, old_name, new_directory, new_name, file)
+            }
+        }
+    }
+
+    /// Notes that the request of this number opens a directory.
+    pub(crate) fn open(&mut self, asked: u32, directory: FileId) -> Result<(), AllocError>
+        ensures opened { OnOk result (self.new ≡ stored_opened asked directory self.old) }
+        ensures unchanged { OnErr result (self.new ≡ self.old) }
+    {
+        self.names.open(asked, directory)
+    }
+
+    /// Makes the change of a request that may be done.
+    pub(crate) fn change(&mut self, named: &Named, body: &RequestBody<'_>) -> Result<(), AllocError>
+        requires known { IsKnownBody (body_shown body.now) }
+        requires done { (handle : Option OpenDirectory) → MayBeDone self.old.store (named_shown named.now handle) (body_shown body.now) }
+        ensures changed { OnOk result ((handle : Option OpenDirectory) (count : ℕ) → self.new ≡ stored_changed (named_shown named.now handle) (body_shown body.now) count self.old) }
+        ensures unchanged { OnErr result (self.new ≡ self.old) }
+    {
+        let alloc = self.alloc;
+        let node = named.node;
+        match body {
+            RequestBody::Setattr(setattr) => self.set_attributes(node, setattr),
+            RequestBody::Symlink { name, target } => {
+                let file = new_symlink(alloc, target)?;
+                self.make(node, name, file)?;
+            }
+            RequestBody::Mknod {
+                mode,
+                umask,
+                name,
+                ..
+            } => {
+                let file = new_node(alloc, *mode, *umask);
+                self.make(node, name, file)?;
+            }
+            RequestBody::Mkdir { mode, umask, name } => {
+                let file = new_directory(alloc, *mode, *umask);
+                self.make(node, name, file)?;
+            }
+            RequestBody::Create {
+                mode,
+                umask,
+                name,
+                ..
+            } => {
+                if self.find(node, name).is_none() {
+                    let file = new_regular(alloc, *mode, *umask);
+                    self.make(node, name, file)?;
+                }
+            }
+            RequestBody::Unlink { name } => self.remove(node, name),
+            RequestBody::Rmdir { name } => self.remove(node, name),
+            RequestBody::Rename {
+                old_name,
+                new_name,
+                ..
+            } => {
+                if let Some(directory) = named.other {
+                    self.rename(node, old_name, directory, new_name)?;
+                }
+            }
+            RequestBody::Link { new_name, .. } => {
+                if let Some(file) = named.other {
+                    self.link(node, new_name, file)?;
+                }
+            }
+            _ => {}
+        }
+        Ok(())
+    }
+}

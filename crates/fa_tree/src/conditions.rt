@@ -1,0 +1,174 @@
+//! What a success of a request asks of a tree.
+
+ghost use Rattle.std.specs.Prelude.{◌↔◌, ◌≢◌, ◌≡◌, ℕ, Option, IsTrue};
+ghost use Rattle.fa_bodies.specs.Requests.{body_shown};
+ghost use Rattle.fa_tree.specs.State.{HasName, IsDirectory, IsBelow, OpenDirectory};
+ghost use Rattle.fa_tree.specs.Conditions.{MayBeDone};
+ghost use Rattle.fa_tree.specs.parts.NamedParts.{named_shown};
+ghost use Rattle.fa_tree.specs.Lookups.{MayBeSet};
+ghost use Rattle.fa_tree.specs.Making.{MayBeMade, MayBeCreated};
+ghost use Rattle.fa_tree.specs.Removing.{MayBeUnlinked, MayBeRemoved};
+ghost use Rattle.fa_tree.specs.Renaming.{MayReplace, MayBeRenamed};
+ghost use Rattle.fa_tree.specs.Linking.{MayBeLinked};
+
+use crate::id::FileId;
+use crate::named::Named;
+use crate::stored::Stored;
+use bitflags::Flags;
+use fa_bodies::{FattrFlags, OpenFlags, RequestBody, SetattrIn};
+
+impl Stored {
+    /// Whether SETATTR may succeed on a file.
+    pub(crate) fn may_be_set(&self, file: FileId, setattr: &SetattrIn) -> bool
+        ensures { IsTrue result ↔ MayBeSet self.now.store file setattr.now }
+    {
+        !setattr.valid.contains(FattrFlags::SIZE) || self.is_regular(file)
+    }
+
+    /// Whether a file may be made in a directory under a name.
+    pub(crate) fn may_be_made(&self, directory: FileId, name: &[u8]) -> bool
+        ensures { IsTrue result ↔ MayBeMade self.now.store directory name.now }
+    {
+        self.is_linked_directory(directory) && self.find(directory, name).is_none()
+    }
+
+    /// Whether CREATE may succeed.
+    pub(crate) fn may_be_created(&self, directory: FileId, name: &[u8], flags: OpenFlags) -> bool
+        ensures { IsTrue result ↔ MayBeCreated self.now.store directory name.now flags }
+    {
+        self.is_linked_directory(directory)
+            && match self.find(directory, name) {
+                None => true,
+                Some(file) => self.is_regular(file) && !flags.contains(OpenFlags::EXCL),
+            }
+    }
+
+    /// Whether UNLINK may succeed.
+    pub(crate) fn may_be_unlinked(&self, directory: FileId, name: &[u8]) -> bool
+        ensures { IsTrue result ↔ MayBeUnlinked self.now.store directory name.now }
+    {
+        self.is_directory(directory)
+            && match self.find(directory, name) {
+                None => false,
+                Some(file) => !self.is_directory(file),
+            }
+    }
+
+    /// Whether RMDIR may succeed.
+    pub(crate) fn may_be_removed(&self, directory: FileId, name: &[u8]) -> bool
+        ensures { IsTrue result ↔ MayBeRemoved self.now.store directory name.now }
+    {
+        self.is_directory(directory)
+            && match self.find(directory, name) {
+                None => false,
+                Some(file) => self.is_empty_directory(file),
+            }
+    }
+
+    /// Whether a file may take the name of another.
+    fn may_replace(&self, file: FileId, other: FileId) -> bool
+        ensures { IsTrue result ↔ MayReplace self.now.store file other }
+    {
+        other == file
+            || match self.is_directory(file) {
+                true => self.is_empty_directory(other),
+                false => !self.is_directory(other),
+            }
+    }
+
+    /// Whether a file may get this name, by what has the name now.
+    fn may_take(&self, file: FileId, directory: FileId, name: &[u8]) -> bool
+        ensures { IsTrue result ↔ ((other : ℕ) → HasName self.now.store directory name.now other → MayReplace self.now.store file other) }
+    {
+        match self.find(directory, name) {
+            None => true,
+            Some(other) => self.may_replace(file, other),
+        }
+    }
+
+    /// Whether LINK may succeed.
+    pub(crate) fn may_be_linked(&self, directory: FileId, name: &[u8], file: FileId) -> bool
+        ensures { IsTrue result ↔ MayBeLinked self.now.store directory name.now file }
+    {
+        self.is_linked_directory(directory)
+            && self.find(directory, name).is_none()
+            && self.is_linked(file)
+            && !self.is_directory(file)
+    }
+
+    /// Whether a file may move to a directory under a name, as for loops: a directory not to itself nor below itself.
+    fn may_move(&self, file: FileId, directory: FileId, name: &[u8]) -> bool
+        requires { IsDirectory self.now.store directory }
+        ensures { IsTrue result ↔ (IsDirectory self.now.store file → (HasName self.now.store directory name.now file → ⊥) → (directory ≢ file) × (IsBelow self.now.store file directory → ⊥)) }
+    {
+        !self.is_directory(file)
+            || self.find(directory, name) == Some(file)
+            || (directory != file && !self.is_below(file, directory))
+    }
+
+    /// Whether RENAME may succeed.
+    pub(crate) fn may_be_renamed(
+        &self,
+        old_directory: FileId,
+        old_name: &[u8],
+        new_directory: FileId,
+        new_name: &[u8],
+    ) -> bool
+        ensures { IsTrue result ↔ MayBeRenamed self.now.store old_directory old_name.now new_directory new_name.now }
+    {
+        if !self.is_directory(old_directory) || !self.is_linked_directory(new_directory) {
+            return false;
+        }
+        match self.find(old_directory, old_name) {
+            None => false,
+            Some(file) => {
+                self.may_take(file, new_directory, new_name)
+                    && self.may_move(file, new_directory, new_name)
+            }
+        }
+    }
+
+    /// Whether a success of the request is allowed on the files that it names.
+    pub(crate) fn may_be_done(&self, named: &Named, body: &RequestBody<'_>) -> bool
+        ensures { (handle : Option OpenDirectory) → IsTrue result ↔ MayBeDone self.now.store (named_shown named.now handle) (body_shown body.now) }
+    {
+        let node = named.node;
+        match body {
+            RequestBody::Getattr(_) => true,
+            RequestBody::Setattr(setattr) => self.may_be_set(node, setattr),
+            RequestBody::Readlink => self.is_symlink(node),
+            RequestBody::Symlink { name, .. }
+            | RequestBody::Mknod { name, .. }
+            | RequestBody::Mkdir { name, .. } => self.may_be_made(node, name),
+            RequestBody::Unlink { name } => self.may_be_unlinked(node, name),
+            RequestBody::Rmdir { name } => self.may_be_removed(node, name),
+            RequestBody::Rename {
+                old_name,
+                new_name,
+                ..
+            } => match named.other {
+                Some(directory) => self.may_be_renamed(node, old_name, directory, new_name),
+                None => false,
+            },
+            RequestBody::Link { new_name, .. } => match named.other {
+                Some(file) => self.may_be_linked(node, new_name, file),
+                None => false,
+            },
+            RequestBody::Open(_) | RequestBody::Read(_) | RequestBody::Write { .. } => {
+                self.is_regular(node)
+            }
+            RequestBody::Lookup { .. }
+            | RequestBody::Opendir(_)
+            | RequestBody::Readdir(_)
+            | RequestBody::Readdirplus(_) => self.is_directory(node),
+            RequestBody::Create { flags, name, .. } => self.may_be_created(node, name, *flags),
+            RequestBody::Forget { .. }
+            | RequestBody::Release(_)
+            | RequestBody::Flush(_)
+            | RequestBody::Init(_)
+            | RequestBody::Releasedir(_)
+            | RequestBody::BatchForget { .. }
+            | RequestBody::Passed => false,
+        }
+    }
+}

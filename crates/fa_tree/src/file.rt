@@ -1,0 +1,48 @@
+//! Files.
+
+ghost use Rattle.std.specs.Prelude.{◌≡◌};
+ghost use Rattle.fa_bodies.specs.Modes.{mode_bits};
+ghost use Rattle.fa_tree.specs.Attributes.{permission_bits};
+ghost use Rattle.fa_tree.specs.Building.{file_of_kind};
+ghost use Rattle.fa_tree.specs.parts.FileParts.{file_shown};
+
+use crate::contents::Contents;
+use fa_bodies::{Kind, Mode};
+
+/// A file, whatever names it has.
+#[derive(Drop)]
+pub(crate) struct File {
+    /// What it is.
+    pub kind: Kind,
+    /// Its permission bits.
+    pub bits: u32,
+    /// Its bytes, or the target of a symbolic link.
+    pub contents: Contents,
+}
+
+/// The permission bits of a mode, 0777.
+pub(crate) fn permission_bits(mode: Mode) -> u32
+    ensures { result ≡ permission_bits (mode_bits mode) }
+{
+    mode.bits() & 0o777
+}
+
+impl File {
+    /// A file of this type, with these permission bits, but all where it is a symbolic link.
+    pub fn new(kind: Kind, bits: u32, contents: Contents) -> Self
+        ensures { file_shown result ≡ file_of_kind kind bits contents }
+    {
+        match kind {
+            Kind::Symlink => File {
+                kind,
+                bits: 0o777,
+                contents,
+            },
+            _ => File {
+                kind,
+                bits,
+                contents,
+            },
+        }
+    }
+}

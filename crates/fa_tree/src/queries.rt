@@ -1,0 +1,113 @@
+//! What there is in a tree.
+
+ghost use Rattle.std.specs.Prelude.{◌≡◌, ◌↔◌, ℕ, List, option_map, slice_get, IsTrue, IfSome, IfNone};
+ghost use Rattle.fa_tree.specs.Building.{IsOther};
+ghost use Rattle.fa_tree.specs.State.{IsFree, IsParent, IsDirectory, IsRegular, IsSymlink, IsLinked, IsLinkedDirectory, IsEmptyDirectory, IsBelow, links};
+
+use crate::id::FileId;
+use crate::stored::Stored;
+use fa_bodies::Kind;
+
+impl Stored {
+    /// The type of a file.
+    pub(crate) fn kind(&self, file: FileId) -> Option<Kind>
+        ensures { result ≡ option_map (λ f. f.kind) (slice_get self.now.store.files file) }
+    {
+        match self.files.get(file) {
+            Some(file) => Some(file.kind),
+            None => None,
+        }
+    }
+
+    /// Whether a file is a directory.
+    pub(crate) fn is_directory(&self, file: FileId) -> bool
+        ensures { IsTrue result ↔ IsDirectory self.now.store file }
+    {
+        self.kind(file) == Some(Kind::Directory)
+    }
+
+    /// Whether there is a file of this number that is no directory.
+    pub(crate) fn is_other(&self, file: FileId) -> bool
+        ensures { IsTrue result ↔ IsOther self.now.store file }
+    {
+        match self.kind(file) {
+            Some(kind) => kind != Kind::Directory,
+            None => false,
+        }
+    }
+
+    /// Whether it is a regular file.
+    pub(crate) fn is_regular(&self, file: FileId) -> bool
+        ensures { IsTrue result ↔ IsRegular self.now.store file }
+    {
+        self.kind(file) == Some(Kind::Regular)
+    }
+
+    /// Whether it is a symbolic link.
+    pub(crate) fn is_symlink(&self, file: FileId) -> bool
+        ensures { IsTrue result ↔ IsSymlink self.now.store file }
+    {
+        self.kind(file) == Some(Kind::Symlink)
+    }
+
+    /// A directory that has a name for the file, if one has.
+    pub(crate) fn parent(&self, file: FileId) -> Option<FileId>
+        ensures there { IfSome result (λ directory. IsParent self.now.store directory file) }
+        ensures none { IfNone result ((directory : ℕ) → IsParent self.now.store directory file → ⊥) }
+    {
+        self.names.parent(file)
+    }
+
+    /// Whether no name is in a directory.
+    fn has_no_names(&self, directory: FileId) -> bool
+        ensures { IsTrue result ↔ ((name : List ℕ) → IsFree self.now.store directory name) }
+    {
+        self.names.is_empty(directory)
+    }
+
+    /// Whether it is the root or has a name.
+    pub(crate) fn is_linked(&self, file: FileId) -> bool
+        ensures { IsTrue result ↔ IsLinked self.now.store file }
+    {
+        file == self.root() || self.parent(file).is_some()
+    }
+
+    /// Whether it is a directory that is linked.
+    pub(crate) fn is_linked_directory(&self, file: FileId) -> bool
+        ensures { IsTrue result ↔ IsLinkedDirectory self.now.store file }
+    {
+        self.is_directory(file) && self.is_linked(file)
+    }
+
+    /// Whether it is a directory in which no name is.
+    pub(crate) fn is_empty_directory(&self, file: FileId) -> bool
+        ensures { IsTrue result ↔ IsEmptyDirectory self.now.store file }
+    {
+        self.is_directory(file) && self.has_no_names(file)
+    }
+
+    /// How many names a file has.
+    pub(crate) fn links(&self, file: FileId) -> usize
+        ensures { result ≡ links self.now.store file }
+    {
+        self.names.links(file)
+    }
+
+    /// Whether the directory `below` is below the file `above`.
+    ///
+    /// As many look-ups of a parent as there are directories on the way up.
+    pub(crate) fn is_below(&self, above: FileId, below: FileId) -> bool
+        requires directory { IsDirectory self.now.store below }
+        ensures { IsTrue result ↔ IsBelow self.now.store above below }
+    {
+        let mut at = below;
+        for _ in 0..self.files.len() {
+            match self.parent(at) {
+                Some(parent) if parent == above => return true,
+                Some(parent) => at = parent,
+                None => return false,
+            }
+        }
+        false
+    }
+}

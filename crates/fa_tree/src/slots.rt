@@ -1,0 +1,167 @@
+//! The table of places: for each place that a name was put at, the slot that says what is there.
+
+ghost use Rattle.std.specs.Prelude.{◌≡◌, [], ℕ, List, count_by, is_some, ◌↔◌, ◌==◌, IsTrue, IfSome, IfNone, Some, None, OnOk, OnErr};
+ghost use Rattle.std.specs.FinMap as map;
+ghost use Rattle.fa_tree.specs.parts.SlotParts.{slot_at, gone_at, file_in, is_of, names_shown, IsChangedAt};
+
+use crate::id::FileId;
+use indexmap::{Equivalent, IndexMap};
+use std::alloc::{AllocError, Global};
+
+/// A place: a directory, and a name in it.
+#[derive(Drop, PartialEq, Eq, Hash)]
+pub(crate) struct Place {
+    pub directory: FileId,
+    pub name: Vec<u8>,
+}
+
+/// A place whose name is borrowed, to look a [`Place`] up without memory.
+#[derive(Clone, Copy, PartialEq, Eq, Hash)]
+pub(crate) struct PlaceAt<'a> {
+    pub directory: FileId,
+    pub name: &'a [u8],
+}
+
+/// What is at a place. Its stamps count openings of directories, of the whole tree.
+#[derive(Clone, Copy)]
+pub(crate) enum Slot {
+    /// The place has a name, for this file, since so many directories had been opened.
+    There { file: FileId, born: usize },
+    /// The place had a name until so many directories had been opened.
+    Gone { at: usize },
+}
+
+/// The slots, by their places.
+#[derive(Drop)]
+pub(crate) struct Slots {
+    alloc: Global,
+    pub table: IndexMap<Place, Slot>,
+}
+
+impl Equivalent<Place> for &PlaceAt<'_> {
+    ghost use Rattle.std.proofs.Common.{ap, ◌++◌};
+    ghost use Rattle.std.specs.Hash as fed;
+    ghost use Rattle.fa_tree.specs.parts.SlotParts.{is_at, place_of};
+    ghost use Rattle.fa_tree.specs.parts.PlaceLaws.{same_place, alike_test};
+
+    ghost equivalent = { λ q. is_at (q.now.directory, q.now.name.now) };
+
+    ghost respects_hash = { λ q k is. ap (λ place. fed.usize place.0 ++ fed.slice fed.u8 place.1) (same_place (q.now.directory, q.now.name.now) (place_of k) is) };
+
+    ghost respects_eq = { λ q x y. alike_test (q.now.directory, q.now.name.now) (place_of x) (place_of y) };
+
+    fn equivalent(&self, key: &Place) -> bool {
+        self.directory == key.directory && *self.name == *key.name.as_slice()
+    }
+}
+
+impl Slots {
+    /// No place has a slot. The table takes memory from `alloc` later.
+    pub fn new(alloc: Global) -> Self
+        ensures { result.table.entries ≡ [] }
+    {
+        Slots {
+            alloc,
+            table: IndexMap::new(alloc),
+        }
+    }
+
+    /// The slot of a place, if it has one. Takes no memory, in expected constant time.
+    pub fn get(&self, directory: FileId, name: &[u8]) -> Option<Slot>
+        ensures { result ≡ slot_at self.now.table.entries (directory, name.now) }
+    {
+        self.table.get(&PlaceAt { directory, name }).copied()
+    }
+
+    /// Whether a directory has no name. Goes through all slots.
+    pub fn is_empty(&self, directory: FileId) -> bool
+        ensures { IsTrue result ↔ ((name : List ℕ) → map.get (names_shown self.now.table.entries) (directory, name) ≡ None) }
+    {
+        !self.table.iter().any(|(place, slot)| place.directory == directory && slot.is_there())
+    }
+
+    /// A directory that has a name for a file, if there is one. Goes through all slots.
+    pub fn parent(&self, file: FileId) -> Option<FileId>
+        ensures there { IfSome result (λ directory. (name : List ℕ) × (map.get (names_shown self.now.table.entries) (directory, name) ≡ Some file)) }
+        ensures none { IfNone result ((directory : ℕ) (name : List ℕ) → map.get (names_shown self.now.table.entries) (directory, name) ≡ Some file → ⊥) }
+    {
+        let (place, _) = self.table.iter().find(|(_, slot)| slot.is_for(file))?;
+        Some(place.directory)
+    }
+
+    /// How many names a file has. Goes through all slots.
+    pub fn links(&self, file: FileId) -> usize
+        ensures { result ≡ count_by (λ entry. entry.1 == file) (map.entries (names_shown self.now.table.entries)) }
+    {
+        self.table
+            .iter()
+            .filter(|(_, slot)| slot.is_for(file))
+            .count()
+    }
+
+    /// Puts a slot at a place. An error says that memory was refused for a place that had none, and nothing is changed.
+    ///
+    /// The name is copied where the place had no slot. Expected constant time, but for what growing costs.
+    pub fn insert(&mut self, directory: FileId, name: &[u8], slot: Slot) -> Result<(), AllocError>
+        ensures put { OnOk result (IsChangedAt (directory, name.now) (λ _. Some slot) self.old.table.entries self.new.table.entries) }
+        ensures unchanged { OnErr result (self.new.table.entries ≡ self.old.table.entries) }
+    {
+        match self.table.get_mut(&PlaceAt { directory, name }) {
+            Some(old) => {
+                *old = slot;
+                Ok(())
+            }
+            None => {
+                let name = name.to_vec(self.alloc)?;
+                self.table.insert(Place { directory, name }, slot)?;
+                Ok(())
+            }
+        }
+    }
+
+    /// Takes the name of a place away, if it has one. Takes no memory, in expected constant time.
+    pub fn remove(&mut self, directory: FileId, name: &[u8], at: usize)
+        ensures { IsChangedAt (directory, name.now) (gone_at at) self.old.table.entries self.new.table.entries }
+    {
+        match self.table.get_mut(&PlaceAt { directory, name }) {
+            Some(slot) => slot.remove(at),
+            None => {}
+        }
+    }
+}
+
+impl Slot {
+    /// The file of the name, if there is one.
+    pub fn file(self) -> Option<FileId>
+        ensures { result ≡ file_in self }
+    {
+        match self {
+            Slot::There { file, .. } => Some(file),
+            Slot::Gone { .. } => None,
+        }
+    }
+
+    /// Whether there is a name.
+    fn is_there(self) -> bool
+        ensures { result ≡ is_some (file_in self) }
+    {
+        self.file().is_some()
+    }
+
+    /// Whether there is a name for this file.
+    fn is_for(self, file: FileId) -> bool
+        ensures { result ≡ is_of file self }
+    {
+        self.file() == Some(file)
+    }
+
+    /// The name goes, if there is one.
+    fn remove(&mut self, at: usize)
+        ensures { Some self.new ≡ gone_at at (Some self.old) }
+    {
+        match self {
+            Slot::There { .. } => *self = Slot::Gone { at },
+            Slot::Gone { .. } => {}
+        }
+    }
+}

@@ -1,0 +1,99 @@
+//! What a tree stores: files, the names of directories, and the directories that are open.
+
+ghost use Rattle.std.specs.Prelude.{◌≡◌, ◌<◌, length, IfOk, OnOk, OnErr};
+ghost use Rattle.std.specs.FinMap as map;
+ghost use Rattle.fa_tree.specs.State as state;
+ghost use Rattle.fa_tree.specs.State.{IsDirectory};
+ghost use Rattle.fa_tree.specs.Making.{MayBeMade};
+ghost use Rattle.fa_tree.specs.Building.{empty_tree, tree_added, tree_linked};
+ghost use Rattle.fa_tree.specs.parts.FileParts.{file_shown};
+ghost use Rattle.fa_tree.specs.parts.StoredParts.{as_tree, stored_of};
+
+use crate::file::File;
+use crate::files::Files;
+use crate::id::FileId;
+use crate::names::Names;
+use std::alloc::{AllocError, Global};
+use std::marker::Model;
+
+/// The files of a tree, the names of its directories, and the directories that are open.
+#[derive(Drop)]
+pub(crate) struct Stored {
+    pub alloc: Global,
+    pub files: Files,
+    pub names: Names,
+}
+
+impl Model for Stored {
+    ghost use Rattle.fa_tree.specs.parts.StoredParts.{StoredShown};
+    ghost use Rattle.fa_tree.specs.parts.StateCodes.{stored_code};
+
+    ghost Value = { StoredShown };
+
+    ghost coded = { stored_code };
+
+    ghost use Rattle.fa_tree.specs.parts.StoredView.{stored_shown, HoldsTree};
+
+    ghost view = { stored_shown };
+
+    ghost invariant = { HoldsTree };
+}
+
+impl Stored {
+    /// A root with these permission bits, and nothing in it.
+    pub fn new(alloc: Global, bits: u32) -> Result<Self, AllocError>
+        ensures { IfOk result (λ stored. stored ≡ stored_of (empty_tree bits)) }
+    {
+        let files = Files::new(alloc, bits)?;
+        Ok(Stored {
+            alloc,
+            files,
+            names: Names::new(alloc),
+        })
+    }
+
+    /// The root.
+    pub fn root(&self) -> FileId
+        ensures { result ≡ state.root }
+    {
+        FileId::new(0)
+    }
+
+    /// The file of a name in a directory, if the name is there.
+    ///
+    /// Takes no memory, in expected constant time but for reading the name.
+    pub fn find(&self, directory: FileId, name: &[u8]) -> Option<FileId>
+        ensures { result ≡ map.get self.now.store.names (directory, name.now) }
+    {
+        self.names.get(directory, name)
+    }
+
+    /// Adds a name to a directory, for a file that is there and no directory.
+    pub fn link(&mut self, directory: FileId, name: &[u8], file: FileId) -> Result<(), AllocError>
+        requires free { MayBeMade self.old.store directory name.now }
+        requires there { file < length self.old.store.files }
+        requires other { IsDirectory self.old.store file → ⊥ }
+        ensures linked { OnOk result (self.new ≡ stored_of (tree_linked (as_tree self.old) directory name.now file)) }
+        ensures unchanged { OnErr result (self.new ≡ self.old) }
+    {
+        self.names.put(directory, name, file)
+    }
+
+    /// Makes a file in a directory under a name, and answers its number.
+    pub fn make(&mut self, directory: FileId, name: &[u8], file: File) -> Result<FileId, AllocError>
+        requires { MayBeMade self.old.store directory name.now }
+        ensures number { IfOk result (λ number. number ≡ length self.old.store.files) }
+        ensures made { OnOk result (self.new ≡ stored_of (tree_added (as_tree self.old) directory name.now (file_shown file))) }
+        ensures unchanged { OnErr result (self.new ≡ self.old) }
+    {
+        let number = self.files.next();
+        self.files.push(file)?;
+        match self.names.put(directory, name, number) {
+            Ok(()) => Ok(number),
+            Err(error) => {
+                self.files.pop();
+                Err(error)
+            }
+        }
+    }
+}

@@ -1,0 +1,157 @@
+//! The tree.
+
+ghost use Rattle.std.specs.Prelude.{◌≡◌, ◌↔◌, ◌≤◌, length, IsTrue, IfOk, IfErr, OnOk, OnErr};
+ghost use Rattle.std.specs.FinMap as map;
+ghost use Rattle.fa_capture.specs.declared.codes.TheConstants.{SUCCESS_NOT_ALLOWED};
+ghost use Rattle.fa_tree.specs.State as state;
+ghost use Rattle.fa_tree.specs.Building.{empty_tree, file_of_kind, MayHold, MayBeAdded, tree_added, MayBeLinkedTo, tree_linked};
+ghost use Rattle.fa_tree.specs.Refusals.{IsRefusal};
+
+use crate::contents::Contents;
+use crate::error::StepError;
+use crate::file::File;
+use crate::id::FileId;
+use crate::nodes::Nodes;
+use crate::stored::Stored;
+use fa_bodies::{Kind, MAX_FILE_BYTES, is_name, is_target};
+use fa_capture::codes;
+use std::alloc::{AllocError, Global};
+use std::marker::Model;
+
+/// A tree of files: which file each name of a directory is, what each file is, for which file each node of a capture stands,
+/// and which directories are open.
+#[derive(Drop)]
+pub struct Tree {
+    stored: Stored,
+    nodes: Nodes,
+}
+
+impl Model for Tree {
+    ghost use Rattle.fa_tree.specs.State.{TreeState};
+    ghost use Rattle.fa_tree.specs.parts.StateCodes.{tree_code};
+
+    ghost Value = { TreeState };
+
+    ghost coded = { tree_code };
+
+    ghost use Rattle.fa_tree.specs.parts.TreeView.{tree_shown};
+
+    ghost view = { tree_shown };
+}
+
+impl Tree {
+    /// A tree that is a root with these permission bits (`S_IRWXU | S_IRWXG | S_IRWXO` of POSIX at most, 0777) and nothing
+    /// in it. What is stored later takes memory from `alloc`.
+    ///
+    /// Constant time and memory.
+    pub fn empty(alloc: Global, bits: u16) -> Result<Tree, AllocError>
+        requires { bits ≤ 511 }
+        ensures { IfOk result (λ tree. tree ≡ empty_tree bits) }
+    {
+        let stored = Stored::new(alloc, u32::from(bits))?;
+        Ok(Tree {
+            stored,
+            nodes: Nodes::new(alloc),
+        })
+    }
+
+    /// The root.
+    pub fn root(&self) -> FileId
+        ensures { result ≡ state.root }
+    {
+        self.stored.root()
+    }
+
+    /// The file of a name in a directory, if the name is there.
+    ///
+    /// Takes no memory, in expected constant time but for reading the name.
+    pub fn find(&self, directory: FileId, name: &[u8]) -> Option<FileId>
+        ensures { result ≡ map.get self.now.store.names (directory, name.now) }
+    {
+        self.stored.find(directory, name)
+    }
+
+    /// Adds a file of this type to a directory under a name: its permission bits (0777 at most; those of a symbolic link are
+    /// not used), and its bytes, or its target. Answers its number, the next one.
+    ///
+    /// `Refused` with [`SUCCESS_NOT_ALLOWED`](fa_capture::codes::SUCCESS_NOT_ALLOWED) tells that the parent is no directory or
+    /// is not linked, that the name is there or is not permitted, that a file of this type may not have this body (regular
+    /// files have any, symbolic links a target, others none), or that the body has more than
+    /// [`MAX_FILE_BYTES`](fa_bodies::MAX_FILE_BYTES) bytes; `Memory` that memory was refused. The tree is then as it was.
+    ///
+    /// Time and memory in the bytes of the name and the body.
+    pub fn add(
+        &mut self,
+        parent: FileId,
+        name: &[u8],
+        kind: Kind,
+        bits: u16,
+        body: &[u8],
+    ) -> Result<FileId, StepError>
+        requires bits { bits ≤ 511 }
+        ensures number { IfOk result (λ file. file ≡ length self.old.store.files) }
+        ensures added { OnOk result (self.new ≡ tree_added self.old parent name.now (file_of_kind kind bits body.now)) }
+        ensures allowed { OnOk result (MayBeAdded self.old parent name.now kind body.now) }
+        ensures refused { IfErr result (λ e. IsRefusal e SUCCESS_NOT_ALLOWED (MayBeAdded self.old parent name.now kind body.now)) }
+        ensures unchanged { OnErr result (self.new ≡ self.old) }
+    {
+        if !self.may_be_added(parent, name, kind, body) {
+            return Err(StepError::Refused(codes::SUCCESS_NOT_ALLOWED));
+        }
+        let contents = Contents::from_slice(self.stored.alloc, body)?;
+        let file = File::new(kind, u32::from(bits), contents);
+        Ok(self.stored.make(parent, name, file)?)
+    }
+
+    /// Adds a further name to a directory, for a file that is there.
+    ///
+    /// `Refused` with [`SUCCESS_NOT_ALLOWED`](fa_capture::codes::SUCCESS_NOT_ALLOWED) tells that the parent is no directory or
+    /// is not linked, that the name is there or is not permitted, or that the file is a directory or of no number that the tree
+    /// has; `Memory` that memory was refused. The tree is then as it was.
+    ///
+    /// Time and memory in the bytes of the name.
+    pub fn add_link(&mut self, parent: FileId, name: &[u8], file: FileId) -> Result<(), StepError>
+        ensures added { OnOk result (self.new ≡ tree_linked self.old parent name.now file) }
+        ensures allowed { OnOk result (MayBeLinkedTo self.old parent name.now file) }
+        ensures refused { IfErr result (λ e. IsRefusal e SUCCESS_NOT_ALLOWED (MayBeLinkedTo self.old parent name.now file)) }
+        ensures unchanged { OnErr result (self.new ≡ self.old) }
+    {
+        if !self.may_be_linked_to(parent, name, file) {
+            return Err(StepError::Refused(codes::SUCCESS_NOT_ALLOWED));
+        }
+        self.stored.link(parent, name, file)?;
+        Ok(())
+    }
+
+    /// Whether a file of this type with this body may be added.
+    fn may_be_added(&self, parent: FileId, name: &[u8], kind: Kind, body: &[u8]) -> bool
+        ensures { IsTrue result ↔ MayBeAdded self.now parent name.now kind body.now }
+    {
+        self.stored.may_be_made(parent, name)
+            && is_name(name)
+            && may_hold(kind, body)
+            && body.len() as u64 <= MAX_FILE_BYTES
+    }
+
+    /// Whether a further name may be added.
+    fn may_be_linked_to(&self, parent: FileId, name: &[u8], file: FileId) -> bool
+        ensures { IsTrue result ↔ MayBeLinkedTo self.now parent name.now file }
+    {
+        self.stored.may_be_made(parent, name) && is_name(name) && self.stored.is_other(file)
+    }
+}
+
+/// Whether a file of this type may have this body.
+fn may_hold(kind: Kind, body: &[u8]) -> bool
+    ensures { IsTrue result ↔ MayHold kind body.now }
+{
+    match kind {
+        Kind::Regular => true,
+        Kind::Symlink => is_target(body),
+        Kind::Fifo => body.is_empty(),
+        Kind::CharDevice => body.is_empty(),
+        Kind::Directory => body.is_empty(),
+        Kind::BlockDevice => body.is_empty(),
+        Kind::Socket => body.is_empty(),
+    }
+}
