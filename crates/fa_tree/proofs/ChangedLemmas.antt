@@ -1,8 +1,9 @@
 -- What a request makes of what is stored, arm by arm.
-use Rattle.std.proofs.Common.{◌≡◌, ℕ, List, [], Option, None, Some, refl, sym, ap, subst}
+use Rattle.std.proofs.Common.{◌≡◌, ℕ, true, List, [], Option, None, Some, refl, sym, ap, subst}
 use Rattle.std.specs.Ordering.{nat_cmp}
-use Rattle.std.specs.FinMap.{FinMap, get}
+use Rattle.std.specs.FinMap.{FinMap, get, insert}
 use Rattle.fa_bodies.specs.declared.flags.OpenFlags.{OpenFlags}
+use Rattle.fa_bodies.specs.declared.handles.OpenIn.{OpenIn}
 use Rattle.fa_bodies.specs.declared.mode.Mode.{Mode}
 use Rattle.fa_bodies.specs.declared.setattr.SetattrIn.{SetattrIn}
 use Rattle.fa_bodies.specs.Requests.{PlainBody}
@@ -10,11 +11,12 @@ use Rattle.fa_bodies.specs.Requests.PlainBody.{Lookup, Getattr, Setattr, Readlin
 use Rattle.fa_tree.specs.State.{Store, OpenDirectory, IsFree}
 use Rattle.fa_tree.specs.Resolved.{Resolved, OfOther}
 use Rattle.fa_tree.specs.Edits.{open_after, handles_after}
+use Rattle.fa_tree.specs.Opening.{opened}
 use Rattle.fa_tree.specs.Lookups.{file_set}
 use Rattle.fa_tree.specs.Making.{MayBeMade, MayBeCreated}
 use Rattle.fa_tree.specs.Changes.{with_file}
-use Rattle.fa_tree.specs.Known.{IsKnownBody}
-use Rattle.fa_tree.specs.parts.StoredParts.{StoredShown, stored_changed, stored_with}
+use Rattle.fa_tree.specs.Covered.{IsCoveredBody}
+use Rattle.fa_tree.specs.parts.StoredParts.{StoredShown, stored_changed, stored_with, stored_opened, stored_noted}
 use Rattle.fa_tree.proofs.EditedLemmas.{each_same}
 
 -- a second file that is named is such
@@ -66,7 +68,7 @@ IsStill (Link oldnodeid new_name) = ⊥
 IsStill (Create flags mode umask name) = ⊥
 IsStill body = Unit {0}
 
-pub still_changed : (t : StoredShown) (x : Resolved) (body : PlainBody) (count : ℕ) → IsKnownBody body → IsStill body → t ≡ stored_changed x body count t
+pub still_changed : (t : StoredShown) (x : Resolved) (body : PlainBody) (count : ℕ) → IsCoveredBody body → IsStill body → t ≡ stored_changed x body count t
 still_changed t x (Lookup name) count known still = still_open t t.store
 still_changed t x (Getattr g) count known still = still_open t t.store
 still_changed t x Readlink count known still = still_open t t.store
@@ -82,3 +84,11 @@ still_changed t x (Rename newdir old_name new_name) count known still = absurd s
 still_changed t x (Link oldnodeid new_name) count known still = absurd still
 still_changed t x (Create flags mode umask name) count known still = absurd still
 still_changed t x body count known still = absurd known
+
+-- ---- a directory that is opened
+
+pub opendir_noted : (t : StoredShown) (x : Resolved) (o : OpenIn) (asked count : ℕ)
+    → stored_opened asked x.node t ≡ stored_noted x (Opendir o) asked true count t
+opendir_noted t x o asked count =
+    let with : FinMap nat_cmp OpenDirectory → StoredShown = λ handles. record { store = t.store; handles = insert handles asked (opened t.store.names x.node) } in
+    ap with (sym (stays_open t.handles))

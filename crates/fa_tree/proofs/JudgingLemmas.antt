@@ -27,14 +27,16 @@ use Rattle.fa_tree.specs.Contents.{resized}
 use Rattle.fa_tree.specs.Edits.{names_after}
 use Rattle.fa_tree.specs.Edits.Edit.{Added}
 use Rattle.fa_tree.specs.Lookups.{bits_set, file_set}
-use Rattle.fa_tree.specs.Judging.{IsAnswerTo, AttributesFit}
+use Rattle.fa_tree.specs.Answers.{IsAnswerTo}
+use Rattle.fa_tree.specs.Judging.{AttributesFit}
 use Rattle.fa_tree.specs.Linking.{MayBeLinked}
 use Rattle.fa_tree.specs.Resolved.{Resolved, OfOther}
 use Rattle.fa_tree.specs.Shape.{IsTree}
 use Rattle.fa_tree.specs.declared.facts.Facts.{Facts}
 use Rattle.fa_tree.specs.parts.FactParts.{AreFactsOf, AreFit, AreFactsIfAny, AreNewFacts, AreFurtherFacts, AreSetFacts, AreCreatedFacts, IsFoundOrNext, SpokenFit, IsLookup, spoken_of}
 use Rattle.fa_tree.specs.parts.ShapeParts.{parent_in, parent_of}
-use Rattle.fa_tree.proofs.PlaceOrderLemmas.{place_cmp_total, place_self}
+use Rattle.fa_tree.proofs.PlaceOrderLemmas.{place_self}
+use Rattle.fa_tree.specs.parts.PlaceLaws.{place_cmp_total}
 use Rattle.fa_tree.proofs.WalkLemmas.{parent_is}
 
 -- ---- how many names a file has

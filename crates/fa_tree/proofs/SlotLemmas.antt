@@ -1,6 +1,5 @@
 -- What places have after a write at one.
-use Rattle.std.proofs.Common.{◌≡◌, Bool, true, false, cond, List, [], ◌∷◌, Option, Result, Ok, Err, refl, sym, ap, subst, ◌∙◌}
-use Rattle.std.specs.Prelude.{OnOk}
+use Rattle.std.proofs.Common.{◌≡◌, Bool, true, false, cond, List, [], ◌∷◌, Option, refl, sym, ap, subst, ◌∙◌}
 use Rattle.std.specs.Map.{lookup, KeepsOthers}
 use Rattle.std.specs.Ordering.{eq_by_cmp}
 use Rattle.fa_tree.specs.State as state
@@ -52,8 +51,3 @@ unchanged_at slots place q change same =
 -- keys are equal where their places are
 pub keys_same : (x y : Place) → Rattle.fa_tree.specs.contracts.slots.PlacePartialEq.TheImpl.eq-value.it x y ≡ eq_by_cmp place_cmp (place_of x) (place_of y)
 keys_same x y = sym (place_test (place_of x) (place_of y))
-
--- what a result ensures ensures what follows from it
-pub ok_also : {A E : Type 0} (r : Result A E) (P Q : Type 0) → (P → Q) → OnOk r P → OnOk r Q
-ok_also (Ok v) P Q so holds = so holds
-ok_also (Err e) P Q so holds = tt

@@ -14,7 +14,8 @@ use Rattle.fa_tree.specs.parts.StoredParts.{StoredShown}
 use Rattle.fa_tree.specs.parts.ShapeParts.{parent_in, parent_of, Climbs}
 use Rattle.fa_tree.specs.parts.ShapeParts.Climbs.{at_top, goes_on}
 use Rattle.indexmap.proofs.IndexTableLemmas.Probe.{Into, OneToOne, pigeonhole}
-use Rattle.fa_tree.proofs.PlaceOrderLemmas.{place_tied, place_self}
+use Rattle.fa_tree.proofs.PlaceOrderLemmas.{place_self}
+use Rattle.fa_tree.specs.parts.PlaceLaws.{same_place}
 
 -- ---- the walk up
 
@@ -78,7 +79,7 @@ find_later e es place file sorted is = by (eq_by_cmp place_cmp place e.0) refl
   where
     by : (b : Bool) → eq_by_cmp place_cmp place e.0 ≡ b → cond b (Some e.1) (find place_cmp place es) ≡ Some file
     by true tie =
-        let same : place ≡ e.0 = place_tied place e.0 tie in
+        let same : place ≡ e.0 = same_place place e.0 tie in
         let none : find place_cmp place es ≡ None = subst (λ p. find place_cmp p es ≡ None) (sym same) (none_found e.0 es (first (below_all place_cmp e.0 es) (is_sorted place_cmp es) sorted)) in
         let clash : None ≡ Some file = sym none ∙ is in
         absurd cc

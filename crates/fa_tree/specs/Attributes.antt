@@ -6,9 +6,13 @@ use Rattle.fa_bodies.specs.declared.mode.Kind.TheVariants.{Directory, Regular, S
 use Rattle.fa_bodies.specs.Modes.{mode_bits, HasFileType}
 use Rattle.fa_tree.specs.State.{File, Store, links}
 
--- the permission bits of a mode: its low nine, 0777
+-- all permission bits, 0777: S_IRWXU, S_IRWXG and S_IRWXO of POSIX <sys/stat.h>
+abbrev pub all_bits : ℕ
+all_bits = 511
+
+-- the permission bits of a mode
 abbrev pub permission_bits : ℕ → ℕ
-permission_bits mode = bit_and mode 511
+permission_bits mode = bit_and mode all_bits
 
 -- The attributes are those of the file: its type; its permission bits, unless it is a symbolic link; its size, if it is
 -- regular; and how many names it has, unless it is a directory.

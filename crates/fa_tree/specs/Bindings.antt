@@ -8,18 +8,19 @@ use Rattle.fa_tree.specs.State.{Store, node_cmp}
 use Rattle.fa_tree.specs.Resolved.{Resolved}
 use Rattle.fa_tree.specs.Judging.{files_given}
 
--- names of nodes, each with the file for which it is given; a name that is looked up in vain is for none
+-- names of nodes, each with the file for which it is given; the node of an entry whose name is not there is for none
 abbrev pub bound : List NodeName → List (Option ℕ) → List (NodeName × ℕ)
 bound [] files = []
 bound (name ∷ names) [] = []
 bound (name ∷ names) (None ∷ files) = bound names files
 bound (name ∷ names) (Some file ∷ files) = (name, file) ∷ bound names files
 
--- A name that stands for a file already, or is given twice, is given for one file.
+-- A name that stands for a file already is given for that one, and one that is given twice for one file.
 pub record AreBound (nodes : FinMap node_cmp ℕ) (given : List (NodeName × ℕ)) : Type 0 where
   pub known : (name : NodeName) (file other : ℕ) → Contains given (name, file) → get nodes name ≡ Some other → file ≡ other
   pub one : (name : NodeName) (file other : ℕ) → Contains given (name, file) → Contains given (name, other) → file ≡ other
 
+-- the files that names of nodes stand for after these were given
 abbrev pub nodes_after : List (NodeName × ℕ) → FinMap node_cmp ℕ → FinMap node_cmp ℕ
 nodes_after [] nodes = nodes
 nodes_after (one ∷ given) nodes = nodes_after given (insert nodes one.0 one.1)

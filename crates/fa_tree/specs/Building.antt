@@ -18,7 +18,7 @@ empty_tree bits = record {
   handles = map.empty;
 }
 
--- a file of this type, with these bytes, or this target; a symbolic link has all permission bits, 0777
+-- a file of this type, with these bytes, or this target; a symbolic link has all permission bits
 abbrev pub file_of_kind : Kind → (bits : ℕ) → (body : List ℕ) → File
 file_of_kind Symlink bits body = new_symlink body
 file_of_kind Fifo bits body = record { kind = Fifo; bits = bits; bytes = body }
@@ -56,12 +56,12 @@ tree_added t parent name file = record {
 }
 
 -- there is a file of this number, and it is no directory
-abbrev pub IsOther : Store → ℕ → Type 0
-IsOther s number = (file : File) × (slice_get s.files number ≡ Some file) × (file.kind ≢ Directory)
+abbrev pub IsNonDirectory : Store → ℕ → Type 0
+IsNonDirectory s number = (file : File) × (slice_get s.files number ≡ Some file) × (file.kind ≢ Directory)
 
 -- A further name may be added in a linked directory that has not the name, if it is permitted, for a file that is no directory.
 abbrev pub MayBeLinkedTo : TreeState → (parent : ℕ) → (name : List ℕ) → (file : ℕ) → Type 0
-MayBeLinkedTo t parent name file = MayBeMade t.store parent name × IsName name × IsOther t.store file
+MayBeLinkedTo t parent name file = MayBeMade t.store parent name × IsName name × IsNonDirectory t.store file
 
 -- the tree with this name added for a file that is there
 abbrev pub tree_linked : TreeState → (parent : ℕ) → (name : List ℕ) → (file : ℕ) → TreeState

@@ -1,21 +1,18 @@
 -- The causes of the errors that a tree determines (<errno.h> and the pages of POSIX for each operation). Where several causes
--- are there, an error for any of them is right (this profile).
+-- are there, an error for any of them is right; and an error that has its cause is right where a success would be too (this
+-- profile).
 use Rattle.std.specs.Prelude.{◌≡◌, ◌⊎◌, ℕ, ℤ, List}
 use Rattle.fa_bodies.specs.declared.errno.TheConstants.{ENOENT, EEXIST, ENOTDIR, EISDIR, ENOTEMPTY}
 use Rattle.fa_bodies.specs.FlagBits.{fattr_size}
 use Rattle.fa_bodies.specs.Flags.{HasFlag, fattr_bits}
 use Rattle.fa_bodies.specs.Requests.{PlainBody}
 use Rattle.fa_bodies.specs.Requests.PlainBody.{Lookup, Getattr, Setattr, Readlink, Symlink, Mknod, Mkdir, Unlink, Rmdir, Rename, Link, Open, Read, Write, Opendir, Readdir, Create, Readdirplus}
-use Rattle.fa_tree.specs.State.{Store, HasName, IsFree, IsDirectory, IsLinked, IsEmptyDirectory}
+use Rattle.fa_tree.specs.State.{Store, HasName, IsFree, IsThere, IsDirectory, IsLinked, IsEmptyDirectory}
 use Rattle.fa_tree.specs.Resolved.{Resolved, OfOther}
 
 -- ---- of names
 
--- the name is in the directory
-abbrev pub IsThere : Store → (directory : ℕ) → (name : List ℕ) → Type 0
-IsThere s directory name = (file : ℕ) × HasName s directory name file
-
--- it is, for a directory
+-- the name is in the directory, for a directory
 abbrev pub IsDirectoryThere : Store → (directory : ℕ) → (name : List ℕ) → Type 0
 IsDirectoryThere s directory name = (file : ℕ) × HasName s directory name file × IsDirectory s file
 
@@ -24,8 +21,8 @@ abbrev pub IsFullDirectoryThere : Store → (directory : ℕ) → (name : List �
 IsFullDirectoryThere s directory name = (file : ℕ) × HasName s directory name file × IsDirectory s file × (IsEmptyDirectory s file → ⊥)
 
 -- it is, for a file that is no directory
-abbrev pub IsOtherThere : Store → (directory : ℕ) → (name : List ℕ) → Type 0
-IsOtherThere s directory name = (file : ℕ) × HasName s directory name file × (IsDirectory s file → ⊥)
+abbrev pub IsNonDirectoryThere : Store → (directory : ℕ) → (name : List ℕ) → Type 0
+IsNonDirectoryThere s directory name = (file : ℕ) × HasName s directory name file × (IsDirectory s file → ⊥)
 
 -- ---- errors, each with its causes
 
@@ -71,11 +68,11 @@ IsNoDirectory s x (Symlink name target) = IsDirectory s x.node → ⊥
 IsNoDirectory s x (Mknod mode rdev umask name) = IsDirectory s x.node → ⊥
 IsNoDirectory s x (Mkdir mode umask name) = IsDirectory s x.node → ⊥
 IsNoDirectory s x (Unlink name) = IsDirectory s x.node → ⊥
-IsNoDirectory s x (Rmdir name) = (IsDirectory s x.node → ⊥) ⊎ IsOtherThere s x.node name
+IsNoDirectory s x (Rmdir name) = (IsDirectory s x.node → ⊥) ⊎ IsNonDirectoryThere s x.node name
 IsNoDirectory s x (Rename newdir old_name new_name) =
     (IsDirectory s x.node → ⊥)
     ⊎ (OfOther x.other (λ directory. IsDirectory s directory → ⊥)
-    ⊎ (IsDirectoryThere s x.node old_name × OfOther x.other (λ directory. IsOtherThere s directory new_name)))
+    ⊎ (IsDirectoryThere s x.node old_name × OfOther x.other (λ directory. IsNonDirectoryThere s directory new_name)))
 IsNoDirectory s x (Link oldnodeid new_name) = IsDirectory s x.node → ⊥
 IsNoDirectory s x (Create flags mode umask name) = IsDirectory s x.node → ⊥
 IsNoDirectory s x (Opendir o) = IsDirectory s x.node → ⊥
@@ -83,12 +80,12 @@ IsNoDirectory s x (Readdir r) = IsDirectory s x.node → ⊥
 IsNoDirectory s x (Readdirplus r) = IsDirectory s x.node → ⊥
 IsNoDirectory s x other = ⊥
 
--- EISDIR: UNLINK and CREATE of a name that a directory has, and RENAME of what is none onto such; bytes of a directory.
+-- EISDIR: UNLINK and CREATE of a name that stands for a directory, and RENAME of what is none onto such; bytes of a directory.
 abbrev pub IsADirectory : Store → Resolved → PlainBody → Type 0
 IsADirectory s x (Unlink name) = IsDirectoryThere s x.node name
 IsADirectory s x (Create flags mode umask name) = IsDirectoryThere s x.node name
 IsADirectory s x (Rename newdir old_name new_name) =
-    IsOtherThere s x.node old_name × OfOther x.other (λ directory. IsDirectoryThere s directory new_name)
+    IsNonDirectoryThere s x.node old_name × OfOther x.other (λ directory. IsDirectoryThere s directory new_name)
 IsADirectory s x (Open o) = IsDirectory s x.node
 IsADirectory s x (Read r) = IsDirectory s x.node
 IsADirectory s x (Write fh offset size write_flags lock_owner flags payload) = IsDirectory s x.node

@@ -26,6 +26,7 @@ abbrev pub IsReadAs : (direct : Bool) → (asked given : List ℕ) → Type 0
 IsReadAs true asked given = (rest : List ℕ) × (asked ≡ given ++ rest)
 IsReadAs false asked given = given ≡ asked
 
+-- the bytes are so read from this file
 abbrev pub IsReadFrom : Store → ℕ → (direct : Bool) → (offset size : ℕ) → (given : List ℕ) → Type 0
 IsReadFrom s number direct offset size given =
     (file : File) × (slice_get s.files number ≡ Some file) × IsReadAs direct (readable file.bytes offset size) given

@@ -4,11 +4,12 @@ use Rattle.std.specs.FinMap.{get}
 use Rattle.std.specs.FinSet.{contains}
 use Rattle.std.specs.Str.{bytes_eq}
 use Rattle.fa_bodies.specs.declared.entry.EntryOut.{EntryOut}
+use Rattle.fa_bodies.specs.declared.names.TheConstants.{MAX_NAME}
 use Rattle.fa_bodies.specs.Dirents.{PlainDirent}
 use Rattle.fa_bodies.specs.Modes.{mode_bits, type_number, HasFileType}
 use Rattle.fa_ledger.specs.declared.call.Listing.{Listing}
 use Rattle.fa_ledger.specs.Counts.{is_dots}
-use Rattle.fa_tree.specs.State.{File, Store, OpenDirectory, HasName}
+use Rattle.fa_tree.specs.State.{File, Store, OpenDirectory, HasName, IsThere}
 
 -- the entries that are judged: all but `.` and `..`
 abbrev pub judged : List PlainDirent → List PlainDirent
@@ -32,12 +33,12 @@ abbrev pub times_listed : (name : List ℕ) → List PlainDirent → ℕ
 times_listed name entries = count_by (λ d. bytes_eq d.name name) entries
 
 -- The least size of an answer into which any entry fits: 128 bytes for its node (struct fuse_entry_out), 24 for itself (struct
--- fuse_dirent) and 1,024 for its name.
+-- fuse_dirent) and the longest name.
 abbrev pub room_for_any : ℕ
-room_for_any = 128 + (24 + 1024)
+room_for_any = 128 + (24 + MAX_NAME)
 
 -- A listing that begins at the start, without gaps, on a handle of its own: what was listed so far and this answer name
--- nothing twice that stayed; and an answer without an entry, where there was room for one, comes only when all that stayed was
+-- nothing twice that stayed; and an answer without an entry, where there was room for any, comes only when all that stayed was
 -- listed (this profile).
 pub record IsOrderly (h : OpenDirectory) (so_far entries : List PlainDirent) (size : ℕ) : Type 0 where
   pub once : (name : List ℕ) (file : ℕ) → get h.stayed name ≡ Some file → times_listed name (so_far ++ entries) ≤ 1
@@ -51,7 +52,7 @@ LooksUp d = (entry : EntryOut) × (d.entry ≡ Some entry) × (entry.nodeid ≢ 
 -- Then its name is in the directory now (this profile: a READDIRPLUS acts at one moment, and looks all its entries with a node
 -- up together).
 abbrev pub IsThereIfLookedUp : Store → (directory : ℕ) → PlainDirent → Type 0
-IsThereIfLookedUp s directory d = LooksUp d → (file : ℕ) × HasName s directory d.name file
+IsThereIfLookedUp s directory d = LooksUp d → IsThere s directory d.name
 
 -- And the type in its attributes is that of the file which has the name (told with the attributes, not with the listing).
 abbrev pub IsTypedIfLookedUp : Store → (directory : ℕ) → PlainDirent → Type 0

@@ -19,8 +19,8 @@ names_after [] names = names
 names_after (Added directory name file ∷ edits) names = names_after edits (map.insert names (directory, name) file)
 names_after (Removed directory name ∷ edits) names = names_after edits (map.remove names (directory, name))
 
--- An open directory after one edit. A name that is added has been in it since then; one that is taken away has not stayed,
--- and does not stay again when it is added again.
+-- An open directory after one edit. A name that is added was in it at some moment; one that is taken away has not stayed, and
+-- has not when it is added again.
 abbrev pub open_after_one : Edit → OpenDirectory → OpenDirectory
 open_after_one (Added directory name file) h =
     (if directory == h.directory then record { directory = h.directory; since = set.insert h.since name; stayed = h.stayed } else h)

@@ -4,7 +4,7 @@ use Rattle.std.specs.FinMap.{get}
 use Rattle.fa_bodies.specs.declared.entry.EntryOut.{EntryOut}
 use Rattle.fa_bodies.specs.Dirents.{PlainDirent}
 use Rattle.fa_bodies.specs.Requests.{PlainBody}
-use Rattle.fa_bodies.specs.Requests.PlainBody.{Lookup, Getattr, Setattr, Readlink, Symlink, Mknod, Mkdir, Unlink, Rmdir, Rename, Link, Open, Read, Write, Opendir, Readdir, Create, Readdirplus}
+use Rattle.fa_bodies.specs.Requests.PlainBody.{Lookup, Readlink, Symlink, Mknod, Mkdir, Link, Read, Readdir, Create, Readdirplus}
 use Rattle.fa_bodies.specs.Replies.{PlainReply}
 use Rattle.fa_bodies.specs.Replies.PlainReply.{Refused, Empty, Entry, Created, Attributes, Opened, Written, Bytes, Listed, InitAnswer, Skipped}
 use Rattle.fa_ledger.specs.declared.call.Listing.{Listing}
@@ -13,39 +13,10 @@ use Rattle.fa_tree.specs.State.{Store, OpenDirectory}
 use Rattle.fa_tree.specs.Resolved.{Question, Resolved}
 use Rattle.fa_tree.specs.Attributes.{Fits}
 use Rattle.fa_tree.specs.Contents.{IsReadFrom}
-use Rattle.fa_tree.specs.Lookups.{IsFoundAs, IsTargetOf}
+use Rattle.fa_tree.specs.Lookups.{IsTargetOf}
 use Rattle.fa_tree.specs.Directories.{judged, IsTypedIfLookedUp, IsListed}
 
--- ---- what answers what
-
--- A success of a request has this form (the bodies of replies in fuse.h); no other answers it.
-abbrev pub IsAnswerTo : PlainBody → PlainReply → Type 0
-IsAnswerTo (Lookup name) (Entry entry) = Unit {0}
-IsAnswerTo (Getattr g) (Attributes a) = Unit {0}
-IsAnswerTo (Setattr s) (Attributes a) = Unit {0}
-IsAnswerTo Readlink (Bytes bytes) = Unit {0}
-IsAnswerTo (Symlink name target) (Entry entry) = Unit {0}
-IsAnswerTo (Mknod mode rdev umask name) (Entry entry) = Unit {0}
-IsAnswerTo (Mkdir mode umask name) (Entry entry) = Unit {0}
-IsAnswerTo (Unlink name) Empty = Unit {0}
-IsAnswerTo (Rmdir name) Empty = Unit {0}
-IsAnswerTo (Rename newdir old_name new_name) Empty = Unit {0}
-IsAnswerTo (Link oldnodeid new_name) (Entry entry) = Unit {0}
-IsAnswerTo (Open o) (Opened out) = Unit {0}
-IsAnswerTo (Read r) (Bytes bytes) = Unit {0}
-IsAnswerTo (Write fh offset size write_flags lock_owner flags payload) (Written count) = Unit {0}
-IsAnswerTo (Opendir o) (Opened out) = Unit {0}
-IsAnswerTo (Readdir r) (Listed entries) = Unit {0}
-IsAnswerTo (Create flags mode umask name) (Created entry out) = Unit {0}
-IsAnswerTo (Readdirplus r) (Listed entries) = Unit {0}
-IsAnswerTo body reply = ⊥
-
--- ---- where a name was looked up
-
--- LOOKUP finds the name, or not, as its answer says. No other success says so.
-abbrev pub FindsAsSaid : Store → Resolved → PlainBody → PlainReply → Type 0
-FindsAsSaid s x (Lookup name) (Entry entry) = IsFoundAs s x.node name entry.nodeid
-FindsAsSaid s x body reply = Unit {0}
+-- ---- the file that an entry speaks of
 
 -- the name whose file a reply gives by an entry
 abbrev pub entry_name : PlainBody → Option (List ℕ)
@@ -115,9 +86,19 @@ BytesAre s x direct Readlink bytes = IsTargetOf s x.node bytes
 BytesAre s x direct (Read r) bytes = IsReadFrom s x.node direct r.offset r.size bytes
 BytesAre s x direct other bytes = ⊥
 
+-- the bytes that a success gives fit
 abbrev pub BytesFit : Store → Resolved → Question → PlainReply → Type 0
 BytesFit s x q (Bytes bytes) = BytesAre s x q.direct q.body bytes
-BytesFit s x q other = Unit {0}
+BytesFit s x q (Refused error) = Unit {0}
+BytesFit s x q Empty = Unit {0}
+BytesFit s x q (Entry entry) = Unit {0}
+BytesFit s x q (Created entry out) = Unit {0}
+BytesFit s x q (Attributes a) = Unit {0}
+BytesFit s x q (Opened out) = Unit {0}
+BytesFit s x q (Written size) = Unit {0}
+BytesFit s x q (Listed entries) = Unit {0}
+BytesFit s x q (InitAnswer n) = Unit {0}
+BytesFit s x q Skipped = Unit {0}
 
 -- the size that a request to list asks for (`size` of struct fuse_read_in)
 abbrev pub size_asked : PlainBody → Option ℕ
@@ -130,6 +111,16 @@ abbrev pub EntriesAre : Store → (directory : ℕ) → (size : Option ℕ) → 
 EntriesAre s directory (Some size) (Some h) (Some listing) so_far entries = IsListed s directory h listing size so_far entries
 EntriesAre s directory size h listing so_far entries = ⊥
 
+-- the entries that a success of READDIR or READDIRPLUS gives fit
 abbrev pub ListingFits : Store → Resolved → Question → (so_far : List PlainDirent) → PlainReply → Type 0
 ListingFits s x q so_far (Listed entries) = EntriesAre s x.node (size_asked q.body) x.handle q.listing so_far entries
-ListingFits s x q so_far other = Unit {0}
+ListingFits s x q so_far (Refused error) = Unit {0}
+ListingFits s x q so_far Empty = Unit {0}
+ListingFits s x q so_far (Entry entry) = Unit {0}
+ListingFits s x q so_far (Created entry out) = Unit {0}
+ListingFits s x q so_far (Attributes a) = Unit {0}
+ListingFits s x q so_far (Opened out) = Unit {0}
+ListingFits s x q so_far (Written size) = Unit {0}
+ListingFits s x q so_far (Bytes bytes) = Unit {0}
+ListingFits s x q so_far (InitAnswer n) = Unit {0}
+ListingFits s x q so_far Skipped = Unit {0}

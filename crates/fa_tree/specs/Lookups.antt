@@ -6,14 +6,14 @@ use Rattle.fa_bodies.specs.declared.setattr.SetattrIn.{SetattrIn}
 use Rattle.fa_bodies.specs.FlagBits.{fattr_mode, fattr_size}
 use Rattle.fa_bodies.specs.Flags.{HasFlag, has_flag, fattr_bits}
 use Rattle.fa_bodies.specs.Modes.{mode_bits}
-use Rattle.fa_tree.specs.State.{File, Store, HasName, IsFree, IsRegular}
+use Rattle.fa_tree.specs.State.{File, Store, IsFree, IsThere, IsRegular}
 use Rattle.fa_tree.specs.Attributes.{permission_bits}
 use Rattle.fa_tree.specs.Contents.{resized}
 
--- LOOKUP succeeds in a directory: with node id 0 where the name is not in it, and with another where it is.
+-- LOOKUP answers node id 0 where the name is not in the directory, and another where it is.
 abbrev pub IsFoundAs : Store → (directory : ℕ) → (name : List ℕ) → (nodeid : ℕ) → Type 0
 IsFoundAs s directory name nodeid =
-    (nodeid ≡ 0 → IsFree s directory name) × (nodeid ≢ 0 → (file : ℕ) × HasName s directory name file)
+    (nodeid ≡ 0 → IsFree s directory name) × (nodeid ≢ 0 → IsThere s directory name)
 
 -- SETATTR of a size succeeds on a regular file alone.
 abbrev pub MayBeSet : Store → ℕ → SetattrIn → Type 0

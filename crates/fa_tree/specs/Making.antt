@@ -9,7 +9,7 @@ use Rattle.fa_bodies.specs.FlagBits.{o_excl}
 use Rattle.fa_bodies.specs.Flags.{HasFlag, open_bits}
 use Rattle.fa_bodies.specs.Modes.{mode_bits, type_bits, type_number}
 use Rattle.fa_tree.specs.State.{File, Store, HasName, IsFree, IsRegular, IsLinkedDirectory}
-use Rattle.fa_tree.specs.Attributes.{permission_bits}
+use Rattle.fa_tree.specs.Attributes.{all_bits, permission_bits}
 
 -- A file is made in a linked directory under a name that is not in it.
 abbrev pub MayBeMade : Store → (directory : ℕ) → (name : List ℕ) → Type 0
@@ -25,10 +25,10 @@ MayBeCreated s directory name flags =
 
 -- the permission bits of a new file: those of its mode that the umask does not take (this profile: that of the request alone)
 abbrev pub new_bits : Mode → (umask : ℕ) → ℕ
-new_bits mode umask = bit_and (permission_bits (mode_bits mode)) (511 - permission_bits umask)
+new_bits mode umask = bit_and (permission_bits (mode_bits mode)) (all_bits - permission_bits umask)
 
--- the type of a file that MKNOD makes, by the type in its mode; type 0 stands for a regular file, and the message grammar lets
--- directories and symbolic links not pass
+-- the type of a file that MKNOD makes, by the type in its mode; type 0 stands for a regular file, and the message grammar does
+-- not let directories and symbolic links pass
 abbrev pub node_kind : Mode → Kind
 node_kind mode =
     (if type_bits (mode_bits mode) == type_number Fifo then Fifo
@@ -37,9 +37,9 @@ node_kind mode =
     else if type_bits (mode_bits mode) == type_number Socket then Socket
     else Regular)
 
--- the files that are made: a symbolic link has all permission bits, 0777, and its target
+-- the files that are made: a symbolic link has all permission bits, and its target
 abbrev pub new_symlink : (target : List ℕ) → File
-new_symlink target = record { kind = Symlink; bits = 511; bytes = target }
+new_symlink target = record { kind = Symlink; bits = all_bits; bytes = target }
 
 abbrev pub new_node : Mode → (umask : ℕ) → File
 new_node mode umask = record { kind = node_kind mode; bits = new_bits mode umask; bytes = [] }

@@ -12,6 +12,7 @@ pub data Outcome : Type 0 where
   Succeeds : PlainAnswer → Outcome
   Unanswered : Outcome
 
+-- what an answer with this reply comes to
 abbrev pub outcome_by : PlainAnswer → PlainReply → Outcome
 outcome_by answer (Refused error) = Fails error
 outcome_by answer Empty = Succeeds answer
@@ -25,10 +26,11 @@ outcome_by answer (Listed entries) = Succeeds answer
 outcome_by answer (InitAnswer n) = Succeeds answer
 outcome_by answer Skipped = Succeeds answer
 
+-- what came of the call
 abbrev pub outcome : PlainCall → Outcome
 outcome call = option_map_or (λ answer. outcome_by answer answer.reply) call.answer Unanswered
 
--- how many bytes a WRITE wrote: as its answer says, and as the order says where it has none
+-- how many bytes a WRITE wrote, as its reply says
 abbrev pub count_by_reply : PlainReply → ℕ
 count_by_reply (Written size) = size
 count_by_reply (Refused error) = 0
@@ -42,6 +44,7 @@ count_by_reply (Listed entries) = 0
 count_by_reply (InitAnswer n) = 0
 count_by_reply Skipped = 0
 
+-- how many bytes a WRITE wrote: as its answer says, and as the order says where it has none
 abbrev pub count_written : PlainCall → (wrote : Option ℕ) → ℕ
 count_written call wrote =
     option_map_or (λ answer. count_by_reply answer.reply) call.answer (option_map_or (λ count. count) wrote 0)

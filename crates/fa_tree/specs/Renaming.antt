@@ -11,7 +11,7 @@ abbrev pub MayReplace : Store → (file other : ℕ) → Type 0
 MayReplace s file other =
     (other ≡ file) ⊎ ((IsDirectory s file × IsEmptyDirectory s other) ⊎ ((IsDirectory s file → ⊥) × (IsDirectory s other → ⊥)))
 
--- The old name is in its directory, and the new directory is linked. A file that has the new name may be replaced. A directory
+-- The old name is in its directory, and the new directory is linked. A file whose name the new name is may be replaced. A directory
 -- does not move to itself nor below itself, unless the new name is its own already.
 pub record MayBeRenamed (s : Store) (old_directory : ℕ) (old_name : List ℕ) (new_directory : ℕ) (new_name : List ℕ) : Type 0 where
   pub from : IsDirectory s old_directory
@@ -22,8 +22,8 @@ pub record MayBeRenamed (s : Store) (old_directory : ℕ) (old_name : List ℕ) 
   pub moves : IsDirectory s file → (HasName s new_directory new_name file → ⊥)
       → (new_directory ≢ file) × (IsBelow s file new_directory → ⊥)
 
--- The edits of a rename of this file, by the file that has the new name, if one has it: none where it is this file (both names
--- stay); else the old name goes, then the other file's name, and then the new name is added for this file.
+-- The edits of a rename of this file, by the file whose name the new name is, if it is one's: none where it is this file (both
+-- names stay); else the old name goes, then the other file's name, and then the new name is added for this file.
 abbrev pub moved : (old_directory : ℕ) → (old_name : List ℕ) → (new_directory : ℕ) → (new_name : List ℕ) → (file : ℕ) → Option ℕ → List Edit
 moved old_directory old_name new_directory new_name file None =
     Removed old_directory old_name ∷ Added new_directory new_name file ∷ []
@@ -31,6 +31,7 @@ moved old_directory old_name new_directory new_name file (Some other) =
     (if other == file then []
     else Removed old_directory old_name ∷ Removed new_directory new_name ∷ Added new_directory new_name file ∷ [])
 
+-- the edits, by the file whose name the old name is, if it is one's
 abbrev pub moved_if_any : Store → (old_directory : ℕ) → (old_name : List ℕ) → (new_directory : ℕ) → (new_name : List ℕ) → Option ℕ → List Edit
 moved_if_any s old_directory old_name new_directory new_name None = []
 moved_if_any s old_directory old_name new_directory new_name (Some file) =

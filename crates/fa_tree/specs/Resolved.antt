@@ -47,6 +47,7 @@ abbrev pub resolved_with : TreeState → PlainCall → (node : ℕ) → (other :
 resolved_with t call node other =
     option_map (λ handle. record { node = node; other = other; handle = handle }) (handle_of t call.listing call.handle)
 
+-- what a call names whose header names this file
 abbrev pub resolved_on : TreeState → PlainCall → (node : ℕ) → Option Resolved
 resolved_on t call node = option_and_then (resolved_with t call node) (other_of t call.other)
 

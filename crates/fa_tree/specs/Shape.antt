@@ -1,4 +1,5 @@
--- What makes what is stored a tree. Nothing here is asked of anyone: every tree that there is has this shape.
+-- What makes what is stored a tree. Nothing here is asked of anyone: it holds of the empty tree, and whatever may be added and
+-- done keeps it (Laws).
 use Rattle.std.specs.Prelude.{◌≡◌, ◌<◌, ℕ, List, length}
 use Rattle.fa_tree.specs.State.{Store, root, HasName, IsDirectory, IsParent}
 

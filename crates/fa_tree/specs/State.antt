@@ -51,6 +51,10 @@ HasName s directory name file = get s.names (directory, name) ≡ Some file
 abbrev pub IsFree : Store → (directory : ℕ) → (name : List ℕ) → Type 0
 IsFree s directory name = get s.names (directory, name) ≡ None
 
+-- the name is in the directory
+abbrev pub IsThere : Store → (directory : ℕ) → (name : List ℕ) → Type 0
+IsThere s directory name = (file : ℕ) × HasName s directory name file
+
 -- the file is of this type
 abbrev pub IsOfKind : Store → ℕ → Kind → Type 0
 IsOfKind s number kind = (file : File) × (slice_get s.files number ≡ Some file) × (file.kind ≡ kind)
@@ -85,7 +89,7 @@ links s number = count_by (λ entry. entry.1 == number) (entries s.names)
 abbrev pub IsParent : Store → (parent : ℕ) → (file : ℕ) → Type 0
 IsParent s parent file = (name : List ℕ) × HasName s parent name file
 
--- One directory is below another where a way leads up to that one, from each directory to its parent.
+-- A file is below a directory where a way leads up to that one, from child to parent.
 pub data IsBelow (s : Store) : (above : ℕ) → (below : ℕ) → Type 0 where
   child : (above below : ℕ) → IsParent s above below → IsBelow s above below
   further : (above between below : ℕ) → IsParent s between below → IsBelow s above between → IsBelow s above below
@@ -97,7 +101,7 @@ abbrev pub node_cmp : NodeName → NodeName → Ordering
 node_cmp Root Root = Equal
 node_cmp Root (Given id by) = Less
 node_cmp (Given id by) Root = Greater
-node_cmp (Given id by) (Given other since) = ordering_then (nat_cmp id other) (nat_cmp by since)
+node_cmp (Given id by) (Given other_id other_by) = ordering_then (nat_cmp id other_id) (nat_cmp by other_by)
 
 -- A directory that is open: its number, the names that were in it at some moment since it was opened, and for each of these
 -- whose file stayed in it under that name since then, this file.
@@ -107,7 +111,8 @@ pub record OpenDirectory : Type 0 where
   pub stayed : FinMap name_cmp ℕ
 
 -- The tree: what is stored; the files that names of nodes stand for, but for the root's; and the directories that are open,
--- by the numbers of the OPENDIR requests that opened them.
+-- by the numbers of the OPENDIR requests that opened them. These stay when they are closed, as a request may be placed after
+-- that which was sent before.
 pub record TreeState : Type 0 where
   pub store : Store
   pub nodes : FinMap node_cmp ℕ

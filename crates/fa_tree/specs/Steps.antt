@@ -1,33 +1,25 @@
 -- One step of the tree machine: the checks of a call, in the order of their codes, and the tree that it leaves.
-use Rattle.std.specs.Prelude.{◌≡◌, ℕ, Bool, true, List, [], ◌∷◌, Option, Some, None}
-use Rattle.std.specs.Ordering.{nat_cmp}
-use Rattle.std.specs.FinMap.{FinMap, insert}
+use Rattle.std.specs.Prelude.{◌≡◌, ℕ, List, [], ◌∷◌, slice_get, Option, Some, None}
+use Rattle.std.specs.FinMap.{FinMap}
 use Rattle.fa_capture.specs.Checks.{AllHold}
 use Rattle.fa_capture.specs.declared.codes.TheConstants.{UNKNOWN_HERE, SUCCESS_NOT_ALLOWED, ERROR_WITHOUT_CAUSE, ATTRIBUTES, NODE_ID_OF_ANOTHER, BYTES_READ, LISTING}
 use Rattle.fa_bodies.specs.Dirents.{PlainDirent}
 use Rattle.fa_bodies.specs.Requests.{PlainBody}
-use Rattle.fa_bodies.specs.Requests.PlainBody.{Opendir}
 use Rattle.fa_ledger.specs.Calls.{PlainAnswer, PlainCall}
-use Rattle.fa_tree.specs.State.{Store, OpenDirectory, TreeState, node_cmp}
+use Rattle.fa_tree.specs.State.{Store, TreeState, node_cmp}
 use Rattle.fa_tree.specs.Resolved.{Question, Resolved, question, resolved}
 use Rattle.fa_tree.specs.Outcomes.{Outcome, outcome, count_written}
 use Rattle.fa_tree.specs.Outcomes.Outcome.{Fails, Succeeds, Unanswered}
 use Rattle.fa_tree.specs.Edits.{handles_after}
-use Rattle.fa_tree.specs.Opening.{opened}
+use Rattle.fa_tree.specs.Opening.{with_opened}
 use Rattle.fa_tree.specs.Causes.{HasCause}
 use Rattle.fa_tree.specs.Changes.{edits, changed}
 use Rattle.fa_tree.specs.Conditions.{MayBeDone}
 use Rattle.fa_tree.specs.Bindings.{AreBound, nodes_after, given_in}
-use Rattle.fa_tree.specs.Judging.{IsAnswerTo, FindsAsSaid, AttributesFit, BytesFit, ListingFits}
+use Rattle.fa_tree.specs.Answers.{IsAnswerTo, FindsAsSaid}
+use Rattle.fa_tree.specs.Judging.{AttributesFit, BytesFit, ListingFits}
 
--- ---- open directories
-
--- the open directories, with the one that an OPENDIR opened, if it opened one anew
-abbrev pub with_opened : Store → Resolved → PlainBody → (asked : ℕ) → (opens : Bool) → FinMap nat_cmp OpenDirectory → FinMap nat_cmp OpenDirectory
-with_opened s x (Opendir o) asked true handles = insert handles asked (opened s.names x.node)
-with_opened s x body asked opens handles = handles
-
--- ---- the step
+-- ---- the step. Calls are tree requests; of no other is anything said here.
 
 -- the tree after the change of a request, without what its answer adds
 abbrev pub tree_changed : TreeState → Resolved → Question → (count : ℕ) → TreeState
@@ -94,11 +86,12 @@ outcome_checks nodes g o =
 abbrev pub setting : Store → Resolved → Question → (count : ℕ) → (so_far : List PlainDirent) → Setting
 setting s x q count so_far = record { before = s; after = changed s x q count; files = x; question = q; so_far = so_far }
 
--- The checks of a call: that the tree knows what it names, and then those of the files that it names.
+-- the checks of a call that names these files, if the tree knows all that it names
 abbrev pub checks_of_files : TreeState → PlainCall → (count : ℕ) → (so_far : List PlainDirent) → Option Resolved → List (ℕ × Type 0)
 checks_of_files t call count so_far None = (UNKNOWN_HERE, ⊥) ∷ []
 checks_of_files t call count so_far (Some x) = (UNKNOWN_HERE, Unit {0}) ∷ outcome_checks t.nodes (setting t.store x (question call) count so_far) (outcome call)
 
+-- The checks of a call: that the tree knows what it names, and then those of the files that it names.
 abbrev pub step_checks : TreeState → PlainCall → (wrote : Option ℕ) → (so_far : List PlainDirent) → List (ℕ × Type 0)
 step_checks t call wrote so_far = checks_of_files t call (count_written call wrote) so_far (resolved t call)
 
@@ -108,3 +101,7 @@ pub record Steps (old new : TreeState) (call : PlainCall) (wrote : Option ℕ) (
   pub files : Resolved
   pub named : resolved old call ≡ Some files
   pub after : new ≡ tree_after old files call (count_written call wrote) (outcome call)
+
+-- This holds of the call at that place in the list, if there is one.
+abbrev pub OfCallAt : List PlainCall → (place : ℕ) → (PlainCall → Type 0) → Type 0
+OfCallAt calls place Such = (call : PlainCall) → slice_get calls place ≡ Some call → Such call

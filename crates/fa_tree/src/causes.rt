@@ -2,9 +2,9 @@
 
 ghost use Rattle.std.specs.Prelude.{◌↔◌, ◌≡◌, ◌⊎◌, ℕ, Option, IsTrue};
 ghost use Rattle.fa_bodies.specs.Requests.{body_shown};
-ghost use Rattle.fa_tree.specs.State.{OpenDirectory, IsFree, IsDirectory, IsLinked};
+ghost use Rattle.fa_tree.specs.State.{OpenDirectory, IsFree, IsDirectory, IsLinked, IsThere};
 ghost use Rattle.fa_tree.specs.Resolved.{OfOther};
-ghost use Rattle.fa_tree.specs.Causes.{IsThere, IsDirectoryThere, IsFullDirectoryThere, IsOtherThere, IsMissing, IsTaken, IsNoDirectory, IsADirectory, IsNotEmpty, HasCause};
+ghost use Rattle.fa_tree.specs.Causes.{IsDirectoryThere, IsFullDirectoryThere, IsNonDirectoryThere, IsMissing, IsTaken, IsNoDirectory, IsADirectory, IsNotEmpty, HasCause};
 ghost use Rattle.fa_tree.specs.parts.NamedParts.{named_shown};
 
 use crate::id::FileId;
@@ -43,8 +43,8 @@ impl Stored {
     }
 
     /// Whether it has it for a file that is no directory.
-    fn is_other_there(&self, directory: FileId, name: &[u8]) -> bool
-        ensures { IsTrue result ↔ IsOtherThere self.now.store directory name.now }
+    fn is_non_directory_there(&self, directory: FileId, name: &[u8]) -> bool
+        ensures { IsTrue result ↔ IsNonDirectoryThere self.now.store directory name.now }
     {
         match self.find(directory, name) {
             Some(file) => !self.is_directory(file),
@@ -173,17 +173,17 @@ impl Stored {
 
     /// Whether a second file is named and has a name for a file that is no directory.
     fn is_other_in(&self, other: Option<FileId>, name: &[u8]) -> bool
-        ensures { IsTrue result ↔ OfOther other (λ directory. IsOtherThere self.now.store directory name.now) }
+        ensures { IsTrue result ↔ OfOther other (λ directory. IsNonDirectoryThere self.now.store directory name.now) }
     {
         match other {
-            Some(directory) => self.is_other_there(directory, name),
+            Some(directory) => self.is_non_directory_there(directory, name),
             None => false,
         }
     }
 
     /// Whether a RENAME is from or to what is no directory, or would put a directory in the place of a file that is none.
     fn is_no_place(&self, named: &Named, old_name: &[u8], new_name: &[u8]) -> bool
-        ensures { IsTrue result ↔ ((IsDirectory self.now.store named.now.node → ⊥) ⊎ (OfOther named.now.other (λ directory. IsDirectory self.now.store directory → ⊥) ⊎ (IsDirectoryThere self.now.store named.now.node old_name.now × OfOther named.now.other (λ directory. IsOtherThere self.now.store directory new_name.now)))) }
+        ensures { IsTrue result ↔ ((IsDirectory self.now.store named.now.node → ⊥) ⊎ (OfOther named.now.other (λ directory. IsDirectory self.now.store directory → ⊥) ⊎ (IsDirectoryThere self.now.store named.now.node old_name.now × OfOther named.now.other (λ directory. IsNonDirectoryThere self.now.store directory new_name.now)))) }
     {
         !self.is_directory(named.node)
             || self.is_other_no_directory(named.other)
@@ -198,7 +198,7 @@ impl Stored {
         let node = named.node;
         match body {
             RequestBody::Rmdir { name } => {
-                !self.is_directory(node) || self.is_other_there(node, name)
+                !self.is_directory(node) || self.is_non_directory_there(node, name)
             }
             RequestBody::Rename {
                 old_name,
@@ -234,7 +234,7 @@ impl Stored {
                 ..
             } => match named.other {
                 Some(directory) => {
-                    self.is_other_there(node, old_name)
+                    self.is_non_directory_there(node, old_name)
                         && self.is_directory_there(directory, new_name)
                 }
                 None => false,

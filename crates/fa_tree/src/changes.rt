@@ -11,9 +11,10 @@ ghost use Rattle.fa_tree.specs.Lookups.{file_set};
 ghost use Rattle.fa_tree.specs.Renaming.{MayBeRenamed, rename_edits};
 ghost use Rattle.fa_tree.specs.Changes.{with_file};
 ghost use Rattle.fa_tree.specs.Conditions.{MayBeDone};
-ghost use Rattle.fa_tree.specs.Known.{IsKnownBody};
+ghost use Rattle.fa_tree.specs.Covered.{IsCoveredBody};
+ghost use Rattle.fa_tree.specs.Refusals.{MayGrow};
 ghost use Rattle.fa_tree.specs.parts.NamedParts.{named_shown};
-ghost use Rattle.fa_tree.specs.parts.StoredParts.{stored_changed, stored_edited, stored_with, stored_opened};
+ghost use Rattle.fa_tree.specs.parts.StoredParts.{stored_changed, stored_edited, stored_with, stored_opened, stored_noted};
 
 use crate::file::permission_bits;
 use crate::id::FileId;
@@ -75,9 +76,10 @@ impl Stored {
 
     /// Makes the change of a request that may be done.
     pub(crate) fn change(&mut self, named: &Named, body: &RequestBody<'_>) -> Result<(), AllocError>
-        requires known { IsKnownBody (body_shown body.now) }
+        requires covered { IsCoveredBody (body_shown body.now) }
         requires done { (handle : Option OpenDirectory) → MayBeDone self.old.store (named_shown named.now handle) (body_shown body.now) }
         ensures changed { OnOk result ((handle : Option OpenDirectory) (count : ℕ) → self.new ≡ stored_changed (named_shown named.now handle) (body_shown body.now) count self.old) }
+        ensures memory { OnErr result (MayGrow (body_shown body.now)) }
         ensures unchanged { OnErr result (self.new ≡ self.old) }
     {
         let alloc = self.alloc;
@@ -131,5 +133,25 @@ impl Stored {
             _ => {}
         }
         Ok(())
+    }
+
+    /// Makes the change of a request that may be done, and notes the directory that its success opens, if it opens one anew.
+    pub(crate) fn leave(
+        &mut self,
+        named: &Named,
+        body: &RequestBody<'_>,
+        asked: u32,
+        opens: bool,
+    ) -> Result<(), AllocError>
+        requires covered { IsCoveredBody (body_shown body.now) }
+        requires done { (handle : Option OpenDirectory) → MayBeDone self.old.store (named_shown named.now handle) (body_shown body.now) }
+        ensures left { OnOk result ((handle : Option OpenDirectory) (count : ℕ) → self.new ≡ stored_noted (named_shown named.now handle) (body_shown body.now) asked opens count self.old) }
+        ensures memory { OnErr result (MayGrow (body_shown body.now)) }
+        ensures unchanged { OnErr result (self.new ≡ self.old) }
+    {
+        match body {
+            RequestBody::Opendir(_) if opens => self.open(asked, named.node),
+            _ => self.change(named, body),
+        }
     }
 }

@@ -14,8 +14,9 @@ ghost use Rattle.fa_tree.specs.State.{OpenDirectory};
 ghost use Rattle.fa_tree.specs.Resolved.{Question};
 ghost use Rattle.fa_tree.specs.Conditions.{MayBeDone};
 ghost use Rattle.fa_tree.specs.Changes.{changed};
-ghost use Rattle.fa_tree.specs.Judging.{IsAnswerTo, FindsAsSaid, AttributesFit, BytesFit, BytesAre, entry_file};
-ghost use Rattle.fa_tree.specs.Known.{IsKnown, IsKnownBody};
+ghost use Rattle.fa_tree.specs.Answers.{IsAnswerTo, FindsAsSaid};
+ghost use Rattle.fa_tree.specs.Judging.{AttributesFit, BytesFit, BytesAre, entry_file};
+ghost use Rattle.fa_tree.specs.Covered.{IsCovered, IsCoveredBody};
 ghost use Rattle.fa_tree.specs.Lookups.{IsFoundAs, IsTargetOf, bits_set};
 ghost use Rattle.fa_tree.specs.Making.{node_kind, new_bits};
 ghost use Rattle.fa_tree.specs.parts.FactParts.{AreFactsOf, AreFactsIfAny, AreFactsAfter, AreNewFacts, AreFurtherFacts, AreSetFacts, AreCreatedFacts, IsFoundOrNext, SpokenFit, IsLookup, left_by, spoken_of};
@@ -244,7 +245,7 @@ impl Stored {
 
     /// What the attributes in an answer are judged by, after the request.
     fn facts_after(&self, named: &Named, body: &RequestBody<'_>) -> Option<Facts>
-        ensures { (handle : Option OpenDirectory) (count : ℕ) → IsKnownBody (body_shown body.now) → MayBeDone self.now.store (named_shown named.now handle) (body_shown body.now)
+        ensures { (handle : Option OpenDirectory) (count : ℕ) → IsCoveredBody (body_shown body.now) → MayBeDone self.now.store (named_shown named.now handle) (body_shown body.now)
             → AreFactsAfter self.now.store (named_shown named.now handle) (body_shown body.now) count result }
     {
         let node = named.node;
@@ -291,7 +292,7 @@ impl Stored {
 
     /// The file of the name in an entry that answers the request, after the request.
     fn file_left(&self, named: &Named, body: &RequestBody<'_>) -> Option<FileId>
-        ensures { (handle : Option OpenDirectory) (count : ℕ) → IsKnownBody (body_shown body.now) → MayBeDone self.now.store (named_shown named.now handle) (body_shown body.now)
+        ensures { (handle : Option OpenDirectory) (count : ℕ) → IsCoveredBody (body_shown body.now) → MayBeDone self.now.store (named_shown named.now handle) (body_shown body.now)
             → result ≡ entry_file (left_by self.now.store (named_shown named.now handle) (body_shown body.now) count) (named_shown named.now handle) (body_shown body.now) }
     {
         let node = named.node;
@@ -308,7 +309,7 @@ impl Stored {
 
     /// The file of the name in an entry that answers the request, after the request.
     pub(crate) fn file_after(&self, named: &Named, body: &RequestBody<'_>) -> Option<FileId>
-        ensures { (handle : Option OpenDirectory) (q : Question) (count : ℕ) → q.body ≡ body_shown body.now → IsKnown q → MayBeDone self.now.store (named_shown named.now handle) q.body
+        ensures { (handle : Option OpenDirectory) (q : Question) (count : ℕ) → q.body ≡ body_shown body.now → IsCovered q → MayBeDone self.now.store (named_shown named.now handle) q.body
             → result ≡ entry_file (changed self.now.store (named_shown named.now handle) q count) (named_shown named.now handle) q.body }
     {
         self.file_left(named, body)
@@ -353,7 +354,7 @@ impl Stored {
 
     /// Whether attributes are those of the file that an answer speaks of, after the request.
     fn attributes_are(&self, named: &Named, body: &RequestBody<'_>, attr: &Attributes) -> bool
-        ensures { (handle : Option OpenDirectory) (count : ℕ) → IsKnownBody (body_shown body.now) → MayBeDone self.now.store (named_shown named.now handle) (body_shown body.now)
+        ensures { (handle : Option OpenDirectory) (count : ℕ) → IsCoveredBody (body_shown body.now) → MayBeDone self.now.store (named_shown named.now handle) (body_shown body.now)
             → IsTrue result ↔ SpokenFit (left_by self.now.store (named_shown named.now handle) (body_shown body.now) count) (spoken_of (left_by self.now.store (named_shown named.now handle) (body_shown body.now) count) (named_shown named.now handle) (body_shown body.now)) attr.now }
     {
         match self.facts_after(named, body) {
@@ -364,15 +365,27 @@ impl Stored {
 
     /// Whether the attributes of an entry fit, after the request.
     fn entry_fits(&self, named: &Named, body: &RequestBody<'_>, entry: &EntryOut) -> bool
-        ensures { (handle : Option OpenDirectory) (count : ℕ) → IsKnownBody (body_shown body.now) → MayBeDone self.now.store (named_shown named.now handle) (body_shown body.now) → IsAnswerTo (body_shown body.now) (Entry entry.now)
+        ensures { (handle : Option OpenDirectory) (count : ℕ) → IsCoveredBody (body_shown body.now) → MayBeDone self.now.store (named_shown named.now handle) (body_shown body.now) → IsAnswerTo (body_shown body.now) (Entry entry.now)
             → IsTrue result ↔ AttributesFit (left_by self.now.store (named_shown named.now handle) (body_shown body.now) count) (named_shown named.now handle) (body_shown body.now) (Entry entry.now) }
     {
         finds_nothing(body, entry) || self.attributes_are(named, body, &entry.attr)
     }
 
+    /// Whether the answer may be a success of the request.
+    pub(crate) fn may_succeed(
+        &self,
+        named: &Named,
+        body: &RequestBody<'_>,
+        reply: &Reply<'_>,
+    ) -> bool
+        ensures { (handle : Option OpenDirectory) → IsTrue result ↔ (MayBeDone self.now.store (named_shown named.now handle) (body_shown body.now) × IsAnswerTo (body_shown body.now) (reply_shown reply.now) × FindsAsSaid self.now.store (named_shown named.now handle) (body_shown body.now) (reply_shown reply.now)) }
+    {
+        self.may_be_done(named, body) && self.is_answer(named, body, reply)
+    }
+
     /// Whether the attributes in an answer fit, after the request.
     fn attributes_left_fit(&self, named: &Named, body: &RequestBody<'_>, reply: &Reply<'_>) -> bool
-        ensures { (handle : Option OpenDirectory) (count : ℕ) → IsKnownBody (body_shown body.now) → MayBeDone self.now.store (named_shown named.now handle) (body_shown body.now) → IsAnswerTo (body_shown body.now) (reply_shown reply.now)
+        ensures { (handle : Option OpenDirectory) (count : ℕ) → IsCoveredBody (body_shown body.now) → MayBeDone self.now.store (named_shown named.now handle) (body_shown body.now) → IsAnswerTo (body_shown body.now) (reply_shown reply.now)
             → IsTrue result ↔ AttributesFit (left_by self.now.store (named_shown named.now handle) (body_shown body.now) count) (named_shown named.now handle) (body_shown body.now) (reply_shown reply.now) }
     {
         match reply {
@@ -397,7 +410,7 @@ impl Stored {
         body: &RequestBody<'_>,
         reply: &Reply<'_>,
     ) -> bool
-        ensures { (handle : Option OpenDirectory) (q : Question) (count : ℕ) → q.body ≡ body_shown body.now → IsKnown q → MayBeDone self.now.store (named_shown named.now handle) q.body → IsAnswerTo q.body (reply_shown reply.now)
+        ensures { (handle : Option OpenDirectory) (q : Question) (count : ℕ) → q.body ≡ body_shown body.now → IsCovered q → MayBeDone self.now.store (named_shown named.now handle) q.body → IsAnswerTo q.body (reply_shown reply.now)
             → IsTrue result ↔ AttributesFit (changed self.now.store (named_shown named.now handle) q count) (named_shown named.now handle) q.body (reply_shown reply.now) }
     {
         self.attributes_left_fit(named, body, reply)
@@ -415,7 +428,7 @@ impl Stored {
 
     /// Whether bytes are those that the request asks for.
     fn bytes_are(&self, named: &Named, body: &RequestBody<'_>, bytes: &[u8]) -> bool
-        ensures { (handle : Option OpenDirectory) (direct : Bool) (count : ℕ) → IsKnownBody (body_shown body.now)
+        ensures { (handle : Option OpenDirectory) (direct : Bool) (count : ℕ) → IsCoveredBody (body_shown body.now)
             → IsTrue result ↔ BytesAre (left_by self.now.store (named_shown named.now handle) (body_shown body.now) count) (named_shown named.now handle) direct (body_shown body.now) bytes.now }
     {
         match body {
@@ -426,7 +439,7 @@ impl Stored {
 
     /// Whether the bytes in an answer are those that the request asks for.
     pub(crate) fn bytes_fit(&self, named: &Named, body: &RequestBody<'_>, reply: &Reply<'_>) -> bool
-        ensures { (handle : Option OpenDirectory) (q : Question) (count : ℕ) → q.body ≡ body_shown body.now → IsKnown q → IsAnswerTo q.body (reply_shown reply.now)
+        ensures { (handle : Option OpenDirectory) (q : Question) (count : ℕ) → q.body ≡ body_shown body.now → IsCovered q → IsAnswerTo q.body (reply_shown reply.now)
             → IsTrue result ↔ BytesFit (changed self.now.store (named_shown named.now handle) q count) (named_shown named.now handle) q (reply_shown reply.now) }
     {
         match reply {

@@ -1,15 +1,30 @@
 //! What holds of steps. Each function does nothing: its contract is the law.
 
-ghost use Rattle.fa_tree.specs.Laws.{StepIsOne, ReadingChangesNothing, ChangesKeepTrees, FilesStay};
+ghost use Rattle.fa_tree.specs.Laws.{StepIsOne, StepsWhereAllHold, NoStepWhereOneFails, ReadingChangesNothing, BuildingKeepsTrees, ChangesKeepTrees, FilesStay};
 
 /// From a tree a call leads to one tree at most.
 pub fn step_is_one()
     ensures { StepIsOne }
 {}
 
+/// A call leads to another tree exactly where all its checks hold.
+pub fn steps_where_all_hold()
+    ensures { StepsWhereAllHold }
+{}
+
+/// Where one is the first that fails, the call leads to none.
+pub fn no_step_where_one_fails()
+    ensures { NoStepWhereOneFails }
+{}
+
 /// A reading request leaves what is stored.
 pub fn reading_changes_nothing()
     ensures { ReadingChangesNothing }
+{}
+
+/// The empty tree is a tree, and what may be added to one leaves one.
+pub fn building_keeps_trees()
+    ensures { BuildingKeepsTrees }
 {}
 
 /// A success of a request leaves a tree where there was one.

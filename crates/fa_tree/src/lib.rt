@@ -18,6 +18,7 @@ mod names;
 mod nodes;
 mod queries;
 mod slots;
+mod step;
 mod stored;
 mod tree;
 

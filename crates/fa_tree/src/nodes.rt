@@ -42,10 +42,10 @@ impl Nodes {
     }
 
     /// The name stands for the file from now on. There is room for it.
-    pub fn bind(&mut self, name: NodeName, file: FileId)
+    pub fn bind(&mut self, given: (NodeName, FileId))
         requires room { 0 < spare self.old.files }
-        ensures bound { nodes_shown self.new ≡ map.insert (nodes_shown self.old) name file }
+        ensures bound { nodes_shown self.new ≡ map.insert (nodes_shown self.old) given.0 given.1 }
     {
-        self.files.insert(name, file).unwrap();
+        self.files.insert(given.0, given.1).unwrap();
     }
 }

@@ -1,7 +1,7 @@
 //! What there is in a tree.
 
 ghost use Rattle.std.specs.Prelude.{◌≡◌, ◌↔◌, ℕ, List, option_map, slice_get, IsTrue, IfSome, IfNone};
-ghost use Rattle.fa_tree.specs.Building.{IsOther};
+ghost use Rattle.fa_tree.specs.Building.{IsNonDirectory};
 ghost use Rattle.fa_tree.specs.State.{IsFree, IsParent, IsDirectory, IsRegular, IsSymlink, IsLinked, IsLinkedDirectory, IsEmptyDirectory, IsBelow, links};
 
 use crate::id::FileId;
@@ -27,8 +27,8 @@ impl Stored {
     }
 
     /// Whether there is a file of this number that is no directory.
-    pub(crate) fn is_other(&self, file: FileId) -> bool
-        ensures { IsTrue result ↔ IsOther self.now.store file }
+    pub(crate) fn is_non_directory(&self, file: FileId) -> bool
+        ensures { IsTrue result ↔ IsNonDirectory self.now.store file }
     {
         match self.kind(file) {
             Some(kind) => kind != Kind::Directory,

@@ -4,6 +4,7 @@ ghost use Rattle.std.specs.Prelude.{◌≡◌, ◌↔◌, ◌≤◌, length, IsT
 ghost use Rattle.std.specs.FinMap as map;
 ghost use Rattle.fa_capture.specs.declared.codes.TheConstants.{SUCCESS_NOT_ALLOWED};
 ghost use Rattle.fa_tree.specs.State as state;
+ghost use Rattle.fa_tree.specs.Attributes.{all_bits};
 ghost use Rattle.fa_tree.specs.Building.{empty_tree, file_of_kind, MayHold, MayBeAdded, tree_added, MayBeLinkedTo, tree_linked};
 ghost use Rattle.fa_tree.specs.Refusals.{IsRefusal};
 
@@ -22,8 +23,8 @@ use std::marker::Model;
 /// and which directories are open.
 #[derive(Drop)]
 pub struct Tree {
-    stored: Stored,
-    nodes: Nodes,
+    pub(crate) stored: Stored,
+    pub(crate) nodes: Nodes,
 }
 
 impl Model for Tree {
@@ -45,7 +46,7 @@ impl Tree {
     ///
     /// Constant time and memory.
     pub fn empty(alloc: Global, bits: u16) -> Result<Tree, AllocError>
-        requires { bits ≤ 511 }
+        requires { bits ≤ all_bits }
         ensures { IfOk result (λ tree. tree ≡ empty_tree bits) }
     {
         let stored = Stored::new(alloc, u32::from(bits))?;
@@ -79,7 +80,8 @@ impl Tree {
     /// files have any, symbolic links a target, others none), or that the body has more than
     /// [`MAX_FILE_BYTES`](fa_bodies::MAX_FILE_BYTES) bytes; `Memory` that memory was refused. The tree is then as it was.
     ///
-    /// Time and memory in the bytes of the name and the body.
+    /// Time and memory in the bytes of the name and the body; and time in all names of the tree, unless the parent is the root
+    /// (whether it is linked is looked for).
     pub fn add(
         &mut self,
         parent: FileId,
@@ -88,7 +90,7 @@ impl Tree {
         bits: u16,
         body: &[u8],
     ) -> Result<FileId, StepError>
-        requires bits { bits ≤ 511 }
+        requires bits { bits ≤ all_bits }
         ensures number { IfOk result (λ file. file ≡ length self.old.store.files) }
         ensures added { OnOk result (self.new ≡ tree_added self.old parent name.now (file_of_kind kind bits body.now)) }
         ensures allowed { OnOk result (MayBeAdded self.old parent name.now kind body.now) }
@@ -109,7 +111,7 @@ impl Tree {
     /// is not linked, that the name is there or is not permitted, or that the file is a directory or of no number that the tree
     /// has; `Memory` that memory was refused. The tree is then as it was.
     ///
-    /// Time and memory in the bytes of the name.
+    /// Time and memory in the bytes of the name; and time in all names of the tree, unless the parent is the root.
     pub fn add_link(&mut self, parent: FileId, name: &[u8], file: FileId) -> Result<(), StepError>
         ensures added { OnOk result (self.new ≡ tree_linked self.old parent name.now file) }
         ensures allowed { OnOk result (MayBeLinkedTo self.old parent name.now file) }
@@ -137,7 +139,7 @@ impl Tree {
     fn may_be_linked_to(&self, parent: FileId, name: &[u8], file: FileId) -> bool
         ensures { IsTrue result ↔ MayBeLinkedTo self.now parent name.now file }
     {
-        self.stored.may_be_made(parent, name) && is_name(name) && self.stored.is_other(file)
+        self.stored.may_be_made(parent, name) && is_name(name) && self.stored.is_non_directory(file)
     }
 }
 

@@ -1,5 +1,5 @@
 -- What is stored of a tree, as a value: all but the nodes.
-use Rattle.std.specs.Prelude.{ℕ, false, List}
+use Rattle.std.specs.Prelude.{ℕ, Bool, false, List}
 use Rattle.std.specs.Ordering.{nat_cmp}
 use Rattle.std.specs.FinMap as map
 use Rattle.std.specs.FinMap.{FinMap}
@@ -9,6 +9,7 @@ use Rattle.fa_tree.specs.Resolved.{Resolved}
 use Rattle.fa_tree.specs.Edits.{Edit, names_after, handles_after}
 use Rattle.fa_tree.specs.Opening.{opened}
 use Rattle.fa_tree.specs.Changes.{edits, files_after}
+use Rattle.fa_tree.specs.Opening.{with_opened}
 
 pub record StoredShown : Type 0 where
   pub store : Store
@@ -43,3 +44,10 @@ stored_with files t = record { store = record { names = t.store.names; files = f
 -- with a directory opened by the request of this number
 abbrev pub stored_opened : (asked directory : ℕ) → StoredShown → StoredShown
 stored_opened asked directory t = record { store = t.store; handles = map.insert t.handles asked (opened t.store.names directory) }
+
+-- after a request that empties no file, with what an answer to the request of this number adds
+abbrev pub stored_noted : Resolved → PlainBody → (asked : ℕ) → (opens : Bool) → (count : ℕ) → StoredShown → StoredShown
+stored_noted x body asked opens count t = record {
+  store = (stored_changed x body count t).store;
+  handles = with_opened (stored_changed x body count t).store x body asked opens (stored_changed x body count t).handles;
+}

@@ -68,7 +68,8 @@ returns-in_default-other-2-clause-changed c = λ handle count.
 pub returns-in_default : goal.returns-in_default
 returns-in_default c = record {
   changed = λ handle count.
-      still_changed c.args.self.now (named_shown c.args.named.now handle) (body_shown c.args.body.now) count c.requires.known (kept c.args.body.now refl);
+      still_changed c.args.self.now (named_shown c.args.named.now handle) (body_shown c.args.body.now) count c.requires.covered (kept c.args.body.now refl);
+  memory = tt;
   unchanged = tt;
 }
   where

@@ -1,0 +1,61 @@
+-- The call at a place of a list, and what it lists.
+use Rattle.std.proofs.Common.{◌≡◌, ◌<◌, ℕ, List, length, map, slice_get, slice_index_or, Option, None, Some, refl, sym, subst, ap, ◌∙◌}
+use Rattle.std.specs.Prelude.{option_map}
+use Rattle.std.proofs.Math.Logic.{∥∥₁_elim}
+use Rattle.std.proofs.lemmas.Option.{slice_get-map, slice_get-get_or, same_Some}
+use Rattle.fa_capture.specs.Message.{Message}
+use Rattle.fa_bodies.specs.Requests.{PlainBody, PlainRequest}
+use Rattle.fa_bodies.specs.Requests.PlainBody.{Lookup, Getattr, Setattr, Readlink, Symlink, Mknod, Mkdir, Unlink, Rmdir, Rename, Link, Open, Opendir, Create}
+use Rattle.fa_session.specs.Events.{PlainEvent}
+use Rattle.fa_ledger.specs.Calls.{PlainCall, call_shown, AreCalls}
+use Rattle.fa_ledger.specs.Listings.{offset_asked, IsListingIfAny}
+use Rattle.fa_ledger.specs.Passing.{AreGood}
+use Rattle.fa_ledger.specs.declared.call.Call.{Call}
+use Rattle.fa_ledger.specs.declared.call.Listing.{Listing}
+use Rattle.fa_ledger.proofs.CallerLemmas.{call_at}
+use Rattle.fa_tree.specs.Covered.{IsCoveredBody}
+use Rattle.fa_tree.specs.Steps.{OfCallAt}
+
+-- what a place of the list shows
+pub shown_at : (calls : List Call) (k : ℕ) (call : Call) → k < length calls → call ≡ slice_index_or calls k call
+    → slice_get (map call_shown calls) k ≡ Some (call_shown call)
+shown_at calls k call within is =
+    slice_get-map call_shown calls k ∙ ap (option_map call_shown) (slice_get-get_or calls k call within) ∙ ap (λ x. Some (call_shown x)) (sym is)
+
+-- what holds of the call that is there
+pub of_call : (calls : List PlainCall) (k : ℕ) (call : PlainCall) (Such : PlainCall → Type 0) → slice_get calls k ≡ Some call → Such call → OfCallAt calls k Such
+of_call calls k call Such there such other other_there = subst Such (same_Some call other (sym there ∙ other_there)) such
+
+-- a request whose step is made does not list
+unasked : (b : PlainBody) → IsCoveredBody b → offset_asked b ≡ None
+unasked (Lookup name) known = refl
+unasked (Getattr g) known = refl
+unasked (Setattr a) known = refl
+unasked Readlink known = refl
+unasked (Symlink name target) known = refl
+unasked (Mknod mode rdev umask name) known = refl
+unasked (Mkdir mode umask name) known = refl
+unasked (Unlink name) known = refl
+unasked (Rmdir name) known = refl
+unasked (Rename newdir old_name new_name) known = refl
+unasked (Link oldnodeid new_name) known = refl
+unasked (Open o) known = refl
+unasked (Opendir o) known = refl
+unasked (Create flags mode umask name) known = refl
+unasked other known = absurd known
+
+unlisting : (es : List PlainEvent) (r : PlainRequest) (listing : Listing) → offset_asked r.body ≡ None → IsListingIfAny es r (Some listing) → ⊥
+unlisting es r listing none is = let clash = sym none ∙ is.asks in absurd cc
+
+-- and so its call has no listing
+pub unlisted : (calls : List PlainCall) (messages k : ℕ) (call : PlainCall)
+    → ∥ ((c : List Message) × AreGood c × (messages ≡ length c) × AreCalls c calls) ∥₁
+    → slice_get calls k ≡ Some call → IsCoveredBody call.request.body → call.listing ≡ None
+unlisted calls messages k call good there known = by call.listing refl
+  where
+    by : (listing : Option Listing) → call.listing ≡ listing → call.listing ≡ None
+    by None is = is
+    by (Some listing) is =
+        absurd (∥∥₁_elim good (λ x y. absurd x) (λ some.
+        let asked = (call_at some.3.events calls some.3.exact.each k call there).asked in
+        unlisting _ call.request listing (unasked call.request.body known) (subst (IsListingIfAny _ call.request) is asked.listing)))
