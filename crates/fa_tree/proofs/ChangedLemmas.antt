@@ -1,22 +1,21 @@
 -- What a request makes of what is stored, arm by arm.
-use Rattle.std.proofs.Common.{◌≡◌, ℕ, true, List, [], Option, None, Some, refl, sym, ap, subst}
+use Rattle.std.proofs.Common.{◌≡◌, ℕ, Bool, true, false, if◌then◌else◌, List, [], Option, None, Some, refl, sym, ap, subst, ◌∙◌}
 use Rattle.std.specs.Ordering.{nat_cmp}
 use Rattle.std.specs.FinMap.{FinMap, get, insert}
 use Rattle.fa_bodies.specs.declared.flags.OpenFlags.{OpenFlags}
 use Rattle.fa_bodies.specs.declared.handles.OpenIn.{OpenIn}
-use Rattle.fa_bodies.specs.declared.mode.Mode.{Mode}
 use Rattle.fa_bodies.specs.declared.setattr.SetattrIn.{SetattrIn}
 use Rattle.fa_bodies.specs.Requests.{PlainBody}
-use Rattle.fa_bodies.specs.Requests.PlainBody.{Lookup, Getattr, Setattr, Readlink, Symlink, Mknod, Mkdir, Unlink, Rmdir, Rename, Link, Open, Opendir, Create}
-use Rattle.fa_tree.specs.State.{Store, OpenDirectory, IsFree}
+use Rattle.fa_bodies.specs.Requests.PlainBody.{Lookup, Getattr, Setattr, Readlink, Symlink, Mknod, Mkdir, Unlink, Rmdir, Rename, Link, Open, Read, Write, Opendir, Create}
+use Rattle.fa_tree.specs.State.{File, Store, OpenDirectory, IsFree}
 use Rattle.fa_tree.specs.Resolved.{Resolved, OfOther}
 use Rattle.fa_tree.specs.Edits.{open_after, handles_after}
 use Rattle.fa_tree.specs.Opening.{opened}
 use Rattle.fa_tree.specs.Lookups.{file_set}
-use Rattle.fa_tree.specs.Making.{MayBeMade, MayBeCreated}
-use Rattle.fa_tree.specs.Changes.{with_file}
+use Rattle.fa_tree.specs.Making.{MayBeMade, MayBeCreated, emptied}
+use Rattle.fa_tree.specs.Changes.{with_file, file_written, files_created}
 use Rattle.fa_tree.specs.Covered.{IsCoveredBody}
-use Rattle.fa_tree.specs.parts.StoredParts.{StoredShown, stored_changed, stored_with, stored_opened, stored_noted}
+use Rattle.fa_tree.specs.parts.StoredParts.{StoredShown, stored_changed, stored_created, stored_with, stored_opened, stored_noted}
 use Rattle.fa_tree.proofs.EditedLemmas.{each_same}
 
 -- a second file that is named is such
@@ -41,23 +40,40 @@ still_open t store =
     ap with (sym (stays_open t.handles))
 
 -- SETATTR
-pub setattr_changed : (t : StoredShown) (x : Resolved) (a : SetattrIn) (count : ℕ)
-    → stored_with (with_file t.store.files x.node (file_set a)) t ≡ stored_changed x (Setattr a) count t
-setattr_changed t x a count = still_open t (record { names = t.store.names; files = with_file t.store.files x.node (file_set a) })
+pub setattr_changed : (t : StoredShown) (x : Resolved) (truncates : Bool) (a : SetattrIn) (count : ℕ)
+    → stored_with (with_file t.store.files x.node (file_set a)) t ≡ stored_changed x truncates (Setattr a) count t
+setattr_changed t x truncates a count = still_open t (record { names = t.store.names; files = with_file t.store.files x.node (file_set a) })
+
+-- OPEN
+pub open_changed : (t : StoredShown) (x : Resolved) (truncates : Bool) (o : OpenIn) (count : ℕ)
+    → stored_with (if truncates then with_file t.store.files x.node emptied else t.store.files) t ≡ stored_changed x truncates (Open o) count t
+open_changed t x truncates o count = still_open t (record { names = t.store.names; files = (if truncates then with_file t.store.files x.node emptied else t.store.files) })
+
+-- WRITE
+pub write_changed : (t : StoredShown) (x : Resolved) (truncates : Bool) (fh offset size write_flags lock_owner : ℕ) (flags : OpenFlags) (payload : List ℕ) (count : ℕ)
+    → stored_with (with_file t.store.files x.node (file_written offset payload count)) t
+    ≡ stored_changed x truncates (Write fh offset size write_flags lock_owner flags payload) count t
+write_changed t x truncates fh offset size write_flags lock_owner flags payload count =
+    still_open t (record { names = t.store.names; files = with_file t.store.files x.node (file_written offset payload count) })
 
 -- CREATE of a name that is there
-created_there : (t : StoredShown) (x : Resolved) (flags : OpenFlags) (mode : Mode) (umask : ℕ) (name : List ℕ) (count : ℕ) (found : Option ℕ)
-    → get t.store.names (x.node, name) ≡ found → (found ≡ None → ⊥) → t ≡ stored_changed x (Create flags mode umask name) count t
-created_there t x flags mode umask name count None is there = absurd (there refl)
-created_there t x flags mode umask name count (Some file) is there = rw (is) (still_open t t.store)
+created_there : (files : List File) (truncates : Bool) (new : File) (number : ℕ)
+    → (if truncates then with_file files number emptied else files) ≡ files_created files truncates new (Some number)
+created_there files true new number = refl
+created_there files false new number = refl
 
-pub create_changed : (t : StoredShown) (x : Resolved) (flags : OpenFlags) (mode : Mode) (umask : ℕ) (name : List ℕ) (count : ℕ)
-    → (get t.store.names (x.node, name) ≡ None → ⊥) → t ≡ stored_changed x (Create flags mode umask name) count t
-create_changed t x flags mode umask name count there = created_there t x flags mode umask name count (get t.store.names (x.node, name)) refl there
+pub created_found : (t : StoredShown) (directory : ℕ) (name : List ℕ) (truncates : Bool) (new : File) (number : ℕ)
+    → get t.store.names (directory, name) ≡ Some number
+    → stored_with (if truncates then with_file t.store.files number emptied else t.store.files) t ≡ stored_created directory name truncates new t
+created_found t directory name truncates new number is =
+    rw (is) (ap (λ files. stored_with files t) (created_there t.store.files truncates new number)
+    ∙ still_open t (record { names = t.store.names; files = files_created t.store.files truncates new (Some number) }))
 
 -- requests that leave what is stored
 abbrev pub IsStill : PlainBody → Type 0
 IsStill (Setattr a) = ⊥
+IsStill (Open o) = ⊥
+IsStill (Write fh offset size write_flags lock_owner flags payload) = ⊥
 IsStill (Symlink name target) = ⊥
 IsStill (Mknod mode rdev umask name) = ⊥
 IsStill (Mkdir mode umask name) = ⊥
@@ -68,27 +84,29 @@ IsStill (Link oldnodeid new_name) = ⊥
 IsStill (Create flags mode umask name) = ⊥
 IsStill body = Unit {0}
 
-pub still_changed : (t : StoredShown) (x : Resolved) (body : PlainBody) (count : ℕ) → IsCoveredBody body → IsStill body → t ≡ stored_changed x body count t
-still_changed t x (Lookup name) count known still = still_open t t.store
-still_changed t x (Getattr g) count known still = still_open t t.store
-still_changed t x Readlink count known still = still_open t t.store
-still_changed t x (Open o) count known still = still_open t t.store
-still_changed t x (Opendir o) count known still = still_open t t.store
-still_changed t x (Setattr a) count known still = absurd still
-still_changed t x (Symlink name target) count known still = absurd still
-still_changed t x (Mknod mode rdev umask name) count known still = absurd still
-still_changed t x (Mkdir mode umask name) count known still = absurd still
-still_changed t x (Unlink name) count known still = absurd still
-still_changed t x (Rmdir name) count known still = absurd still
-still_changed t x (Rename newdir old_name new_name) count known still = absurd still
-still_changed t x (Link oldnodeid new_name) count known still = absurd still
-still_changed t x (Create flags mode umask name) count known still = absurd still
-still_changed t x body count known still = absurd known
+pub still_changed : (t : StoredShown) (x : Resolved) (truncates : Bool) (body : PlainBody) (count : ℕ) → IsCoveredBody body → IsStill body → t ≡ stored_changed x truncates body count t
+still_changed t x truncates (Lookup name) count known still = still_open t t.store
+still_changed t x truncates (Getattr g) count known still = still_open t t.store
+still_changed t x truncates Readlink count known still = still_open t t.store
+still_changed t x truncates (Read r) count known still = still_open t t.store
+still_changed t x truncates (Opendir o) count known still = still_open t t.store
+still_changed t x truncates (Setattr a) count known still = absurd still
+still_changed t x truncates (Open o) count known still = absurd still
+still_changed t x truncates (Write fh offset size write_flags lock_owner flags payload) count known still = absurd still
+still_changed t x truncates (Symlink name target) count known still = absurd still
+still_changed t x truncates (Mknod mode rdev umask name) count known still = absurd still
+still_changed t x truncates (Mkdir mode umask name) count known still = absurd still
+still_changed t x truncates (Unlink name) count known still = absurd still
+still_changed t x truncates (Rmdir name) count known still = absurd still
+still_changed t x truncates (Rename newdir old_name new_name) count known still = absurd still
+still_changed t x truncates (Link oldnodeid new_name) count known still = absurd still
+still_changed t x truncates (Create flags mode umask name) count known still = absurd still
+still_changed t x truncates body count known still = absurd known
 
 -- ---- a directory that is opened
 
-pub opendir_noted : (t : StoredShown) (x : Resolved) (o : OpenIn) (asked count : ℕ)
-    → stored_opened asked x.node t ≡ stored_noted x (Opendir o) asked true count t
-opendir_noted t x o asked count =
+pub opendir_noted : (t : StoredShown) (x : Resolved) (truncates : Bool) (o : OpenIn) (asked count : ℕ)
+    → stored_opened asked x.node t ≡ stored_noted x truncates (Opendir o) asked true count t
+opendir_noted t x truncates o asked count =
     let with : FinMap nat_cmp OpenDirectory → StoredShown = λ handles. record { store = t.store; handles = insert handles asked (opened t.store.names x.node) } in
     ap with (sym (stays_open t.handles))

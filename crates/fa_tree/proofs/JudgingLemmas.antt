@@ -1,11 +1,12 @@
 -- The file that an answer speaks of, and what its attributes are judged by, after a request.
-use Rattle.std.proofs.Common.{◌≡◌, ℕ, zero, suc, ◌+◌, ◌==◌, Bool, true, false, cond, List, [], ◌∷◌, ◌++◌, length, slice_get, slice_set, count_by, Option, None, Some, refl, sym, ap, subst, ◌∙◌, arith, eq-eqb, eqb-true}
-use Rattle.std.specs.Prelude.{◌↔◌, IsTrue, IfSome, IfNone, if◌then◌else◌}
+use Rattle.std.proofs.Common.{◌≡◌, ℕ, ◌+◌, ◌==◌, Bool, true, false, cond, List, [], ◌∷◌, ◌++◌, length, slice_get, count_by, Option, None, Some, refl, sym, ap, subst, ◌∙◌, arith, eq-eqb}
+use Rattle.std.specs.Prelude.{replicate, ◌-◌, ◌↔◌, IsTrue, IfSome, IfNone, if◌then◌else◌}
 use Rattle.std.specs.Option.{option_map_or}
 use Rattle.std.specs.Ordering.{is_eq}
 use Rattle.std.specs.declared.cmp.Ordering.TheVariants.{Less, Equal, Greater}
 use Rattle.std.specs.FinMap.{get, insert, entries, find, put, get-insert, get-entries, entries-insert}
 use Rattle.std.specs.FinMap.Entries.{by_order}
+use Rattle.std.proofs.lemmas.List.{length-take, length-append, length-replicate}
 use Rattle.std.proofs.lemmas.List.Sums.{sum_by-cons}
 use Rattle.fa_bodies.specs.declared.attributes.Attributes.{Attributes}
 use Rattle.fa_bodies.specs.declared.attributes.AttrOut.{AttrOut}
@@ -15,7 +16,7 @@ use Rattle.fa_bodies.specs.declared.mode.Kind.{Kind}
 use Rattle.fa_bodies.specs.declared.mode.Kind.TheVariants.{Regular}
 use Rattle.fa_bodies.specs.declared.setattr.SetattrIn.{SetattrIn}
 use Rattle.fa_bodies.specs.FlagBits.{fattr_size}
-use Rattle.fa_bodies.specs.Flags.{HasFlag, has_flag, fattr_bits}
+use Rattle.fa_bodies.specs.Flags.{has_flag, fattr_bits}
 use Rattle.fa_bodies.specs.Modes.{type_number}
 use Rattle.fa_bodies.specs.Replies.PlainReply.{Entry, Created, Attributes as AttributesReply}
 use Rattle.fa_bodies.specs.Requests.{PlainBody}
@@ -23,7 +24,8 @@ use Rattle.fa_bodies.specs.Requests.PlainBody.{Lookup, Getattr, Setattr, Symlink
 use Rattle.fa_tree.specs.State.{File, Store, Place, place_cmp, IsFree, links}
 use Rattle.fa_tree.specs.Attributes.{Fits}
 use Rattle.fa_tree.specs.Changes.{with_file, files_created}
-use Rattle.fa_tree.specs.Contents.{resized}
+use Rattle.fa_tree.specs.Contents.{filled, resized}
+use Rattle.fa_tree.specs.Making.{emptied}
 use Rattle.fa_tree.specs.Edits.{names_after}
 use Rattle.fa_tree.specs.Edits.Edit.{Added}
 use Rattle.fa_tree.specs.Lookups.{bits_set, file_set}
@@ -33,10 +35,11 @@ use Rattle.fa_tree.specs.Linking.{MayBeLinked}
 use Rattle.fa_tree.specs.Resolved.{Resolved, OfOther}
 use Rattle.fa_tree.specs.Shape.{IsTree}
 use Rattle.fa_tree.specs.declared.facts.Facts.{Facts}
-use Rattle.fa_tree.specs.parts.FactParts.{AreFactsOf, AreFit, AreFactsIfAny, AreNewFacts, AreFurtherFacts, AreSetFacts, AreCreatedFacts, IsFoundOrNext, SpokenFit, IsLookup, spoken_of}
+use Rattle.fa_tree.specs.parts.FactParts.{size_set, AreOpenedFacts, AreFactsOf, AreFit, AreFactsIfAny, AreNewFacts, AreFurtherFacts, AreSetFacts, AreCreatedFacts, IsFoundOrNext, SpokenFit, IsLookup, spoken_of}
 use Rattle.fa_tree.specs.parts.ShapeParts.{parent_in, parent_of}
 use Rattle.fa_tree.proofs.PlaceOrderLemmas.{place_self}
 use Rattle.fa_tree.specs.parts.PlaceLaws.{place_cmp_total}
+use Rattle.fa_tree.proofs.StoredChangeLemmas.{with_there, with_none}
 use Rattle.fa_tree.proofs.WalkLemmas.{parent_is}
 
 -- ---- how many names a file has
@@ -183,23 +186,43 @@ linked_file s directory name (Some file) may = sym (found_after s directory name
 -- ---- CREATE
 
 -- what CREATE leaves, by the file that has the name
-abbrev created : Store → (directory : ℕ) → (name : List ℕ) → (new : File) → Option ℕ → Store
-created s directory name new found = record {
+abbrev created : Store → (truncates : Bool) → (directory : ℕ) → (name : List ℕ) → (new : File) → Option ℕ → Store
+created s truncates directory name new found = record {
   names = names_after (option_map_or (λ file. []) found (Added directory name (length s.files) ∷ [])) s.names;
-  files = files_created s.files false new found;
+  files = files_created s.files truncates new found;
 }
 
--- the facts of the file that it finds or makes
-pub created_facts : (s : Store) (directory : ℕ) (name : List ℕ) (new : File) (bits : ℕ) (facts : Option Facts) (found : Option ℕ) → get s.names (directory, name) ≡ found
-    → new.kind ≡ Regular → new.bytes ≡ [] → bits ≡ new.bits → AreCreatedFacts s found bits facts
-    → AreFactsIfAny (created s directory name new found) (get (created s directory name new found).names (directory, name)) facts
-created_facts s directory name new bits None (Some file) is kind bytes same_bits none = λ other also.
-    let both : Some file ≡ Some other = sym is ∙ also in
-    let same : file ≡ other = cc in
+-- the facts of a file that is opened
+opened_facts : (s : Store) (truncates : Bool) (new : File) (number : ℕ) (facts : Option Facts) → AreOpenedFacts s truncates number facts
+    → AreFactsIfAny (record { names = s.names; files = files_created s.files truncates new (Some number) }) (Some number) facts
+opened_facts s true new number None none = λ other is.
+    let same : number ≡ other = (let both : Some number ≡ Some other = is in cc) in
+    subst (λ n. slice_get (with_file s.files number emptied) n ≡ None) same (with_none s.files number emptied none)
+opened_facts s false new number None none = λ other is.
+    let same : number ≡ other = (let both : Some number ≡ Some other = is in cc) in
     subst (λ n. slice_get s.files n ≡ None) same none
-created_facts s directory name new bits (Some facts) (Some file) is kind bytes same_bits are = (file, is, are)
-created_facts s directory name new bits None None is kind bytes same_bits are = absurd are
-created_facts s directory name new bits (Some facts) None is kind bytes same_bits are =
+opened_facts s true new number (Some facts) (before, are, same) = (
+  number,
+  refl,
+  record {
+    file = emptied are.file;
+    there = with_there s.files number are.file emptied are.there;
+    kind = ap (λ (f : Facts). f.kind) same ∙ are.kind;
+    bits = ap (λ (f : Facts). f.bits) same ∙ are.bits;
+    size = ap (λ (f : Facts). f.size) same;
+    names = are.names ∙ sym (ap (λ (f : Facts). f.links + (if f.further then 1 else 0)) same);
+  },
+)
+opened_facts s false new number (Some facts) (before, are, same) = (number, refl, subst (AreFactsOf s number) (sym same) are)
+
+-- the facts of the file that it finds or makes
+pub created_facts : (s : Store) (truncates : Bool) (directory : ℕ) (name : List ℕ) (new : File) (bits : ℕ) (facts : Option Facts) (found : Option ℕ) → get s.names (directory, name) ≡ found
+    → new.kind ≡ Regular → new.bytes ≡ [] → bits ≡ new.bits → AreCreatedFacts s truncates found bits facts
+    → AreFactsIfAny (created s truncates directory name new found) (get (created s truncates directory name new found).names (directory, name)) facts
+created_facts s truncates directory name new bits facts (Some file) is kind bytes same_bits are =
+    subst (λ found. AreFactsIfAny (created s truncates directory name new (Some file)) found facts) (sym is) (opened_facts s truncates new file facts are)
+created_facts s truncates directory name new bits None None is kind bytes same_bits are = absurd are
+created_facts s truncates directory name new bits (Some facts) None is kind bytes same_bits are =
     made_facts s directory name new facts is (record {
       kind_is = are.kind_is ∙ sym kind;
       bits_are = are.bits_are ∙ same_bits;
@@ -209,47 +232,36 @@ created_facts s directory name new bits (Some facts) None is kind bytes same_bit
     })
 
 -- the file that it finds or makes
-pub created_file : (s : Store) (directory : ℕ) (name : List ℕ) (new : File) (file : ℕ) (found : Option ℕ) → get s.names (directory, name) ≡ found
-    → IsFoundOrNext s found file → Some file ≡ get (created s directory name new found).names (directory, name)
-created_file s directory name new file (Some other) is same = ap (λ n. Some n) same ∙ sym is
-created_file s directory name new file None is same = ap (λ n. Some n) same ∙ sym (found_after s directory name (length s.files))
+pub created_file : (s : Store) (truncates : Bool) (directory : ℕ) (name : List ℕ) (new : File) (file : ℕ) (found : Option ℕ) → get s.names (directory, name) ≡ found
+    → IsFoundOrNext s found file → Some file ≡ get (created s truncates directory name new found).names (directory, name)
+created_file s truncates directory name new file (Some other) is same = ap (λ n. Some n) same ∙ sym is
+created_file s truncates directory name new file None is same = ap (λ n. Some n) same ∙ sym (found_after s directory name (length s.files))
 
 -- ---- SETATTR
 
--- what is set is there
-set_there : (files : List File) (number : ℕ) (file new : File) → slice_get files number ≡ Some file → slice_get (slice_set files number new) number ≡ Some new
-set_there [] number file new is = absurd cc
-set_there (f ∷ files) zero file new is = refl
-set_there (f ∷ files) (suc number) file new is = set_there files number file new is
+-- bytes that are cut or filled up have the length
+resized_length : (bytes : List ℕ) (size : ℕ) → length (resized bytes size) ≡ size
+resized_length bytes size =
+    let taken = length-take size (filled bytes size) in
+    let joined = length-append bytes (replicate (size - length bytes) 0) in
+    let zeros = length-replicate {A = ℕ} (size - length bytes) 0 in
+    omega (arith, taken, joined, zeros)
 
--- a file that a change was made of is there
-with_there : (files : List File) (number : ℕ) (file : File) (change : File → File) → slice_get files number ≡ Some file
-    → slice_get (with_file files number change) number ≡ Some (change file)
-with_there files number file change is =
-    ap (λ o. slice_get (option_map_or (λ f. slice_set files number (change f)) o files) number) is ∙ set_there files number file (change file) is
-
--- where there was none there is none
-with_none : (files : List File) (number : ℕ) (change : File → File) → slice_get files number ≡ None
-    → slice_get (with_file files number change) number ≡ None
-with_none files number change is =
-    ap (λ o. slice_get (option_map_or (λ f. slice_set files number (change f)) o files) number) is ∙ is
-
--- a file of which no size is set stays as long
-as_long : (a : SetattrIn) (file : File) → (HasFlag (fattr_bits a.valid) fattr_size → ⊥) → length (file_set a file).bytes ≡ length file.bytes
-as_long a file none = by (has_flag (fattr_bits a.valid) fattr_size) refl
+-- a file is as long after SETATTR as that says
+as_long : (a : SetattrIn) (file : File) → length (file_set a file).bytes ≡ size_set a (length file.bytes)
+as_long a file = by (has_flag (fattr_bits a.valid) fattr_size)
   where
-    by : (b : Bool) → has_flag (fattr_bits a.valid) fattr_size ≡ b → length (if b then resized file.bytes a.size else file.bytes) ≡ length file.bytes
-    by true is = absurd (none (eqb-true _ _ is))
-    by false is = refl
+    by : (b : Bool) → length (if b then resized file.bytes a.size else file.bytes) ≡ (if b then a.size else length file.bytes)
+    by true = resized_length file.bytes a.size
+    by false = refl
 
 -- the facts of a file after SETATTR
-pub set_facts : (s : Store) (a : SetattrIn) (number : ℕ) (facts : Option Facts) → (HasFlag (fattr_bits a.valid) fattr_size → ⊥)
-    → AreSetFacts s a number facts
+pub set_facts : (s : Store) (a : SetattrIn) (number : ℕ) (facts : Option Facts) → AreSetFacts s a number facts
     → AreFactsIfAny (record { names = s.names; files = with_file s.files number (file_set a) }) (Some number) facts
-set_facts s a number None none are = λ other is.
+set_facts s a number None are = λ other is.
     let same : number ≡ other = (let both : Some number ≡ Some other = is in cc) in
     subst (λ n. slice_get (with_file s.files number (file_set a)) n ≡ None) same (with_none s.files number (file_set a) are)
-set_facts s a number (Some facts) none (before, are, plain, same) = (
+set_facts s a number (Some facts) (before, are, plain, same) = (
   number,
   refl,
   record {
@@ -257,7 +269,7 @@ set_facts s a number (Some facts) none (before, are, plain, same) = (
     there = with_there s.files number are.file (file_set a) are.there;
     kind = ap (λ (f : Facts). f.kind) same ∙ are.kind;
     bits = ap (λ (f : Facts). f.bits) same ∙ (λ i. bits_set a (are.kind i) (are.bits i));
-    size = ap (λ (f : Facts). f.size) same ∙ are.size ∙ sym (as_long a are.file none);
+    size = ap (λ (f : Facts). f.size) same ∙ ap (size_set a) are.size ∙ sym (as_long a are.file);
     names = are.names ∙ ap (λ b. before.links + (if b then 1 else 0)) plain ∙ sym (ap (λ (f : Facts). f.links + (if f.further then 1 else 0)) same);
   },
 )

@@ -2,6 +2,7 @@ pub mod BindingLemmas
 pub mod CauseLemmas
 pub mod ChangeLemmas
 pub mod ChangedLemmas
+pub mod ContentsLemmas
 pub mod EditedLemmas
 pub mod FileLemmas
 pub mod JudgeLemmas

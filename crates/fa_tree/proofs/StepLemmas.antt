@@ -5,7 +5,7 @@ use Rattle.std.proofs.Math.Logic.{∥∥₁_elim}
 use Rattle.std.proofs.lemmas.Option.{slice_get-map, slice_get-get_or, same_Some}
 use Rattle.fa_capture.specs.Message.{Message}
 use Rattle.fa_bodies.specs.Requests.{PlainBody, PlainRequest}
-use Rattle.fa_bodies.specs.Requests.PlainBody.{Lookup, Getattr, Setattr, Readlink, Symlink, Mknod, Mkdir, Unlink, Rmdir, Rename, Link, Open, Opendir, Create}
+use Rattle.fa_bodies.specs.Requests.PlainBody.{Lookup, Getattr, Setattr, Readlink, Symlink, Mknod, Mkdir, Unlink, Rmdir, Rename, Link, Open, Read, Write, Opendir, Create}
 use Rattle.fa_session.specs.Events.{PlainEvent}
 use Rattle.fa_ledger.specs.Calls.{PlainCall, call_shown, AreCalls}
 use Rattle.fa_ledger.specs.Listings.{offset_asked, IsListingIfAny}
@@ -40,6 +40,8 @@ unasked (Rmdir name) known = refl
 unasked (Rename newdir old_name new_name) known = refl
 unasked (Link oldnodeid new_name) known = refl
 unasked (Open o) known = refl
+unasked (Read r) known = refl
+unasked (Write fh offset size write_flags lock_owner flags payload) known = refl
 unasked (Opendir o) known = refl
 unasked (Create flags mode umask name) known = refl
 unasked other known = absurd known

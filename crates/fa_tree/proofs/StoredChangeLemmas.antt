@@ -3,14 +3,13 @@ use Rattle.std.proofs.Common.{◌≡◌, ℕ, zero, suc, true, false, if◌then�
 use Rattle.std.specs.Prelude.{◌==◌, OnOk, OnErr}
 use Rattle.std.specs.Option.{option_map_or, option_eq}
 use Rattle.std.specs.FinMap.{get}
-use Rattle.std.specs.Int.RustNames.{bit_and}
 use Rattle.std.proofs.lemmas.Bool.{eqb-true}
 use Rattle.std.proofs.lemmas.Bool.Decides.{nat_tests}
 use Rattle.fa_bodies.specs.declared.mode.Kind.{Kind}
 use Rattle.fa_bodies.specs.declared.mode.Kind.TheVariants.{Fifo, CharDevice, Directory, BlockDevice, Regular, Symlink, Socket}
 use Rattle.fa_bodies.specs.declared.setattr.SetattrIn.{SetattrIn}
 use Rattle.fa_bodies.specs.FlagBits.{fattr_mode, fattr_size}
-use Rattle.fa_bodies.specs.Flags.{HasFlag, has_flag, fattr_bits}
+use Rattle.fa_bodies.specs.Flags.{has_flag, fattr_bits}
 use Rattle.fa_tree.specs.State.{File, IsSymlink}
 use Rattle.fa_tree.specs.Contents.{resized}
 use Rattle.fa_tree.specs.Changes.{with_file}
@@ -19,11 +18,10 @@ use Rattle.fa_tree.specs.Edits.Edit.{Added, Removed}
 use Rattle.fa_tree.specs.Lookups.{bits_set, file_set}
 use Rattle.fa_tree.specs.Renaming.{MayBeRenamed, moved, moved_if_any, rename_edits}
 use Rattle.fa_tree.specs.Shape.{IsTree}
-use Rattle.fa_tree.specs.parts.FileParts.{with_bits}
+use Rattle.fa_tree.specs.parts.FileParts.{with_bits, with_bytes}
 use Rattle.fa_tree.specs.parts.NameParts.{NamesShown, edited}
-use Rattle.fa_tree.specs.parts.StoredParts.{StoredShown, stored_edited, stored_with}
+use Rattle.fa_tree.specs.parts.StoredParts.{StoredShown, mode_set, stored_edited, stored_with}
 use Rattle.fa_tree.proofs.EditedLemmas.{each_same}
-use Rattle.fa_tree.proofs.MakingLemmas.{apart}
 use Rattle.fa_tree.proofs.ShapeLemmas.{with_stay, files_keep_tree, removal_keeps_tree, renaming_keeps_tree}
 
 -- ---- names
@@ -95,16 +93,49 @@ with_same files at change same = by (slice_get files at) refl
     by None is = refl
     by (Some file) is = ap (slice_set files at) (same file is) ∙ set_own files at file is
 
--- ---- SETATTR
+-- what is set is there
+set_there : (files : List File) (number : ℕ) (file new : File) → slice_get files number ≡ Some file → slice_get (slice_set files number new) number ≡ Some new
+set_there [] number file new is = absurd cc
+set_there (f ∷ files) zero file new is = refl
+set_there (f ∷ files) (suc number) file new is = set_there files number file new is
 
--- with no size the bytes stay
-size_stays : (a : SetattrIn) (file : File) → (HasFlag (fattr_bits a.valid) fattr_size → ⊥) → file_set a file ≡ with_bits (bits_set a file.kind file.bits) file
-size_stays a file none =
-    λ i. record {
-      kind = file.kind;
-      bits = bits_set a file.kind file.bits;
-      bytes = (if apart (bit_and (fattr_bits a.valid) fattr_size) fattr_size none i then resized file.bytes a.size else file.bytes);
-    }
+-- a file that a change was made of is there
+pub with_there : (files : List File) (number : ℕ) (file : File) (change : File → File) → slice_get files number ≡ Some file
+    → slice_get (with_file files number change) number ≡ Some (change file)
+with_there files number file change is =
+    ap (λ o. slice_get (option_map_or (λ f. slice_set files number (change f)) o files) number) is ∙ set_there files number file (change file) is
+
+-- where there was none there is none
+pub with_none : (files : List File) (number : ℕ) (change : File → File) → slice_get files number ≡ None
+    → slice_get (with_file files number change) number ≡ None
+with_none files number change is =
+    ap (λ o. slice_get (option_map_or (λ f. slice_set files number (change f)) o files) number) is ∙ is
+
+-- what is set twice is set once
+set_twice : (files : List File) (at : ℕ) (f g : File) → slice_set (slice_set files at f) at g ≡ slice_set files at g
+set_twice [] at f g = refl
+set_twice (file ∷ files) zero f g = refl
+set_twice (file ∷ files) (suc at) f g = ap (λ l. file ∷ l) (set_twice files at f g)
+
+-- what a change makes of the files, by the file that is there
+with_of : (files : List File) (at : ℕ) (change : File → File) (found : Option File) → slice_get files at ≡ found
+    → with_file files at change ≡ option_map_or (λ file. slice_set files at (change file)) found files
+with_of files at change found is = ap (λ o. option_map_or (λ file. slice_set files at (change file)) o files) is
+
+-- two changes of a file are one
+with_both : (files : List File) (at : ℕ) (first second : File → File) → with_file (with_file files at first) at second ≡ with_file files at (λ f. second (first f))
+with_both files at first second = by (slice_get files at) refl
+  where
+    by : (found : Option File) → slice_get files at ≡ found → with_file (with_file files at first) at second ≡ with_file files at (λ f. second (first f))
+    by None is =
+        ap (λ l. with_file l at second) (with_of files at first None is) ∙ with_of files at second None is ∙ sym (with_of files at (λ f. second (first f)) None is)
+    by (Some file) is =
+        ap (λ l. with_file l at second) (with_of files at first (Some file) is)
+        ∙ with_of (slice_set files at (first file)) at second (Some (first file)) (set_there files at file (first file) is)
+        ∙ set_twice files at (first file) (second (first file))
+        ∙ sym (with_of files at (λ f. second (first f)) (Some file) is)
+
+-- ---- SETATTR
 
 -- with no mode the permission bits stay
 bits_stay : (a : SetattrIn) (kind : Kind) (bits : ℕ) → has_flag (fattr_bits a.valid) fattr_mode ≡ false → bits_set a kind bits ≡ bits
@@ -116,27 +147,63 @@ bits_stay a BlockDevice bits test = rw (test) refl
 bits_stay a Regular bits test = rw (test) refl
 bits_stay a Socket bits test = rw (test) refl
 
--- a tree stays one where a file has other permission bits
-pub bits_keep_tree : (t : StoredShown) (files : List File) (file bits : ℕ) → IsTree t.store → files ≡ with_file t.store.files file (with_bits bits)
-    → IsTree (record { names = t.store.names; files = files })
-bits_keep_tree t files file bits tree set =
-    rw (set) (files_keep_tree t.store (with_file t.store.files file (with_bits bits)) (with_stay t.store.files file (with_bits bits) (λ f. refl)) tree)
+-- a tree stays one where a file is changed but not its type
+pub change_keeps_tree : (t : StoredShown) (files : List File) (file : ℕ) (change : File → File) → ((f : File) → (change f).kind ≡ f.kind) → IsTree t.store
+    → files ≡ with_file t.store.files file change → IsTree (record { names = t.store.names; files = files })
+change_keeps_tree t files file change kept tree set =
+    rw (set) (files_keep_tree t.store (with_file t.store.files file change) (with_stay t.store.files file change kept) tree)
 
--- SETATTR of no mode leaves all
-pub mode_left : (t : StoredShown) (file : ℕ) (a : SetattrIn) → (HasFlag (fattr_bits a.valid) fattr_size → ⊥) → has_flag (fattr_bits a.valid) fattr_mode ≡ false
-    → t ≡ stored_with (with_file t.store.files file (file_set a)) t
-mode_left t file a none test =
-    ap (λ files. stored_with files t) (sym (with_same t.store.files file (file_set a)
-    (λ f is. size_stays a f none ∙ ap (λ bits. with_bits bits f) (bits_stay a f.kind f.bits test))))
+-- or nothing where memory was refused
+pub changed_or_not : {A E : Type 0} (r : Result A E) (t : StoredShown) (files : List File) (file : ℕ) (change : File → File) → ((f : File) → (change f).kind ≡ f.kind) → IsTree t.store
+    → OnOk r (files ≡ with_file t.store.files file change) → OnErr r (files ≡ t.store.files) → IsTree (record { names = t.store.names; files = files })
+changed_or_not (Ok v) t files file change kept tree set same = change_keeps_tree t files file change kept tree set
+changed_or_not (Err e) t files file change kept tree set same = rw (same) tree
 
--- and so that of a symbolic link
-pub link_left : (t : StoredShown) (file : ℕ) (a : SetattrIn) → (HasFlag (fattr_bits a.valid) fattr_size → ⊥) → IsSymlink t.store file
-    → t ≡ stored_with (with_file t.store.files file (file_set a)) t
-link_left t file a none link =
-    ap (λ files. stored_with files t) (sym (with_same t.store.files file (file_set a)
-    (λ f is. size_stays a f none ∙ ap (λ bits. with_bits bits f) (kept f is))))
+-- no mode leaves a file as it is
+pub mode_left : (t : StoredShown) (file : ℕ) (a : SetattrIn) → has_flag (fattr_bits a.valid) fattr_mode ≡ false
+    → t ≡ stored_with (with_file t.store.files file (mode_set a)) t
+mode_left t file a test =
+    ap (λ files. stored_with files t) (sym (with_same t.store.files file (mode_set a)
+    (λ f is. ap (λ bits. with_bits bits f) (bits_stay a f.kind f.bits test))))
+
+-- and so a symbolic link
+pub link_left : (t : StoredShown) (file : ℕ) (a : SetattrIn) → IsSymlink t.store file → t ≡ stored_with (with_file t.store.files file (mode_set a)) t
+link_left t file a link =
+    ap (λ files. stored_with files t) (sym (with_same t.store.files file (mode_set a) (λ f is. ap (λ bits. with_bits bits f) (kept f is))))
   where
     kept : (f : File) → slice_get t.store.files file ≡ Some f → bits_set a f.kind f.bits ≡ f.bits
     kept f is =
         let same : f ≡ link.0 = (let both : Some f ≡ Some link.0 = sym is ∙ link.1 in cc) in
         ap (λ kind. bits_set a kind f.bits) (ap (λ (x : File). x.kind) same ∙ link.2)
+
+-- bits alone, or after a size
+set_without : (a : SetattrIn) (file : File) → has_flag (fattr_bits a.valid) fattr_size ≡ false → mode_set a file ≡ file_set a file
+set_without a file test = rw (test) refl
+
+set_with : (a : SetattrIn) (file : File) → has_flag (fattr_bits a.valid) fattr_size ≡ true → mode_set a (with_bytes (λ bytes. resized bytes a.size) file) ≡ file_set a file
+set_with a file test = rw (test) refl
+
+-- the same change of each file
+with_alike : (files : List File) (at : ℕ) (f g : File → File) → ((file : File) → f file ≡ g file) → with_file files at f ≡ with_file files at g
+with_alike files at f g same = by (slice_get files at)
+  where
+    by : (found : Option File) → option_map_or (λ file. slice_set files at (f file)) found files ≡ option_map_or (λ file. slice_set files at (g file)) found files
+    by None = refl
+    by (Some file) = ap (slice_set files at) (same file)
+
+-- what SETATTR leaves, without a size
+pub set_mode_only : (old between new : StoredShown) (file : ℕ) (a : SetattrIn) → has_flag (fattr_bits a.valid) fattr_size ≡ false → between ≡ old
+    → new ≡ stored_with (with_file between.store.files file (mode_set a)) between → new ≡ stored_with (with_file old.store.files file (file_set a)) old
+set_mode_only old between new file a test same set =
+    set ∙ ap (λ t. stored_with (with_file t.store.files file (mode_set a)) t) same
+    ∙ ap (λ files. stored_with files old) (with_alike old.store.files file (mode_set a) (file_set a) (λ f. set_without a f test))
+
+-- and with one
+pub set_whole : (old between new : StoredShown) (file : ℕ) (a : SetattrIn) → has_flag (fattr_bits a.valid) fattr_size ≡ true
+    → between ≡ stored_with (with_file old.store.files file (with_bytes (λ bytes. resized bytes a.size))) old
+    → new ≡ stored_with (with_file between.store.files file (mode_set a)) between → new ≡ stored_with (with_file old.store.files file (file_set a)) old
+set_whole old between new file a test same set =
+    set ∙ ap (λ t. stored_with (with_file t.store.files file (mode_set a)) t) same
+    ∙ ap (λ files. stored_with files old)
+    (with_both old.store.files file (with_bytes (λ bytes. resized bytes a.size)) (mode_set a)
+    ∙ with_alike old.store.files file (λ f. mode_set a (with_bytes (λ bytes. resized bytes a.size) f)) (file_set a) (λ f. set_with a f test))

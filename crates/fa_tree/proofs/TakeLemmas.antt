@@ -1,5 +1,5 @@
 -- The tree that a success leaves, in the words of its fields.
-use Rattle.std.proofs.Common.{◌≡◌, ℕ, List, [], ◌∷◌, false, refl, sym, subst}
+use Rattle.std.proofs.Common.{◌≡◌, ℕ, List, [], ◌∷◌, refl, sym, subst}
 use Rattle.std.specs.FinMap.{FinMap}
 use Rattle.fa_bodies.specs.Requests.{PlainBody}
 use Rattle.fa_bodies.specs.Requests.PlainBody.{Forget, Getattr, Setattr, Readlink, Unlink, Rmdir, Open, Read, Release, Flush, Init, Releasedir, BatchForget, Passed}
@@ -20,13 +20,13 @@ use Rattle.fa_tree.specs.parts.StoredParts.{StoredShown, stored_noted}
 -- what is stored after a success, with the nodes after it, is the tree that it leaves
 pub left_tree : (old stored : StoredShown) (before nodes : FinMap node_cmp ℕ) (t : TreeState) (x : Resolved) (q : Question) (asked count : ℕ) (answer : PlainAnswer)
     (given : List (NodeName × ℕ)) → ◌≡◌ {A = TreeState} (record { store = old.store; nodes = before; handles = old.handles }) t
-    → q.truncates ≡ false → stored ≡ stored_noted x q.body asked answer.opens count old
+    → stored ≡ stored_noted x q.truncates q.body asked answer.opens count old
     → given_in (changed t.store x q count) x q.body answer ≡ given → nodes ≡ nodes_after given before
     → ◌≡◌ {A = TreeState} (record { store = stored.store; nodes = nodes; handles = stored.handles }) (noted (tree_changed t x q count) x q.body asked answer)
-left_tree old stored before nodes t x q asked count answer given same plain left is bound =
+left_tree old stored before nodes t x q asked count answer given same left is now =
     subst (λ (v : TreeState). given_in (changed v.store x q count) x q.body answer ≡ given
     → ◌≡◌ {A = TreeState} (record { store = stored.store; nodes = nodes; handles = stored.handles }) (noted (tree_changed v x q count) x q.body asked answer))
-    same (λ told. rw (left, bound, sym told, plain) refl) is
+    same (λ told. rw (left, now, sym told) refl) is
 
 -- without files no name is given for one
 unbound : (names : List NodeName) (given : NodeName × ℕ) → bound names [] ≡ given ∷ [] → ⊥

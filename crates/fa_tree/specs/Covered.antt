@@ -1,16 +1,13 @@
--- The requests that have a step today: those on names and links. Bytes of files and listings come later.
-use Rattle.std.specs.Prelude.{◌≡◌, false}
-use Rattle.fa_bodies.specs.FlagBits.{fattr_size}
-use Rattle.fa_bodies.specs.Flags.{HasFlag, fattr_bits}
+-- The requests that have a step today: all but those that list.
 use Rattle.fa_bodies.specs.Requests.{PlainBody}
-use Rattle.fa_bodies.specs.Requests.PlainBody.{Lookup, Getattr, Setattr, Readlink, Symlink, Mknod, Mkdir, Unlink, Rmdir, Rename, Link, Open, Opendir, Create}
+use Rattle.fa_bodies.specs.Requests.PlainBody.{Lookup, Getattr, Setattr, Readlink, Symlink, Mknod, Mkdir, Unlink, Rmdir, Rename, Link, Open, Read, Write, Opendir, Create}
 use Rattle.fa_tree.specs.Resolved.{Question}
 
--- neither READ, WRITE, READDIR nor READDIRPLUS, and no SETATTR of a size
+-- neither READDIR nor READDIRPLUS
 abbrev pub IsCoveredBody : PlainBody → Type 0
 IsCoveredBody (Lookup name) = Unit {0}
 IsCoveredBody (Getattr g) = Unit {0}
-IsCoveredBody (Setattr a) = HasFlag (fattr_bits a.valid) fattr_size → ⊥
+IsCoveredBody (Setattr a) = Unit {0}
 IsCoveredBody Readlink = Unit {0}
 IsCoveredBody (Symlink name target) = Unit {0}
 IsCoveredBody (Mknod mode rdev umask name) = Unit {0}
@@ -20,10 +17,11 @@ IsCoveredBody (Rmdir name) = Unit {0}
 IsCoveredBody (Rename newdir old_name new_name) = Unit {0}
 IsCoveredBody (Link oldnodeid new_name) = Unit {0}
 IsCoveredBody (Open o) = Unit {0}
+IsCoveredBody (Read r) = Unit {0}
+IsCoveredBody (Write fh offset size write_flags lock_owner flags payload) = Unit {0}
 IsCoveredBody (Opendir o) = Unit {0}
 IsCoveredBody (Create flags mode umask name) = Unit {0}
 IsCoveredBody body = ⊥
 
--- and it empties no file
 abbrev pub IsCovered : Question → Type 0
-IsCovered q = (q.truncates ≡ false) × IsCoveredBody q.body
+IsCovered q = IsCoveredBody q.body

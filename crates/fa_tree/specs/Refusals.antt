@@ -1,11 +1,12 @@
 -- What a refusal says.
-use Rattle.std.specs.Prelude.{◌≡◌, ◌⊎◌, ℕ, List}
+use Rattle.std.specs.Prelude.{◌≡◌, ◌⊎◌, ℕ, List, None}
 use Rattle.fa_capture.specs.Checks.{FirstFailure, AllHold}
 use Rattle.fa_bodies.specs.FlagBits.{fattr_size}
 use Rattle.fa_bodies.specs.Flags.{HasFlag, fattr_bits}
 use Rattle.fa_bodies.specs.Requests.{PlainBody}
 use Rattle.fa_bodies.specs.Requests.PlainBody.{Lookup, Forget, Getattr, Setattr, Readlink, Symlink, Mknod, Mkdir, Unlink, Rmdir, Rename, Link, Open, Read, Write, Release, Flush, Init, Opendir, Readdir, Releasedir, Create, BatchForget, Readdirplus, Passed}
 use Rattle.fa_ledger.specs.Calls.{PlainCall}
+use Rattle.fa_ledger.specs.Listings.{offset_asked}
 use Rattle.fa_tree.specs.Outcomes.{Outcome, outcome}
 use Rattle.fa_tree.specs.Outcomes.Outcome.{Fails, Succeeds, Unanswered}
 use Rattle.fa_tree.specs.declared.error.StepError.{StepError}
@@ -50,8 +51,8 @@ MayTakeMemory (Fails error) body = ⊥
 MayTakeMemory (Succeeds answer) body = MayGrow body
 MayTakeMemory Unanswered body = MayGrow body
 
--- It tells the code of the first of these checks of a call that fails; or it tells want of memory, all of them hold, and the
--- step may take memory.
+-- It tells the code of the first of these checks of a call that fails; or it tells want of memory, the step may take memory, and
+-- all of them hold, unless the call lists: what was listed so far is looked through with memory.
 abbrev pub TellsOf : StepError → PlainCall → List (ℕ × Type 0) → Type 0
 TellsOf (Refused code) call checks = FirstFailure checks code
-TellsOf Memory call checks = AllHold checks × MayTakeMemory (outcome call) call.request.body
+TellsOf Memory call checks = MayTakeMemory (outcome call) call.request.body × (offset_asked call.request.body ≡ None → AllHold checks)

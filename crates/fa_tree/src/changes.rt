@@ -1,6 +1,6 @@
 //! What requests make of what a tree stores.
 
-ghost use Rattle.std.specs.Prelude.{◌≡◌, ◌≢◌, ◌∷◌, [], ℕ, Option, Some, OnOk, OnErr};
+ghost use Rattle.std.specs.Prelude.{◌≡◌, ◌≢◌, ◌∷◌, [], ℕ, if◌then◌else◌, Option, None, Some, OnOk, OnErr};
 ghost use Rattle.std.specs.FinMap.{get};
 ghost use Rattle.fa_bodies.specs.FlagBits.{fattr_size};
 ghost use Rattle.fa_bodies.specs.Flags.{HasFlag, fattr_bits};
@@ -9,12 +9,15 @@ ghost use Rattle.fa_tree.specs.State.{OpenDirectory};
 ghost use Rattle.fa_tree.specs.Edits.Edit.{Removed};
 ghost use Rattle.fa_tree.specs.Lookups.{file_set};
 ghost use Rattle.fa_tree.specs.Renaming.{MayBeRenamed, rename_edits};
-ghost use Rattle.fa_tree.specs.Changes.{with_file};
+ghost use Rattle.fa_tree.specs.Changes.{with_file, file_written};
+ghost use Rattle.fa_tree.specs.Contents.{resized};
+ghost use Rattle.fa_tree.specs.Making.{MayBeMade, emptied, new_regular};
+ghost use Rattle.fa_tree.specs.parts.FileParts.{with_bytes};
 ghost use Rattle.fa_tree.specs.Conditions.{MayBeDone};
 ghost use Rattle.fa_tree.specs.Covered.{IsCoveredBody};
 ghost use Rattle.fa_tree.specs.Refusals.{MayGrow};
 ghost use Rattle.fa_tree.specs.parts.NamedParts.{named_shown};
-ghost use Rattle.fa_tree.specs.parts.StoredParts.{stored_changed, stored_edited, stored_with, stored_opened, stored_noted};
+ghost use Rattle.fa_tree.specs.parts.StoredParts.{mode_set, stored_created, stored_changed, stored_edited, stored_with, stored_opened, stored_noted};
 
 use crate::file::permission_bits;
 use crate::id::FileId;
@@ -22,14 +25,58 @@ use crate::making::{new_directory, new_node, new_regular, new_symlink};
 use crate::named::Named;
 use crate::stored::Stored;
 use bitflags::Flags;
-use fa_bodies::{FattrFlags, RequestBody, SetattrIn};
+use fa_bodies::{FattrFlags, Mode, RequestBody, SetattrIn};
 use std::alloc::AllocError;
 
 impl Stored {
-    /// Sets attributes of a file, but for its size.
-    fn set_attributes(&mut self, file: FileId, setattr: &SetattrIn)
-        requires { HasFlag (fattr_bits setattr.now.valid) fattr_size → ⊥ }
-        ensures { self.new ≡ stored_with (with_file self.old.store.files file (file_set setattr.now)) self.old }
+    /// Cuts a file to this length, or fills it with zeros up to it.
+    fn resize(&mut self, file: FileId, size: u64) -> Result<(), AllocError>
+        ensures resized { OnOk result (self.new ≡ stored_with (with_file self.old.store.files file (with_bytes (λ bytes. resized bytes size))) self.old) }
+        ensures unchanged { OnErr result (self.new ≡ self.old) }
+    {
+        self.files.resize(file, size)
+    }
+
+    /// Sets attributes of a file.
+    fn set_attributes(&mut self, file: FileId, setattr: &SetattrIn) -> Result<(), AllocError>
+        ensures set { OnOk result (self.new ≡ stored_with (with_file self.old.store.files file (file_set setattr.now)) self.old) }
+        ensures grows { OnErr result (HasFlag (fattr_bits setattr.now.valid) fattr_size) }
+        ensures unchanged { OnErr result (self.new ≡ self.old) }
+    {
+        if setattr.valid.contains(FattrFlags::SIZE) {
+            self.resize(file, setattr.size)?;
+        }
+        self.set_mode(file, setattr);
+        Ok(())
+    }
+
+    /// Writes the first bytes of a payload, so many, at an offset of a file.
+    fn write(
+        &mut self,
+        file: FileId,
+        offset: u64,
+        payload: &[u8],
+        count: u32,
+    ) -> Result<(), AllocError>
+        ensures written { OnOk result (self.new ≡ stored_with (with_file self.old.store.files file (file_written offset payload.now count)) self.old) }
+        ensures unchanged { OnErr result (self.new ≡ self.old) }
+    {
+        let count = payload.len().min(count as usize);
+        self.files.write(file, offset, &payload[..count])
+    }
+
+    /// Takes all bytes of a file away, where it is to be emptied.
+    fn empty(&mut self, file: FileId, truncates: bool)
+        ensures { self.new ≡ stored_with (if truncates then with_file self.old.store.files file emptied else self.old.store.files) self.old }
+    {
+        if truncates {
+            self.files.clear(file);
+        }
+    }
+
+    /// Sets the permission bits of a file that SETATTR leaves.
+    fn set_mode(&mut self, file: FileId, setattr: &SetattrIn)
+        ensures { self.new ≡ stored_with (with_file self.old.store.files file (mode_set setattr.now)) self.old }
     {
         if setattr.valid.contains(FattrFlags::MODE) && !self.is_symlink(file) {
             self.files.set_bits(file, permission_bits(setattr.mode));
@@ -74,18 +121,47 @@ impl Stored {
         self.names.open(asked, directory)
     }
 
-    /// Makes the change of a request that may be done.
-    pub(crate) fn change(&mut self, named: &Named, body: &RequestBody<'_>) -> Result<(), AllocError>
+    /// Makes a regular file under a name, or opens the file that has it and empties that where it is to be emptied.
+    fn create(
+        &mut self,
+        directory: FileId,
+        name: &[u8],
+        mode: Mode,
+        umask: u32,
+        truncates: bool,
+    ) -> Result<(), AllocError>
+        requires { get self.old.store.names (directory, name.now) ≡ None → MayBeMade self.old.store directory name.now }
+        ensures created { OnOk result (self.new ≡ stored_created directory name.now truncates (new_regular mode umask) self.old) }
+        ensures unchanged { OnErr result (self.new ≡ self.old) }
+    {
+        match self.find(directory, name) {
+            Some(file) => self.empty(file, truncates),
+            None => {
+                let file = new_regular(self.alloc, mode, umask);
+                self.make(directory, name, file)?;
+            }
+        }
+        Ok(())
+    }
+
+    /// Makes the change of a request that may be done: whether it empties a file that is there, and how many bytes it wrote.
+    pub(crate) fn change(
+        &mut self,
+        named: &Named,
+        body: &RequestBody<'_>,
+        truncates: bool,
+        count: u32,
+    ) -> Result<(), AllocError>
         requires covered { IsCoveredBody (body_shown body.now) }
         requires done { (handle : Option OpenDirectory) → MayBeDone self.old.store (named_shown named.now handle) (body_shown body.now) }
-        ensures changed { OnOk result ((handle : Option OpenDirectory) (count : ℕ) → self.new ≡ stored_changed (named_shown named.now handle) (body_shown body.now) count self.old) }
+        ensures changed { OnOk result ((handle : Option OpenDirectory) → self.new ≡ stored_changed (named_shown named.now handle) truncates (body_shown body.now) count self.old) }
         ensures memory { OnErr result (MayGrow (body_shown body.now)) }
         ensures unchanged { OnErr result (self.new ≡ self.old) }
     {
         let alloc = self.alloc;
         let node = named.node;
         match body {
-            RequestBody::Setattr(setattr) => self.set_attributes(node, setattr),
+            RequestBody::Setattr(setattr) => self.set_attributes(node, setattr)?,
             RequestBody::Symlink { name, target } => {
                 let file = new_symlink(alloc, target)?;
                 self.make(node, name, file)?;
@@ -108,12 +184,7 @@ impl Stored {
                 umask,
                 name,
                 ..
-            } => {
-                if self.find(node, name).is_none() {
-                    let file = new_regular(alloc, *mode, *umask);
-                    self.make(node, name, file)?;
-                }
-            }
+            } => self.create(node, name, *mode, *umask, truncates)?,
             RequestBody::Unlink { name } => self.remove(node, name),
             RequestBody::Rmdir { name } => self.remove(node, name),
             RequestBody::Rename {
@@ -130,6 +201,12 @@ impl Stored {
                     self.link(node, new_name, file)?;
                 }
             }
+            RequestBody::Open(_) => self.empty(node, truncates),
+            RequestBody::Write {
+                offset,
+                payload,
+                ..
+            } => self.write(node, *offset, payload, count)?,
             _ => {}
         }
         Ok(())
@@ -140,18 +217,20 @@ impl Stored {
         &mut self,
         named: &Named,
         body: &RequestBody<'_>,
+        truncates: bool,
+        count: u32,
         asked: u32,
         opens: bool,
     ) -> Result<(), AllocError>
         requires covered { IsCoveredBody (body_shown body.now) }
         requires done { (handle : Option OpenDirectory) → MayBeDone self.old.store (named_shown named.now handle) (body_shown body.now) }
-        ensures left { OnOk result ((handle : Option OpenDirectory) (count : ℕ) → self.new ≡ stored_noted (named_shown named.now handle) (body_shown body.now) asked opens count self.old) }
+        ensures left { OnOk result ((handle : Option OpenDirectory) → self.new ≡ stored_noted (named_shown named.now handle) truncates (body_shown body.now) asked opens count self.old) }
         ensures memory { OnErr result (MayGrow (body_shown body.now)) }
         ensures unchanged { OnErr result (self.new ≡ self.old) }
     {
         match body {
             RequestBody::Opendir(_) if opens => self.open(asked, named.node),
-            _ => self.change(named, body),
+            _ => self.change(named, body, truncates, count),
         }
     }
 }

@@ -4,7 +4,9 @@ ghost use Rattle.std.specs.Prelude.{◌≡◌, ◌-◌, ◌++◌, ◌∷◌, [],
 ghost use Rattle.fa_bodies.specs.declared.mode.Kind.TheVariants.{Directory};
 ghost use Rattle.fa_tree.specs.State as state;
 ghost use Rattle.fa_tree.specs.Changes.{with_file};
-ghost use Rattle.fa_tree.specs.parts.FileParts.{file_shown, with_bits};
+ghost use Rattle.fa_tree.specs.Contents.{resized, written};
+ghost use Rattle.fa_tree.specs.Making.{emptied};
+ghost use Rattle.fa_tree.specs.parts.FileParts.{file_shown, with_bits, with_bytes};
 
 use crate::contents::Contents;
 use crate::file::File;
@@ -82,6 +84,40 @@ impl Files {
     {
         match self.list.get_mut(file.number()) {
             Some(file) => file.bits = bits,
+            None => {}
+        }
+    }
+
+    /// Writes bytes at an offset of a file, if there is one of this number, with zeros between its end and the offset. An error
+    /// says that memory was refused, and nothing is changed. Time in the bytes written and the zeros.
+    pub fn write(&mut self, file: FileId, offset: u64, payload: &[u8]) -> Result<(), AllocError>
+        ensures written { OnOk result (self.new ≡ with_file self.old file (with_bytes (λ bytes. written bytes offset payload.now))) }
+        ensures unchanged { OnErr result (self.new ≡ self.old) }
+    {
+        match self.list.get_mut(file.number()) {
+            Some(file) => file.contents.write(offset, payload),
+            None => Ok(()),
+        }
+    }
+
+    /// Cuts a file to this length, or fills it with zeros up to it, if there is one of this number. An error says that memory was
+    /// refused, and nothing is changed.
+    pub fn resize(&mut self, file: FileId, size: u64) -> Result<(), AllocError>
+        ensures resized { OnOk result (self.new ≡ with_file self.old file (with_bytes (λ bytes. resized bytes size))) }
+        ensures unchanged { OnErr result (self.new ≡ self.old) }
+    {
+        match self.list.get_mut(file.number()) {
+            Some(file) => file.contents.resize(size),
+            None => Ok(()),
+        }
+    }
+
+    /// Takes all bytes of a file away, if there is one of this number.
+    pub fn clear(&mut self, file: FileId)
+        ensures { self.new ≡ with_file self.old file emptied }
+    {
+        match self.list.get_mut(file.number()) {
+            Some(file) => file.contents.clear(),
             None => {}
         }
     }

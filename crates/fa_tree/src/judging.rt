@@ -16,10 +16,11 @@ ghost use Rattle.fa_tree.specs.Conditions.{MayBeDone};
 ghost use Rattle.fa_tree.specs.Changes.{changed};
 ghost use Rattle.fa_tree.specs.Answers.{IsAnswerTo, FindsAsSaid};
 ghost use Rattle.fa_tree.specs.Judging.{AttributesFit, BytesFit, BytesAre, entry_file};
+ghost use Rattle.fa_tree.specs.Contents.{IsReadFrom};
 ghost use Rattle.fa_tree.specs.Covered.{IsCovered, IsCoveredBody};
 ghost use Rattle.fa_tree.specs.Lookups.{IsFoundAs, IsTargetOf, bits_set};
 ghost use Rattle.fa_tree.specs.Making.{node_kind, new_bits};
-ghost use Rattle.fa_tree.specs.parts.FactParts.{AreFactsOf, AreFactsIfAny, AreFactsAfter, AreNewFacts, AreFurtherFacts, AreSetFacts, AreCreatedFacts, IsFoundOrNext, SpokenFit, IsLookup, left_by, spoken_of};
+ghost use Rattle.fa_tree.specs.parts.FactParts.{size_set, AreOpenedFacts, AreFactsOf, AreFactsIfAny, AreFactsAfter, AreNewFacts, AreFurtherFacts, AreSetFacts, AreCreatedFacts, IsFoundOrNext, SpokenFit, IsLookup, left_by, spoken_of};
 ghost use Rattle.fa_tree.specs.parts.NamedParts.{named_shown};
 
 use crate::facts::Facts;
@@ -38,6 +39,16 @@ fn bits_set(setattr: &SetattrIn, kind: Kind, bits: u32) -> u32
     match kind == Kind::Symlink || !setattr.valid.contains(FattrFlags::MODE) {
         true => bits,
         false => permission_bits(setattr.mode),
+    }
+}
+
+/// How many bytes SETATTR leaves.
+fn size_set(setattr: &SetattrIn, size: usize) -> usize
+    ensures { result ≡ size_set setattr.now size }
+{
+    match setattr.valid.contains(FattrFlags::SIZE) {
+        true => setattr.size as usize,
+        false => size,
     }
 }
 
@@ -197,6 +208,7 @@ impl Stored {
         match self.facts(file) {
             Some(facts) => Some(Facts {
                 bits: bits_set(setattr, facts.kind, facts.bits),
+                size: size_set(setattr, facts.size),
                 ..facts
             }),
             None => None,
@@ -233,20 +245,39 @@ impl Stored {
         }
     }
 
+    /// What attributes of a file are judged by that is opened, and emptied where it is to be emptied.
+    fn facts_opened(&self, file: FileId, truncates: bool) -> Option<Facts>
+        ensures { AreOpenedFacts self.now.store truncates file result }
+    {
+        match self.facts(file) {
+            Some(facts) => Some(Facts {
+                size: if truncates { 0 } else { facts.size },
+                ..facts
+            }),
+            None => None,
+        }
+    }
+
     /// What attributes of the file are judged by that CREATE makes or finds.
-    fn facts_created(&self, directory: FileId, name: &[u8], bits: u32) -> Option<Facts>
-        ensures { AreCreatedFacts self.now.store (map.get self.now.store.names (directory, name.now)) bits result }
+    fn facts_created(
+        &self,
+        directory: FileId,
+        name: &[u8],
+        bits: u32,
+        truncates: bool,
+    ) -> Option<Facts>
+        ensures { AreCreatedFacts self.now.store truncates (map.get self.now.store.names (directory, name.now)) bits result }
     {
         match self.find(directory, name) {
-            Some(file) => self.facts(file),
+            Some(file) => self.facts_opened(file, truncates),
             None => Some(self.facts_new(Kind::Regular, bits, 0)),
         }
     }
 
     /// What the attributes in an answer are judged by, after the request.
-    fn facts_after(&self, named: &Named, body: &RequestBody<'_>) -> Option<Facts>
+    fn facts_after(&self, named: &Named, body: &RequestBody<'_>, truncates: bool) -> Option<Facts>
         ensures { (handle : Option OpenDirectory) (count : ℕ) → IsCoveredBody (body_shown body.now) → MayBeDone self.now.store (named_shown named.now handle) (body_shown body.now)
-            → AreFactsAfter self.now.store (named_shown named.now handle) (body_shown body.now) count result }
+            → AreFactsAfter self.now.store (named_shown named.now handle) truncates (body_shown body.now) count result }
     {
         let node = named.node;
         match body {
@@ -268,7 +299,7 @@ impl Stored {
                 umask,
                 name,
                 ..
-            } => self.facts_created(node, name, new_bits(*mode, *umask)),
+            } => self.facts_created(node, name, new_bits(*mode, *umask), truncates),
             _ => None,
         }
     }
@@ -292,8 +323,8 @@ impl Stored {
 
     /// The file of the name in an entry that answers the request, after the request.
     fn file_left(&self, named: &Named, body: &RequestBody<'_>) -> Option<FileId>
-        ensures { (handle : Option OpenDirectory) (count : ℕ) → IsCoveredBody (body_shown body.now) → MayBeDone self.now.store (named_shown named.now handle) (body_shown body.now)
-            → result ≡ entry_file (left_by self.now.store (named_shown named.now handle) (body_shown body.now) count) (named_shown named.now handle) (body_shown body.now) }
+        ensures { (handle : Option OpenDirectory) (truncates : Bool) (count : ℕ) → IsCoveredBody (body_shown body.now) → MayBeDone self.now.store (named_shown named.now handle) (body_shown body.now)
+            → result ≡ entry_file (left_by self.now.store (named_shown named.now handle) truncates (body_shown body.now) count) (named_shown named.now handle) (body_shown body.now) }
     {
         let node = named.node;
         match body {
@@ -353,22 +384,34 @@ impl Stored {
     }
 
     /// Whether attributes are those of the file that an answer speaks of, after the request.
-    fn attributes_are(&self, named: &Named, body: &RequestBody<'_>, attr: &Attributes) -> bool
+    fn attributes_are(
+        &self,
+        named: &Named,
+        body: &RequestBody<'_>,
+        truncates: bool,
+        attr: &Attributes,
+    ) -> bool
         ensures { (handle : Option OpenDirectory) (count : ℕ) → IsCoveredBody (body_shown body.now) → MayBeDone self.now.store (named_shown named.now handle) (body_shown body.now)
-            → IsTrue result ↔ SpokenFit (left_by self.now.store (named_shown named.now handle) (body_shown body.now) count) (spoken_of (left_by self.now.store (named_shown named.now handle) (body_shown body.now) count) (named_shown named.now handle) (body_shown body.now)) attr.now }
+            → IsTrue result ↔ SpokenFit (left_by self.now.store (named_shown named.now handle) truncates (body_shown body.now) count) (spoken_of (left_by self.now.store (named_shown named.now handle) truncates (body_shown body.now) count) (named_shown named.now handle) (body_shown body.now)) attr.now }
     {
-        match self.facts_after(named, body) {
+        match self.facts_after(named, body, truncates) {
             Some(facts) => facts.fit(attr),
             None => false,
         }
     }
 
     /// Whether the attributes of an entry fit, after the request.
-    fn entry_fits(&self, named: &Named, body: &RequestBody<'_>, entry: &EntryOut) -> bool
+    fn entry_fits(
+        &self,
+        named: &Named,
+        body: &RequestBody<'_>,
+        truncates: bool,
+        entry: &EntryOut,
+    ) -> bool
         ensures { (handle : Option OpenDirectory) (count : ℕ) → IsCoveredBody (body_shown body.now) → MayBeDone self.now.store (named_shown named.now handle) (body_shown body.now) → IsAnswerTo (body_shown body.now) (Entry entry.now)
-            → IsTrue result ↔ AttributesFit (left_by self.now.store (named_shown named.now handle) (body_shown body.now) count) (named_shown named.now handle) (body_shown body.now) (Entry entry.now) }
+            → IsTrue result ↔ AttributesFit (left_by self.now.store (named_shown named.now handle) truncates (body_shown body.now) count) (named_shown named.now handle) (body_shown body.now) (Entry entry.now) }
     {
-        finds_nothing(body, entry) || self.attributes_are(named, body, &entry.attr)
+        finds_nothing(body, entry) || self.attributes_are(named, body, truncates, &entry.attr)
     }
 
     /// Whether the answer may be a success of the request.
@@ -384,14 +427,22 @@ impl Stored {
     }
 
     /// Whether the attributes in an answer fit, after the request.
-    fn attributes_left_fit(&self, named: &Named, body: &RequestBody<'_>, reply: &Reply<'_>) -> bool
+    fn attributes_left_fit(
+        &self,
+        named: &Named,
+        body: &RequestBody<'_>,
+        truncates: bool,
+        reply: &Reply<'_>,
+    ) -> bool
         ensures { (handle : Option OpenDirectory) (count : ℕ) → IsCoveredBody (body_shown body.now) → MayBeDone self.now.store (named_shown named.now handle) (body_shown body.now) → IsAnswerTo (body_shown body.now) (reply_shown reply.now)
-            → IsTrue result ↔ AttributesFit (left_by self.now.store (named_shown named.now handle) (body_shown body.now) count) (named_shown named.now handle) (body_shown body.now) (reply_shown reply.now) }
+            → IsTrue result ↔ AttributesFit (left_by self.now.store (named_shown named.now handle) truncates (body_shown body.now) count) (named_shown named.now handle) (body_shown body.now) (reply_shown reply.now) }
     {
         match reply {
-            Reply::Entry(entry) => self.entry_fits(named, body, entry),
-            Reply::Created { entry, .. } => self.attributes_are(named, body, &entry.attr),
-            Reply::Attributes(out) => self.attributes_are(named, body, &out.attr),
+            Reply::Entry(entry) => self.entry_fits(named, body, truncates, entry),
+            Reply::Created { entry, .. } => {
+                self.attributes_are(named, body, truncates, &entry.attr)
+            }
+            Reply::Attributes(out) => self.attributes_are(named, body, truncates, &out.attr),
             Reply::Empty => true,
             Reply::Opened(_) => true,
             Reply::Written(_) => true,
@@ -408,12 +459,13 @@ impl Stored {
         &self,
         named: &Named,
         body: &RequestBody<'_>,
+        truncates: bool,
         reply: &Reply<'_>,
     ) -> bool
-        ensures { (handle : Option OpenDirectory) (q : Question) (count : ℕ) → q.body ≡ body_shown body.now → IsCovered q → MayBeDone self.now.store (named_shown named.now handle) q.body → IsAnswerTo q.body (reply_shown reply.now)
+        ensures { (handle : Option OpenDirectory) (q : Question) (count : ℕ) → q.body ≡ body_shown body.now → q.truncates ≡ truncates → IsCovered q → MayBeDone self.now.store (named_shown named.now handle) q.body → IsAnswerTo q.body (reply_shown reply.now)
             → IsTrue result ↔ AttributesFit (changed self.now.store (named_shown named.now handle) q count) (named_shown named.now handle) q.body (reply_shown reply.now) }
     {
-        self.attributes_left_fit(named, body, reply)
+        self.attributes_left_fit(named, body, truncates, reply)
     }
 
     /// Whether a file has these bytes, which of a symbolic link are its target.
@@ -426,24 +478,43 @@ impl Stored {
         }
     }
 
+    /// Whether a READ of a file gives these bytes.
+    fn is_read(&self, file: FileId, direct: bool, offset: u64, size: u32, given: &[u8]) -> bool
+        ensures { IsTrue result ↔ IsReadFrom self.now.store file direct offset size given.now }
+    {
+        match self.files.get(file) {
+            Some(there) => there.contents.is_read(direct, offset, size, given),
+            None => false,
+        }
+    }
+
     /// Whether bytes are those that the request asks for.
-    fn bytes_are(&self, named: &Named, body: &RequestBody<'_>, bytes: &[u8]) -> bool
-        ensures { (handle : Option OpenDirectory) (direct : Bool) (count : ℕ) → IsCoveredBody (body_shown body.now)
-            → IsTrue result ↔ BytesAre (left_by self.now.store (named_shown named.now handle) (body_shown body.now) count) (named_shown named.now handle) direct (body_shown body.now) bytes.now }
+    fn bytes_are(&self, named: &Named, body: &RequestBody<'_>, direct: bool, bytes: &[u8]) -> bool
+        ensures { (handle : Option OpenDirectory) (truncates : Bool) (count : ℕ) → IsCoveredBody (body_shown body.now)
+            → IsTrue result ↔ BytesAre (left_by self.now.store (named_shown named.now handle) truncates (body_shown body.now) count) (named_shown named.now handle) direct (body_shown body.now) bytes.now }
     {
         match body {
             RequestBody::Readlink => self.is_target(named.node, bytes),
+            RequestBody::Read(read) => {
+                self.is_read(named.node, direct, read.offset, read.size, bytes)
+            }
             _ => false,
         }
     }
 
     /// Whether the bytes in an answer are those that the request asks for.
-    pub(crate) fn bytes_fit(&self, named: &Named, body: &RequestBody<'_>, reply: &Reply<'_>) -> bool
-        ensures { (handle : Option OpenDirectory) (q : Question) (count : ℕ) → q.body ≡ body_shown body.now → IsCovered q → IsAnswerTo q.body (reply_shown reply.now)
+    pub(crate) fn bytes_fit(
+        &self,
+        named: &Named,
+        body: &RequestBody<'_>,
+        direct: bool,
+        reply: &Reply<'_>,
+    ) -> bool
+        ensures { (handle : Option OpenDirectory) (q : Question) (count : ℕ) → q.body ≡ body_shown body.now → q.direct ≡ direct → IsCovered q → IsAnswerTo q.body (reply_shown reply.now)
             → IsTrue result ↔ BytesFit (changed self.now.store (named_shown named.now handle) q count) (named_shown named.now handle) q (reply_shown reply.now) }
     {
         match reply {
-            Reply::Bytes(bytes) => self.bytes_are(named, body, bytes),
+            Reply::Bytes(bytes) => self.bytes_are(named, body, direct, bytes),
             _ => true,
         }
     }

@@ -18,7 +18,7 @@ ghost use Rattle.fa_tree.specs.Changes.{changed};
 ghost use Rattle.fa_tree.specs.Answers.{IsAnswerTo};
 ghost use Rattle.fa_tree.specs.Judging.{AttributesFit, BytesFit};
 ghost use Rattle.fa_tree.specs.Bindings.{AreBound, given_in};
-ghost use Rattle.fa_tree.specs.Outcomes.{outcome};
+ghost use Rattle.fa_tree.specs.Outcomes.{outcome, count_written};
 ghost use Rattle.fa_tree.specs.Outcomes.Outcome.{Fails, Succeeds, Unanswered};
 ghost use Rattle.fa_tree.specs.Steps.{SuccessAllowed, OfCallAt, setting, outcome_checks, step_checks, tree_changed, noted, tree_after, Steps};
 ghost use Rattle.fa_tree.specs.Covered.{IsCovered};
@@ -34,13 +34,26 @@ use fa_capture::codes;
 use fa_ledger::{Answer, Call, Calls, NodeName};
 use std::alloc::AllocError;
 
+/// How many bytes a call wrote: as its answer says, and as the order says where it has none.
+fn count_written(call: &Call<'_>, wrote: Option<u32>) -> u32
+    ensures { result ≡ count_written (call_shown call.now) wrote }
+{
+    match &call.answer {
+        None => wrote.unwrap_or(0),
+        Some(answer) => match answer.reply {
+            Reply::Written(count) => count,
+            _ => 0,
+        },
+    }
+}
+
 impl Tree {
     /// One step: the call at this place in the list, taken as done now. `wrote` is what an order says of it: how many bytes an
     /// unanswered WRITE wrote, nothing else. Where the call was answered, the tree judges whether it would have answered so;
     /// after a success it is the tree that the request leaves, after an error it stays as it is. A request without an answer is
     /// done as a success without one.
     ///
-    /// READ, WRITE, READDIR, READDIRPLUS, and requests that set the size of a file or empty it have no step yet.
+    /// READDIR and READDIRPLUS have no step yet.
     ///
     /// `Refused` tells the least code that applies:
     /// [`UNKNOWN_HERE`](fa_capture::codes::UNKNOWN_HERE) that the tree knows no file for a node that the call names;
@@ -48,11 +61,12 @@ impl Tree {
     /// answer; [`ERROR_WITHOUT_CAUSE`](fa_capture::codes::ERROR_WITHOUT_CAUSE) that an error of POSIX that has one cause is
     /// answered without it; [`ATTRIBUTES`](fa_capture::codes::ATTRIBUTES) that attributes (`struct fuse_attr`) are not those of
     /// the file; [`NODE_ID_OF_ANOTHER`](fa_capture::codes::NODE_ID_OF_ANOTHER) that a node is given for another file than
-    /// before; [`BYTES_READ`](fa_capture::codes::BYTES_READ) that a target is another one. `Memory` tells that memory was
-    /// refused. The tree is then as it was.
+    /// before; [`BYTES_READ`](fa_capture::codes::BYTES_READ) that bytes are not those of the file, or a target another one.
+    /// `Memory` tells that memory was refused. The tree is then as it was.
     ///
-    /// GETATTR, READLINK and errors take no memory. Others take time and memory in the bytes of names and targets; where links
-    /// are counted, parents looked for or a directory asked to be empty, time in the names of the tree (this profile).
+    /// Errors, GETATTR, READLINK, READ, OPEN, UNLINK, RMDIR and SETATTR without a size take no memory. Time and memory otherwise
+    /// in the bytes of names and targets, and in those that are read, written or filled up with zeros; where links are counted,
+    /// parents looked for or a directory asked to be empty, time in the names of the tree too (this profile).
     pub fn step(&mut self, calls: &Calls<'_>, k: usize, wrote: Option<u32>) -> Result<(), StepError>
         requires there { k < length calls.now.list.items }
         requires allowed { OfCallAt (map call_shown calls.now.list.items) k (λ call. Allows call wrote) }
@@ -61,7 +75,7 @@ impl Tree {
         ensures refused { IfErr result (λ e. OfCallAt (map call_shown calls.now.list.items) k (λ call. TellsOf e call (step_checks self.old call wrote (listing_so_far (map call_shown calls.now.list.items) k)))) }
         ensures unchanged { OnErr result (self.new ≡ self.old) }
     {
-        self.step_on(&calls.list[k])
+        self.step_on(&calls.list[k], wrote)
     }
 
     /// The file that the name of a node stands for, if it stands for one.
@@ -143,7 +157,7 @@ impl Tree {
         ensures { (count : ℕ) → IsTrue result ↔ AttributesFit (changed self.now.store (named_shown named.now None) (question (call_shown call.now)) count) (named_shown named.now None) (body_shown call.now.request.body) (reply_shown answer.now.reply) }
     {
         self.stored
-            .attributes_fit(named, &call.request.body, &answer.reply)
+            .attributes_fit(named, &call.request.body, call.truncates, &answer.reply)
     }
 
     /// Whether the names of nodes in an answer may be given for their files.
@@ -163,7 +177,7 @@ impl Tree {
         ensures { (count : ℕ) → IsTrue result ↔ BytesFit (changed self.now.store (named_shown named.now None) (question (call_shown call.now)) count) (named_shown named.now None) (question (call_shown call.now)) (reply_shown answer.now.reply) }
     {
         self.stored
-            .bytes_fit(named, &call.request.body, &answer.reply)
+            .bytes_fit(named, &call.request.body, call.direct, &answer.reply)
     }
 
     /// Judges an answer that is a success.
@@ -244,20 +258,21 @@ impl Tree {
         named: &Named,
         call: &Call<'_>,
         answer: &Answer<'_>,
+        count: u32,
     ) -> Result<(), AllocError>
         requires covered { IsCovered (question (call_shown call.now)) }
         requires done { MayBeDone self.old.store (named_shown named.now None) (body_shown call.now.request.body) }
         requires answers { IsAnswerTo (body_shown call.now.request.body) (reply_shown answer.now.reply) }
-        ensures taken { OnOk result ((count : ℕ) → self.new ≡ noted (tree_changed self.old (named_shown named.now None) (question (call_shown call.now)) count) (named_shown named.now None) (body_shown call.now.request.body) call.now.asked (answer_shown answer.now)) }
+        ensures taken { OnOk result (self.new ≡ noted (tree_changed self.old (named_shown named.now None) (question (call_shown call.now)) count) (named_shown named.now None) (body_shown call.now.request.body) call.now.asked (answer_shown answer.now)) }
         ensures memory { OnErr result (MayGrow (body_shown call.now.request.body)) }
         ensures unchanged { OnErr result (self.new ≡ self.old) }
     {
         let body = &call.request.body;
         match self.binding(named, body, answer) {
-            None => self.stored.leave(named, body, call.asked, answer.opens),
+            None => self.stored.leave(named, body, call.truncates, count, call.asked, answer.opens),
             Some(given) => {
                 self.nodes.reserve()?;
-                self.stored.leave(named, body, call.asked, answer.opens)?;
+                self.stored.leave(named, body, call.truncates, count, call.asked, answer.opens)?;
                 self.nodes.bind(given);
                 Ok(())
             }
@@ -265,46 +280,52 @@ impl Tree {
     }
 
     /// Takes a request over that an order takes as done though it was not answered.
-    fn take_unanswered(&mut self, named: &Named, call: &Call<'_>) -> Result<(), AllocError>
+    fn take_unanswered(
+        &mut self,
+        named: &Named,
+        call: &Call<'_>,
+        count: u32,
+    ) -> Result<(), AllocError>
         requires covered { IsCovered (question (call_shown call.now)) }
         requires done { MayBeDone self.old.store (named_shown named.now None) (body_shown call.now.request.body) }
-        ensures taken { OnOk result ((count : ℕ) → self.new ≡ tree_changed self.old (named_shown named.now None) (question (call_shown call.now)) count) }
+        ensures taken { OnOk result (self.new ≡ tree_changed self.old (named_shown named.now None) (question (call_shown call.now)) count) }
         ensures memory { OnErr result (MayGrow (body_shown call.now.request.body)) }
         ensures unchanged { OnErr result (self.new ≡ self.old) }
     {
-        self.stored.change(named, &call.request.body)
+        self.stored
+            .change(named, &call.request.body, call.truncates, count)
     }
 
     /// Takes a call over that was judged.
-    fn take(&mut self, named: &Named, call: &Call<'_>) -> Result<(), AllocError>
+    fn take(&mut self, named: &Named, call: &Call<'_>, count: u32) -> Result<(), AllocError>
         requires covered { IsCovered (question (call_shown call.now)) }
         requires judged { (count : ℕ) (so_far : List PlainDirent) → AllHold (outcome_checks self.old.nodes (setting self.old.store (named_shown named.now None) (question (call_shown call.now)) count so_far) (outcome (call_shown call.now))) }
-        ensures taken { OnOk result ((count : ℕ) → self.new ≡ tree_after self.old (named_shown named.now None) (call_shown call.now) count (outcome (call_shown call.now))) }
+        ensures taken { OnOk result (self.new ≡ tree_after self.old (named_shown named.now None) (call_shown call.now) count (outcome (call_shown call.now))) }
         ensures memory { OnErr result (MayTakeMemory (outcome (call_shown call.now)) (body_shown call.now.request.body)) }
         ensures unchanged { OnErr result (self.new ≡ self.old) }
     {
         match &call.answer {
-            None => self.take_unanswered(named, call),
+            None => self.take_unanswered(named, call, count),
             Some(answer) => match answer.reply {
                 Reply::Refused(_) => Ok(()),
-                _ => self.take_success(named, call, answer),
+                _ => self.take_success(named, call, answer, count),
             },
         }
     }
 
     /// One step, of a call that does not list.
-    fn step_on(&mut self, call: &Call<'_>) -> Result<(), StepError>
+    fn step_on(&mut self, call: &Call<'_>, wrote: Option<u32>) -> Result<(), StepError>
         requires covered { IsCovered (question (call_shown call.now)) }
         requires plain { call.now.listing ≡ None }
-        ensures steps { OnOk result ((wrote : Option ℕ) (so_far : List PlainDirent) → Steps self.old self.new (call_shown call.now) wrote so_far) }
-        ensures refused { IfErr result (λ e. (wrote : Option ℕ) (so_far : List PlainDirent) → TellsOf e (call_shown call.now) (step_checks self.old (call_shown call.now) wrote so_far)) }
+        ensures steps { OnOk result ((so_far : List PlainDirent) → Steps self.old self.new (call_shown call.now) wrote so_far) }
+        ensures refused { IfErr result (λ e. (so_far : List PlainDirent) → TellsOf e (call_shown call.now) (step_checks self.old (call_shown call.now) wrote so_far)) }
         ensures unchanged { OnErr result (self.new ≡ self.old) }
     {
         match self.named(call) {
             None => Err(StepError::Refused(codes::UNKNOWN_HERE)),
             Some(named) => {
                 self.judge(&named, call)?;
-                self.take(&named, call)?;
+                self.take(&named, call, count_written(call, wrote))?;
                 Ok(())
             }
         }

@@ -1,9 +1,11 @@
 -- What attributes are judged by.
-use Rattle.std.specs.Prelude.{◌≡◌, ◌≢◌, ℕ, ◌+◌, true, false, if◌then◌else◌, length, slice_get, Option, Some, None}
+use Rattle.std.specs.Prelude.{◌≡◌, ◌≢◌, ℕ, ◌+◌, Bool, true, false, if◌then◌else◌, length, slice_get, Option, Some, None}
 use Rattle.fa_bodies.specs.declared.attributes.Attributes.{Attributes}
 use Rattle.fa_bodies.specs.declared.mode.Kind.{Kind}
 use Rattle.fa_bodies.specs.declared.mode.Kind.TheVariants.{Directory, Regular, Symlink}
 use Rattle.fa_bodies.specs.declared.setattr.SetattrIn.{SetattrIn}
+use Rattle.fa_bodies.specs.FlagBits.{fattr_size}
+use Rattle.fa_bodies.specs.Flags.{has_flag, fattr_bits}
 use Rattle.fa_bodies.specs.Modes.{mode_bits, HasFileType}
 use Rattle.fa_bodies.specs.Requests.{PlainBody}
 use Rattle.fa_bodies.specs.Requests.PlainBody.{Lookup, Getattr, Setattr}
@@ -38,9 +40,9 @@ spoken_of s x (Getattr g) = Some x.node
 spoken_of s x (Setattr a) = Some x.node
 spoken_of s x body = entry_file s x body
 
--- the store after a request that empties no file
-abbrev pub left_by : Store → Resolved → PlainBody → (count : ℕ) → Store
-left_by s x body count = record { names = names_after (edits s x body) s.names; files = files_after s x false body count }
+-- the store after a request, which empties a file that is there or not
+abbrev pub left_by : Store → Resolved → (truncates : Bool) → PlainBody → (count : ℕ) → Store
+left_by s x truncates body count = record { names = names_after (edits s x body) s.names; files = files_after s x truncates body count }
 
 -- they are those of this file, if there are any; else there is no such file
 abbrev pub AreFactsIfAny : Store → Option ℕ → Option Facts → Type 0
@@ -48,8 +50,9 @@ AreFactsIfAny s found None = (file : ℕ) → found ≡ Some file → slice_get 
 AreFactsIfAny s found (Some facts) = (file : ℕ) × (found ≡ Some file) × AreFactsOf s file facts
 
 -- they are those of the file that an answer speaks of, after the request
-abbrev pub AreFactsAfter : Store → Resolved → PlainBody → (count : ℕ) → Option Facts → Type 0
-AreFactsAfter s x body count facts = AreFactsIfAny (left_by s x body count) (spoken_of (left_by s x body count) x body) facts
+abbrev pub AreFactsAfter : Store → Resolved → (truncates : Bool) → PlainBody → (count : ℕ) → Option Facts → Type 0
+AreFactsAfter s x truncates body count facts =
+    AreFactsIfAny (left_by s x truncates body count) (spoken_of (left_by s x truncates body count) x body) facts
 
 -- they are those of a file that is made, which takes the next number
 pub record AreNewFacts (s : Store) (kind : Kind) (bits size : ℕ) (facts : Facts) : Type 0 where
@@ -66,19 +69,29 @@ AreFurtherFacts s found (Some facts) =
     (file : ℕ) × (before : Facts) × (found ≡ Some file) × (before.further ≡ false) × AreFactsOf s file before
     × (facts ≡ record { kind = before.kind; bits = before.bits; size = before.size; links = before.links; further = true })
 
+-- how many bytes SETATTR leaves
+abbrev pub size_set : SetattrIn → ℕ → ℕ
+size_set a size = (if has_flag (fattr_bits a.valid) fattr_size then a.size else size)
+
 -- they are those of this file, after SETATTR
 abbrev pub AreSetFacts : Store → SetattrIn → ℕ → Option Facts → Type 0
 AreSetFacts s a number None = slice_get s.files number ≡ None
 AreSetFacts s a number (Some facts) =
     (before : Facts) × AreFactsOf s number before × (before.further ≡ false)
-    × (facts ≡ record { kind = before.kind; bits = bits_set a before.kind before.bits; size = before.size; links = before.links; further = false })
+    × (facts ≡ record { kind = before.kind; bits = bits_set a before.kind before.bits; size = size_set a before.size; links = before.links; further = false })
 
--- they are those of this file, if one was found, else of a regular one that is made
-abbrev pub AreCreatedFacts : Store → Option ℕ → (bits : ℕ) → Option Facts → Type 0
-AreCreatedFacts s (Some file) bits None = slice_get s.files file ≡ None
-AreCreatedFacts s (Some file) bits (Some facts) = AreFactsOf s file facts
-AreCreatedFacts s None bits None = ⊥
-AreCreatedFacts s None bits (Some facts) = AreNewFacts s Regular bits 0 facts
+-- they are those of this file, or of it when it is emptied
+abbrev pub AreOpenedFacts : Store → (truncates : Bool) → ℕ → Option Facts → Type 0
+AreOpenedFacts s truncates number None = slice_get s.files number ≡ None
+AreOpenedFacts s truncates number (Some facts) =
+    (before : Facts) × AreFactsOf s number before
+    × (facts ≡ record { kind = before.kind; bits = before.bits; size = (if truncates then 0 else before.size); links = before.links; further = before.further })
+
+-- they are those of this file, or of it when it is emptied, if one was found, else of a regular one that is made
+abbrev pub AreCreatedFacts : Store → (truncates : Bool) → Option ℕ → (bits : ℕ) → Option Facts → Type 0
+AreCreatedFacts s truncates (Some file) bits facts = AreOpenedFacts s truncates file facts
+AreCreatedFacts s truncates None bits None = ⊥
+AreCreatedFacts s truncates None bits (Some facts) = AreNewFacts s Regular bits 0 facts
 
 -- a file that was found, else the one that is made
 abbrev pub IsFoundOrNext : Store → Option ℕ → (file : ℕ) → Type 0

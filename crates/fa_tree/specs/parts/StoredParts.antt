@@ -1,15 +1,19 @@
 -- What is stored of a tree, as a value: all but the nodes.
-use Rattle.std.specs.Prelude.{ℕ, Bool, false, List}
+use Rattle.std.specs.Prelude.{ℕ, Bool, List, [], ◌∷◌, length}
+use Rattle.std.specs.Option.{option_map_or}
 use Rattle.std.specs.Ordering.{nat_cmp}
 use Rattle.std.specs.FinMap as map
-use Rattle.std.specs.FinMap.{FinMap}
+use Rattle.std.specs.FinMap.{FinMap, get}
+use Rattle.fa_bodies.specs.declared.setattr.SetattrIn.{SetattrIn}
 use Rattle.fa_bodies.specs.Requests.{PlainBody}
 use Rattle.fa_tree.specs.State.{File, Store, OpenDirectory, TreeState}
 use Rattle.fa_tree.specs.Resolved.{Resolved}
 use Rattle.fa_tree.specs.Edits.{Edit, names_after, handles_after}
-use Rattle.fa_tree.specs.Opening.{opened}
-use Rattle.fa_tree.specs.Changes.{edits, files_after}
-use Rattle.fa_tree.specs.Opening.{with_opened}
+use Rattle.fa_tree.specs.Changes.{edits, files_after, files_created}
+use Rattle.fa_tree.specs.Edits.Edit.{Added}
+use Rattle.fa_tree.specs.Opening.{opened, with_opened}
+use Rattle.fa_tree.specs.Lookups.{bits_set}
+use Rattle.fa_tree.specs.parts.FileParts.{with_bits}
 
 pub record StoredShown : Type 0 where
   pub store : Store
@@ -23,10 +27,10 @@ as_tree t = record { store = t.store; nodes = map.empty; handles = t.handles }
 abbrev pub stored_of : TreeState → StoredShown
 stored_of t = record { store = t.store; handles = t.handles }
 
--- after the change of a request that empties no file
-abbrev pub stored_changed : Resolved → PlainBody → (count : ℕ) → StoredShown → StoredShown
-stored_changed x body count t = record {
-  store = record { names = names_after (edits t.store x body) t.store.names; files = files_after t.store x false body count };
+-- after the change of a request, which empties a file that is there or not
+abbrev pub stored_changed : Resolved → (truncates : Bool) → PlainBody → (count : ℕ) → StoredShown → StoredShown
+stored_changed x truncates body count t = record {
+  store = record { names = names_after (edits t.store x body) t.store.names; files = files_after t.store x truncates body count };
   handles = handles_after (edits t.store x body) t.handles;
 }
 
@@ -45,9 +49,18 @@ stored_with files t = record { store = record { names = t.store.names; files = f
 abbrev pub stored_opened : (asked directory : ℕ) → StoredShown → StoredShown
 stored_opened asked directory t = record { store = t.store; handles = map.insert t.handles asked (opened t.store.names directory) }
 
--- after a request that empties no file, with what an answer to the request of this number adds
-abbrev pub stored_noted : Resolved → PlainBody → (asked : ℕ) → (opens : Bool) → (count : ℕ) → StoredShown → StoredShown
-stored_noted x body asked opens count t = record {
-  store = (stored_changed x body count t).store;
-  handles = with_opened (stored_changed x body count t).store x body asked opens (stored_changed x body count t).handles;
+-- after a request, with what an answer to the request of this number adds
+abbrev pub stored_noted : Resolved → (truncates : Bool) → PlainBody → (asked : ℕ) → (opens : Bool) → (count : ℕ) → StoredShown → StoredShown
+stored_noted x truncates body asked opens count t = record {
+  store = (stored_changed x truncates body count t).store;
+  handles = with_opened (stored_changed x truncates body count t).store x body asked opens (stored_changed x truncates body count t).handles;
 }
+
+-- a file with the permission bits that SETATTR leaves
+abbrev pub mode_set : SetattrIn → File → File
+mode_set a file = with_bits (bits_set a file.kind file.bits) file
+
+-- after a CREATE
+abbrev pub stored_created : (directory : ℕ) → (name : List ℕ) → (truncates : Bool) → File → StoredShown → StoredShown
+stored_created directory name truncates new t = stored_with (files_created t.store.files truncates new (get t.store.names (directory, name)))
+    (stored_edited (option_map_or (λ file. []) (get t.store.names (directory, name)) (Added directory name (length t.store.files) ∷ [])) t)

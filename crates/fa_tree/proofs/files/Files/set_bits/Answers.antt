@@ -5,7 +5,6 @@ use Rattle.fa_tree.specs.parts.FileParts.{with_bits}
 use Rattle.fa_tree.proofs.files.Files.set_bits.Goals as goal
 use Rattle.fa_tree.proofs.files.Files.set_bits.Goals.{in-Some, in-None}
 
--- src/files.rt:73:5
 pub returns : goal.returns
 returns c =
     elim c.match-get_mut.branch [

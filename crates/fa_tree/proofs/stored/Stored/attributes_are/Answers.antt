@@ -8,5 +8,5 @@ pub returns-in-Some : goal.returns-in-Some
 returns-in-Some c = λ handle count known may.
     let x = named_shown c.args.named.now handle in
     let body = body_shown c.args.body.now in
-    let left = left_by c.args.self.now.store x body count in
+    let left = left_by c.args.self.now.store x c.args.truncates body count in
     spoken_fit left (spoken_of left x body) c.in-Some.facts c.args.attr.now c.fit.result (c.in-Some.ensures handle count known may) c.fit.ensures

@@ -8,5 +8,5 @@ pub returns-else-finds_nothing : goal.returns-else-finds_nothing
 returns-else-finds_nothing c = λ handle count known may answers.
     let x = named_shown c.args.named.now handle in
     let body = body_shown c.args.body.now in
-    entry_judged (left_by c.args.self.now.store x body count) x body c.args.entry.now c.attributes_are.result answers (λ found. let no = c.if-finds_nothing.ensures.1 found in absurd cc)
+    entry_judged (left_by c.args.self.now.store x c.args.truncates body count) x body c.args.entry.now c.attributes_are.result answers (λ found. let no = c.if-finds_nothing.ensures.1 found in absurd cc)
     (c.attributes_are.ensures handle count known may)

@@ -11,7 +11,7 @@ returns-in-Getattr c = rw (c.in-Getattr.is) (λ handle count known may.
 
 pub returns-in-Setattr : goal.returns-in-Setattr
 returns-in-Setattr c = rw (c.in-Setattr.is) (λ handle count known may.
-    set_facts c.args.self.now.store c.in-Setattr.setattr c.args.named.now.node c.facts_set.result known c.facts_set.ensures)
+    set_facts c.args.self.now.store c.in-Setattr.setattr c.args.named.now.node c.facts_set.result c.facts_set.ensures)
 
 pub returns-in-Symlink : goal.returns-in-Symlink
 returns-in-Symlink c = rw (c.in-Symlink.is) (λ handle count known may.
@@ -35,5 +35,5 @@ returns-in-Link c = rw (c.in-Link.is) (λ handle count known may.
 
 pub returns-in-Create : goal.returns-in-Create
 returns-in-Create c = rw (c.in-Create.is) (λ handle count known may.
-    created_facts c.args.self.now.store c.args.named.now.node c.in-Create.name.now (new_regular c.in-Create.mode c.in-Create.umask) c.new_bits-in-Create.result c.facts_created.result
+    created_facts c.args.self.now.store c.args.truncates c.args.named.now.node c.in-Create.name.now (new_regular c.in-Create.mode c.in-Create.umask) c.new_bits-in-Create.result c.facts_created.result
     (get c.args.self.now.store.names (c.args.named.now.node, c.in-Create.name.now)) refl refl refl c.new_bits-in-Create.ensures c.facts_created.ensures)

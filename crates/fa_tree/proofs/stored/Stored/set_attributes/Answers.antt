@@ -1,17 +1,15 @@
 use Rattle.std.proofs.Common.{sym, ◌∙◌}
-use Rattle.fa_tree.specs.parts.StoredView.{stored_shown}
-use Rattle.fa_tree.proofs.StoredChangeLemmas.{bits_keep_tree, mode_left, link_left}
+use Rattle.fa_tree.proofs.StoredChangeLemmas.{set_whole, set_mode_only}
 use Rattle.fa_tree.proofs.stored.Stored.set_attributes.Goals as goal
-use Rattle.fa_tree.proofs.stored.Stored.set_attributes.Goals.{else-contains-via-then-contains+else-not-is_symlink, else-contains-via-else-contains}
+use Rattle.fa_tree.proofs.stored.Stored.set_attributes.Goals.{then-contains+in_ok-resize, else-contains}
 
-pub invariant_of-self : goal.invariant_of-self
-invariant_of-self c = bits_keep_tree (stored_shown c.self.inside) c.set_bits.new.self c.args.file c.permission_bits.result c.self.invariant c.set_bits.ensures
-
-pub returns-else-contains : goal.returns-else-contains
-returns-else-contains c =
-    elim c.else-contains.branch [
-      | else-contains-via-then-contains+else-not-is_symlink w ↦
-          link_left c.args.self.now c.args.file c.args.setattr.now c.requires (w.is_symlink.ensures.0 w.if-not-is_symlink.false)
-      | else-contains-via-else-contains w ↦
-          mode_left c.args.self.now c.args.file c.args.setattr.now c.requires (sym (c.contains.ensures _) ∙ w.if-contains.false)
+pub returns-clause-set : goal.returns-clause-set
+returns-clause-set c =
+    elim c.if-contains.branch [
+      | then-contains+in_ok-resize w ↦
+          set_whole c.args.self.now c.if-contains.self c.set_mode.new.self c.args.file c.args.setattr.now
+          (sym (c.contains.ensures _) ∙ w.if-contains.true) (w.self-is ∙ w.in_ok-resize.ensures.resized) c.set_mode.ensures
+      | else-contains w ↦
+          set_mode_only c.args.self.now c.if-contains.self c.set_mode.new.self c.args.file c.args.setattr.now
+          (sym (c.contains.ensures _) ∙ w.if-contains.false) w.self-is c.set_mode.ensures
     ]

@@ -17,7 +17,7 @@ returns-in_err-file-in-Entry c = rw (c.from_residual.ensures) (λ q count same k
 pub returns-in_default : goal.returns-in_default
 returns-in_default c = λ q count same known may answers.
     let x = named_shown c.args.named.now None in
-    given_for_none (changed c.args.self.now.store x q count) x q.body c.args.answer.now (kept c.args.answer.now.reply refl) known.1 answers
+    given_for_none (changed c.args.self.now.store x q count) x q.body c.args.answer.now (kept c.args.answer.now.reply refl) known answers
   where
     kept : (r : Reply) → c.args.answer.now.reply ≡ r → HasNoEntry (reply_shown r)
     kept (declared.Entry e) is = absurd (c.in_default.not-Entry e is)

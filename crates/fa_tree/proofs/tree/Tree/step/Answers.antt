@@ -15,7 +15,7 @@ pub step_on-requires-clause-plain : goal.step_on-requires-clause-plain
 step_on-requires-clause-plain c =
     let there = shown_at c.args.calls.now.list.items c.args.k c.index.result.now c.requires.there c.index.ensures in
     let known = c.requires.covered (call_shown c.index.result.now) there in
-    unlisted (map call_shown c.args.calls.now.list.items) c.args.calls.now.messages c.args.k (call_shown c.index.result.now) c.args.calls.now.good there known.1
+    unlisted (map call_shown c.args.calls.now.list.items) c.args.calls.now.messages c.args.k (call_shown c.index.result.now) c.args.calls.now.good there known
 
 pub returns-clause-steps : goal.returns-clause-steps
 returns-clause-steps c =
@@ -23,7 +23,7 @@ returns-clause-steps c =
     let so_far = listing_so_far calls c.args.k in
     let there = shown_at c.args.calls.now.list.items c.args.k c.index.result.now c.requires.there c.index.ensures in
     ok_also c.step_on.result _ _ (λ steps.
-    of_call calls c.args.k (call_shown c.index.result.now) (λ call. Steps c.args.self.now c.step_on.new.self call c.args.wrote so_far) there (steps c.args.wrote so_far))
+    of_call calls c.args.k (call_shown c.index.result.now) (λ call. Steps c.args.self.now c.step_on.new.self call c.args.wrote so_far) there (steps so_far))
     c.step_on.ensures.steps
 
 pub returns-clause-refused : goal.returns-clause-refused
@@ -32,5 +32,5 @@ returns-clause-refused c =
     let so_far = listing_so_far calls c.args.k in
     let there = shown_at c.args.calls.now.list.items c.args.k c.index.result.now c.requires.there c.index.ensures in
     err_also c.step_on.result _ _ (λ e tells.
-    of_call calls c.args.k (call_shown c.index.result.now) (λ call. TellsOf e call (step_checks c.args.self.now call c.args.wrote so_far)) there (tells c.args.wrote so_far))
+    of_call calls c.args.k (call_shown c.index.result.now) (λ call. TellsOf e call (step_checks c.args.self.now call c.args.wrote so_far)) there (tells so_far))
     c.step_on.ensures.refused

@@ -14,20 +14,20 @@ returns-in-None-clause-taken c =
     let x = named_shown c.args.named.now None in
     let q = question (call_shown c.args.call.now) in
     let answer = answer_shown c.args.answer.now in
-    ok_also c.leave.result _ _ (λ left count.
-    left_tree c.self.inside.stored c.leave.new.self (nodes_shown c.self.inside.nodes) (nodes_shown c.self.inside.nodes) c.args.self.now x q c.args.call.now.asked count answer
-    [] c.self.view_is c.requires.covered.0 (left None count)
-    (c.in-None.ensures q count refl c.requires.covered c.requires.done c.requires.answers) refl)
+    ok_also c.leave.result _ _ (λ left.
+    left_tree c.self.inside.stored c.leave.new.self (nodes_shown c.self.inside.nodes) (nodes_shown c.self.inside.nodes) c.args.self.now x q c.args.call.now.asked c.args.count answer
+    [] c.self.view_is (left None)
+    (c.in-None.ensures q c.args.count refl c.requires.covered c.requires.done c.requires.answers) refl)
     c.leave.ensures.left
 
 pub returns-in_ok-leave-in-Some-clause-taken : goal.returns-in_ok-leave-in-Some-clause-taken
-returns-in_ok-leave-in-Some-clause-taken c = λ count.
+returns-in_ok-leave-in-Some-clause-taken c =
     let x = named_shown c.args.named.now None in
     let q = question (call_shown c.args.call.now) in
     let answer = answer_shown c.args.answer.now in
-    left_tree c.self.inside.stored c.leave-in-Some.new.self (nodes_shown c.self.inside.nodes) (nodes_shown c.bind.new.self) c.args.self.now x q c.args.call.now.asked count answer
-    (c.in-Some.given ∷ []) c.self.view_is c.requires.covered.0 (c.in_ok-leave-in-Some.ensures.left None count)
-    (c.in-Some.ensures q count refl c.requires.covered c.requires.done c.requires.answers)
+    left_tree c.self.inside.stored c.leave-in-Some.new.self (nodes_shown c.self.inside.nodes) (nodes_shown c.bind.new.self) c.args.self.now x q c.args.call.now.asked c.args.count answer
+    (c.in-Some.given ∷ []) c.self.view_is (c.in_ok-leave-in-Some.ensures.left None)
+    (c.in-Some.ensures q c.args.count refl c.requires.covered c.requires.done c.requires.answers)
     (c.bind.ensures.bound ∙ ap (λ nodes. insert nodes c.in-Some.given.0 c.in-Some.given.1) c.reserve.ensures.same)
 
 pub returns-in_err-reserve-in-Some-clause-memory : goal.returns-in_err-reserve-in-Some-clause-memory

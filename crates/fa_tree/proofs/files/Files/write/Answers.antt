@@ -1,0 +1,22 @@
+use Rattle.std.proofs.Common.{rules, ◌≡◌, Some, None, slice_get, refl, sym, ap, ◌∙◌}
+use Rattle.std.proofs.lemmas.Option.{slice_get-get_or, slice_get_past}
+use Rattle.std.proofs.lemmas.Result.{on_ok_weaker}
+use Rattle.fa_tree.specs.Contents.{written}
+use Rattle.fa_tree.specs.parts.FileParts.{with_bytes}
+use Rattle.fa_tree.proofs.FileLemmas.{bytes_set, shown_none}
+use Rattle.fa_tree.proofs.files.Files.write.Goals as goal
+use Rattle.fa_tree.proofs.files.Files.write.Goals.{in-Some, in-None}
+
+pub returns-clause-written : goal.returns-clause-written
+returns-clause-written c =
+    elim c.match-get_mut.branch [
+      | in-Some w ↦
+          let there : slice_get c.self.inside.list.items c.number.result ≡ Some w.in-Some.file.now =
+          slice_get-get_or c.self.inside.list.items c.number.result w.in-Some.file.now (search rules) ∙ ap (λ f. Some f) (sym w.in-Some.ensures.value) in
+          rw (w.result-is, w.self-inside-is)
+          (on_ok_weaker w.write.result (λ same. bytes_set c.self.inside.list.items c.number.result w.in-Some.file.now w.write.new.self (λ bytes. written bytes c.args.offset c.args.payload.now) there same ∙ (rw (c.number.ensures, c.self.view_is) refl)) w.write.ensures.written)
+      | in-None w ↦
+          let none : slice_get c.self.inside.list.items c.number.result ≡ None = slice_get_past c.self.inside.list.items c.number.result (search rules) in
+          let same = shown_none c.self.inside.list.items c.number.result (with_bytes (λ bytes. written bytes c.args.offset c.args.payload.now)) none in
+          rw (w.result-is, w.self-inside-is) (same ∙ (rw (c.number.ensures, c.self.view_is) refl))
+    ]

@@ -1,0 +1,18 @@
+use Rattle.fa_tree.specs.parts.FileParts.{with_bits}
+use Rattle.std.proofs.Common.{refl, sym, ◌∙◌}
+use Rattle.fa_tree.specs.parts.StoredView.{stored_shown}
+use Rattle.fa_tree.proofs.StoredChangeLemmas.{change_keeps_tree, mode_left, link_left}
+use Rattle.fa_tree.proofs.stored.Stored.set_mode.Goals as goal
+use Rattle.fa_tree.proofs.stored.Stored.set_mode.Goals.{else-contains-via-then-contains+else-not-is_symlink, else-contains-via-else-contains}
+
+pub invariant_of-self : goal.invariant_of-self
+invariant_of-self c = change_keeps_tree (stored_shown c.self.inside) c.set_bits.new.self c.args.file (with_bits c.permission_bits.result) (λ f. refl) c.self.invariant c.set_bits.ensures
+
+pub returns-else-contains : goal.returns-else-contains
+returns-else-contains c =
+    elim c.else-contains.branch [
+      | else-contains-via-then-contains+else-not-is_symlink w ↦
+          link_left c.args.self.now c.args.file c.args.setattr.now (w.is_symlink.ensures.0 w.if-not-is_symlink.false)
+      | else-contains-via-else-contains w ↦
+          mode_left c.args.self.now c.args.file c.args.setattr.now (sym (c.contains.ensures _) ∙ w.if-contains.false)
+    ]
