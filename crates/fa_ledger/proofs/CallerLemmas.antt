@@ -20,6 +20,8 @@ pub use Rattle.fa_ledger.proofs.HandleLemmas.{opened_more, closed_more, open_sti
 -- names that nodes have, and keys that are open
 pub use Rattle.fa_ledger.proofs.NodeLemmas.{known_named, unknown_unnamed}
 pub use Rattle.fa_ledger.proofs.GoodLemmas.{good_balanced, open_since}
+-- results, and what was written
+pub use Rattle.fa_ledger.proofs.TableLemmas.{either_way, ok_also, err_also, wrote_ok}
 -- one handle, one listing
 pub use Rattle.fa_ledger.proofs.HandleLemmas.{handle_is_one}
 pub use Rattle.fa_ledger.proofs.ListedLemmas.{uses_is_one, listed_is_one, listing_is_one}

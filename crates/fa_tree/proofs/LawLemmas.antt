@@ -2,7 +2,7 @@
 use Rattle.std.proofs.Common.{◌≡◌, ℕ, List, Option, None, Some, refl, sym, ap, ◌∙◌}
 use Rattle.std.proofs.lemmas.Option.{slice_get_within, same_Some}
 use Rattle.fa_capture.specs.Checks.{AllHold}
-use Rattle.fa_capture.proofs.ChecksLemmas.{no_failure}
+use Rattle.fa_capture.proofs.CallerLemmas.{no_failure}
 use Rattle.fa_bodies.specs.Dirents.{PlainDirent}
 use Rattle.fa_ledger.specs.Calls.{PlainCall}
 use Rattle.fa_tree.specs.State.{TreeState, IsDirectory}

@@ -1,7 +1,7 @@
 use Rattle.std.proofs.Common.{◌∷◌, [], ap, subst, ◌∙◌, arith}
 use Rattle.fa_tree.specs.Edits.Edit.{Added, Removed}
 use Rattle.fa_tree.specs.parts.NameParts.{edited, StaysThere}
-use Rattle.fa_ledger.proofs.TableLemmas.{ok_also}
+use Rattle.fa_ledger.proofs.CallerLemmas.{ok_also}
 use Rattle.fa_tree.proofs.ViewLemmas.{shown_put, shown_stays}
 use Rattle.fa_tree.proofs.EditedLemmas.{edited_put_free}
 use Rattle.fa_tree.proofs.names.Names.put.Goals as goal

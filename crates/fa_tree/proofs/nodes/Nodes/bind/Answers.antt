@@ -1,4 +1,4 @@
-use Rattle.fa_ledger.proofs.TableLemmas.{wrote_ok}
+use Rattle.fa_ledger.proofs.CallerLemmas.{wrote_ok}
 use Rattle.fa_tree.proofs.NodeLemmas.{shown_insert}
 use Rattle.fa_tree.proofs.nodes.Nodes.bind.Goals as goal
 

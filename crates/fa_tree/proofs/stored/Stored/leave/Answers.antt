@@ -1,7 +1,7 @@
 use Rattle.std.proofs.Common.{◌∙◌}
 use Rattle.fa_tree.specs.parts.NamedParts.{named_shown}
 use Rattle.fa_tree.proofs.ChangedLemmas.{opendir_noted}
-use Rattle.fa_ledger.proofs.TableLemmas.{ok_also}
+use Rattle.fa_ledger.proofs.CallerLemmas.{ok_also}
 use Rattle.fa_tree.proofs.stored.Stored.leave.Goals as goal
 
 pub returns-in-Opendir-clause-left : goal.returns-in-Opendir-clause-left

@@ -4,7 +4,7 @@ use Rattle.fa_ledger.specs.SoFar.{listing_so_far}
 use Rattle.fa_tree.specs.Refusals.{TellsOf}
 use Rattle.fa_tree.specs.Steps.{step_checks, Steps}
 use Rattle.fa_tree.proofs.StepLemmas.{shown_at, of_call, unlisted}
-use Rattle.fa_ledger.proofs.TableLemmas.{ok_also, err_also}
+use Rattle.fa_ledger.proofs.CallerLemmas.{ok_also, err_also}
 use Rattle.fa_tree.proofs.tree.Tree.step.Goals as goal
 
 pub step_on-requires-clause-covered : goal.step_on-requires-clause-covered

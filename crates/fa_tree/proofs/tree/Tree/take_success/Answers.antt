@@ -5,7 +5,7 @@ use Rattle.fa_tree.specs.Resolved.{question}
 use Rattle.fa_tree.specs.Changes.{changed}
 use Rattle.fa_tree.specs.parts.NamedParts.{named_shown}
 use Rattle.fa_tree.specs.parts.NodeParts.{nodes_shown}
-use Rattle.fa_ledger.proofs.TableLemmas.{ok_also, either_way}
+use Rattle.fa_ledger.proofs.CallerLemmas.{ok_also, either_way}
 use Rattle.fa_tree.proofs.TakeLemmas.{left_tree, giving_grows}
 use Rattle.fa_tree.proofs.tree.Tree.take_success.Goals as goal
 
