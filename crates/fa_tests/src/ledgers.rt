@@ -785,7 +785,7 @@ const CALLS: [Called; 10] = [
 ];
 
 /// The calls of a capture whose messages are all taken.
-fn calls_of<'a>(alloc: Global, packets: &[Packet<'a>]) -> Option<Calls<'a>> {
+pub fn calls_of<'a>(alloc: Global, packets: &[Packet<'a>]) -> Option<Calls<'a>> {
     let mut paired = Paired::new(alloc);
     let mut codes = vec![in alloc; 0; packets.len()].ok()?;
     paired.take_each(packets, &mut codes);
@@ -965,7 +965,7 @@ fn what_an_order_may_name(rt: HostRuntime) {
 }
 
 /// The bytes of a message: zeros but for these.
-fn spelled<const N: usize>(bytes: &[(usize, u8)]) -> [u8; N] {
+pub fn spelled<const N: usize>(bytes: &[(usize, u8)]) -> [u8; N] {
     let mut message = [0; N];
     for (at, byte) in bytes {
         if let Some(place) = message.get_mut(*at) {
@@ -976,7 +976,7 @@ fn spelled<const N: usize>(bytes: &[(usize, u8)]) -> [u8; N] {
 }
 
 /// 30 messages of one kind, which count up in their unique from 2, and at this place from 10.
-fn thirty<const N: usize>(bytes: &[(usize, u8)], place: usize) -> [[u8; N]; 30] {
+pub fn thirty<const N: usize>(bytes: &[(usize, u8)], place: usize) -> [[u8; N]; 30] {
     let mut messages = [spelled(bytes); 30];
     for (number, message) in (0u8..30).zip(messages.iter_mut()) {
         if let Some(node) = message.get_mut(place) {
@@ -990,9 +990,9 @@ fn thirty<const N: usize>(bytes: &[(usize, u8)], place: usize) -> [[u8; N]; 30] 
 }
 
 /// INIT, and its answer of 24 bytes behind the header.
-const INIT: &[(usize, u8)] = &[(0, 56), (4, 26), (8, 1), (40, 7), (44, 31)];
+pub const INIT: &[(usize, u8)] = &[(0, 56), (4, 26), (8, 1), (40, 7), (44, 31)];
 
-const INIT_ANSWER: &[(usize, u8)] = &[(0, 40), (8, 1), (16, 7), (20, 31)];
+pub const INIT_ANSWER: &[(usize, u8)] = &[(0, 40), (8, 1), (16, 7), (20, 31)];
 /// LOOKUP of `a` in the root, an entry, OPEN, and a file handle.
 const LOOKUP: &[(usize, u8)] = &[(0, 42), (4, 1), (16, 1), (40, b'a')];
 
@@ -1026,7 +1026,7 @@ const LISTING: &[(usize, u8)] = &[
 const READDIR: &[(usize, u8)] = &[(0, 80), (4, 28), (8, 1), (16, 1), (48, 2), (57, 16)];
 
 /// A message in this direction.
-fn packet(direction: Direction, bytes: &[u8]) -> Packet<'_> {
+pub fn packet(direction: Direction, bytes: &[u8]) -> Packet<'_> {
     Packet { direction, bytes }
 }
 

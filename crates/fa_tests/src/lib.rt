@@ -1,9 +1,11 @@
-//! Tests of streams, captures, sessions and ledgers by what their crates offer, as tables. Those of single messages stand
-//! in `fa_message_tests`, and what the program answers is shown by the files in `cases`.
+//! Tests of streams, captures, sessions, ledgers and trees by what their crates offer, as tables. Those of single messages
+//! stand in `fa_message_tests`, and what the program answers is shown by the files in `cases`.
 //!
 //! The expected values come from the formats (docs/formats.md), from `fuse.h` and from `errno.h`.
 #![tactic(auto)]
 
+#[cfg(test)]
+mod bytes;
 #[cfg(test)]
 mod captures;
 #[cfg(test)]
@@ -17,6 +19,10 @@ mod paired;
 #[cfg(test)]
 mod sessions;
 #[cfg(test)]
+mod steps;
+#[cfg(test)]
 mod streams;
+#[cfg(test)]
+mod trees;
 #[cfg(test)]
 mod tried;
