@@ -28,6 +28,9 @@ pub use Rattle.fa_ledger.proofs.ListedLemmas.{uses_is_one, listed_is_one, listin
 -- calls, and one event more
 pub use Rattle.fa_ledger.proofs.CallLemmas.{call_at, call_with, call_is_one, calls_of_are_one, calls_are_one}
 pub use Rattle.fa_ledger.proofs.CallStepLemmas.{call_kept, calls_kept, calls_asked, calls_answered}
+-- items one after the other
+pub use Rattle.fa_ledger.proofs.TakingLemmas.{moved_on}
+pub use Rattle.fa_ledger.proofs.GivingLemmas.{all_at}
 
 -- messages that begin alike have events that begin alike
 pub events_begin : (c d : List Message) (es fs : List PlainEvent) (i : ℕ) → AreEvents c es → AreEvents d fs → take i c ≡ take i d → take i es ≡ take i fs

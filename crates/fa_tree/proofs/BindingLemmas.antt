@@ -1,6 +1,7 @@
 -- For which file an answer gives a name, and whether it may.
-use Rattle.std.proofs.Common.{◌≡◌, inl, inr, ℕ, ◌==◌, zero, suc, Bool, List, [], ◌∷◌, slice_get, Option, None, Some, refl, sym, ap, subst, ◌∙◌, arith, eq-eqb, eqb-true}
+use Rattle.std.proofs.Common.{◌≡◌, inl, inr, ℕ, ◌==◌, ◌<◌, ◌≤◌, zero, suc, Bool, List, [], ◌∷◌, length, slice_get, Option, None, Some, refl, sym, ap, subst, ◌∙◌, arith, eq-eqb, eqb-true}
 use Rattle.std.specs.Prelude.{◌↔◌, ◌⊎◌, IsTrue, Contains}
+use Rattle.std.proofs.lemmas.Option.{get_or_from_slice_get, slice_get_read}
 use Rattle.std.specs.FinMap.{FinMap, get}
 use Rattle.fa_bodies.specs.declared.entry.EntryOut.{EntryOut}
 use Rattle.fa_bodies.specs.declared.handles.OpenOut.{OpenOut}
@@ -21,7 +22,8 @@ use Rattle.fa_tree.specs.Changes.{changed}
 use Rattle.fa_tree.specs.Answers.{IsAnswerTo}
 use Rattle.fa_tree.specs.Judging.{entry_file, files_given}
 use Rattle.fa_tree.specs.Bindings.{AreBound, bound, given_in}
-use Rattle.fa_tree.specs.Covered.{IsCoveredBody}
+use Rattle.fa_tree.specs.parts.PlainParts.{DoesNotList}
+use Rattle.fa_tree.proofs.NodeLemmas.{AreSeen}
 
 -- ---- the file of an entry
 
@@ -44,7 +46,7 @@ one_given s x body reply (inr is) = ap (λ r. files_given s x body (reply_shown 
 -- ---- names with their files
 
 -- no file, no name
-bound_to_none : (names : List NodeName) → bound names [] ≡ []
+pub bound_to_none : (names : List NodeName) → bound names [] ≡ []
 bound_to_none [] = refl
 bound_to_none (name ∷ names) = refl
 
@@ -83,20 +85,20 @@ HasNoEntry (Created entry out) = ⊥
 HasNoEntry other = Unit {0}
 
 -- no listing answers a request that has a step today
-pub none_listed : (body : PlainBody) (entries : List PlainDirent) → IsCoveredBody body → IsAnswerTo body (Listed entries) → ⊥
+pub none_listed : (body : PlainBody) (entries : List PlainDirent) → DoesNotList body → IsAnswerTo body (Listed entries) → ⊥
 none_listed (Readdir r) entries known answers = known
 none_listed (Readdirplus r) entries known answers = known
 none_listed other entries known answers = answers
 
 -- such an answer gives no file
-none_given : (s : Store) (x : Resolved) (body : PlainBody) (reply : PlainReply) → HasNoEntry reply → IsCoveredBody body → IsAnswerTo body reply → files_given s x body reply ≡ []
+none_given : (s : Store) (x : Resolved) (body : PlainBody) (reply : PlainReply) → HasNoEntry reply → DoesNotList body → IsAnswerTo body reply → files_given s x body reply ≡ []
 none_given s x body (Listed entries) plain known answers = absurd (none_listed body entries known answers)
 none_given s x body (Entry entry) plain known answers = absurd plain
 none_given s x body (Created entry out) plain known answers = absurd plain
 none_given s x body other plain known answers = refl
 
 -- and no name
-pub given_for_none : (s : Store) (x : Resolved) (body : PlainBody) (answer : Answer) → HasNoEntry (reply_shown answer.reply) → IsCoveredBody body
+pub given_for_none : (s : Store) (x : Resolved) (body : PlainBody) (answer : Answer) → HasNoEntry (reply_shown answer.reply) → DoesNotList body
     → IsAnswerTo body (reply_shown answer.reply) → given_in s x body (answer_shown answer) ≡ []
 given_for_none s x body answer plain known answers =
     ap (λ files. bound (given_shown answer.given) files) (none_given s x body (reply_shown answer.reply) plain known answers) ∙ bound_to_none (given_shown answer.given)
@@ -126,3 +128,41 @@ may_be_bound nodes name file other told is equal = (
   λ t. may_be_given nodes name file (λ o found. sym (eqb-true other file (sym equal ∙ t)) ∙ (let both : Some other ≡ Some o = sym is ∙ found in cc)),
   λ may. equal ∙ eq-eqb other file (sym (may.known name file other (0, omega (arith), refl) is)),
 )
+
+-- ---- whether names may be given
+
+-- what stands in a list is in it, and the other way round
+stands_in : (given : List (NodeName × ℕ)) (p : NodeName × ℕ) → Contains given p → (k : ℕ) × (k < length given) × (slice_get given k ≡ Some p)
+stands_in given p (k, less, is) = (k, less, slice_get_read given (length given) k p refl less (sym is))
+
+is_in : (given : List (NodeName × ℕ)) (k : ℕ) (p : NodeName × ℕ) → k < length given → slice_get given k ≡ Some p → Contains given p
+is_in given k p less is = (k, less, get_or_from_slice_get given k p p is)
+
+-- names that a table has all of may be given
+pub all_may_be : (nodes seen : FinMap node_cmp ℕ) (given : List (NodeName × ℕ)) (i : ℕ) → length given ≤ i → AreSeen nodes seen given i → AreBound nodes given
+all_may_be nodes seen given i past are = record {
+  known = λ name file other within stands.
+      let there = stands_in given (name, file) within in
+      let less = there.1 in
+      are.known there.0 (name, file) (omega arith) there.2 other stands;
+  one = λ name file other within also.
+      let there = stands_in given (name, file) within in
+      let again = stands_in given (name, other) also in
+      let less = there.1 in
+      let later = again.1 in
+      let both = sym (are.found there.0 (name, file) (omega arith) there.2) ∙ are.found again.0 (name, other) (omega arith) again.2 in
+      cc;
+}
+
+-- one of names that may be given may be
+pub one_may_be : (nodes : FinMap node_cmp ℕ) (given : List (NodeName × ℕ)) (i : ℕ) (one : NodeName × ℕ) → i < length given → slice_get given i ≡ Some one
+    → AreBound nodes given → (other : ℕ) → get nodes one.0 ≡ Some other → one.1 ≡ other
+one_may_be nodes given i one less there may other stands = may.known one.0 one.1 other (is_in given i one less there) stands
+
+-- and does not contradict those before it
+pub one_may_follow : (nodes seen : FinMap node_cmp ℕ) (given : List (NodeName × ℕ)) (i : ℕ) (one : NodeName × ℕ) → i < length given → slice_get given i ≡ Some one
+    → AreSeen nodes seen given i → AreBound nodes given → (other : ℕ) → get seen one.0 ≡ Some other → one.1 ≡ other
+one_may_follow nodes seen given i one less there are may other stands =
+    let was = are.only one.0 other stands in
+    let before = was.1 in
+    may.one one.0 one.1 other (is_in given i one less there) (is_in given was.0 (one.0, other) (omega arith) was.2)

@@ -14,7 +14,7 @@ use Rattle.fa_tree.specs.Opening.{opened}
 use Rattle.fa_tree.specs.Lookups.{file_set}
 use Rattle.fa_tree.specs.Making.{MayBeMade, MayBeCreated, emptied}
 use Rattle.fa_tree.specs.Changes.{with_file, file_written, files_created}
-use Rattle.fa_tree.specs.Covered.{IsCoveredBody}
+use Rattle.fa_tree.specs.parts.PlainParts.{DoesNotList}
 use Rattle.fa_tree.specs.parts.StoredParts.{StoredShown, stored_changed, stored_created, stored_with, stored_opened, stored_noted}
 use Rattle.fa_tree.proofs.EditedLemmas.{each_same}
 
@@ -30,7 +30,7 @@ pub created_made : (s : Store) (directory : ℕ) (name : List ℕ) (flags : Open
 created_made s directory name flags may free = (may.0, free)
 
 -- no edit leaves open directories as they are
-stays_open : (handles : FinMap nat_cmp OpenDirectory) → handles_after [] handles ≡ handles
+pub stays_open : (handles : FinMap nat_cmp OpenDirectory) → handles_after [] handles ≡ handles
 stays_open handles = each_same (open_after []) handles (λ asked h there. refl)
 
 still_open : (t : StoredShown) (store : Store)
@@ -84,7 +84,7 @@ IsStill (Link oldnodeid new_name) = ⊥
 IsStill (Create flags mode umask name) = ⊥
 IsStill body = Unit {0}
 
-pub still_changed : (t : StoredShown) (x : Resolved) (truncates : Bool) (body : PlainBody) (count : ℕ) → IsCoveredBody body → IsStill body → t ≡ stored_changed x truncates body count t
+pub still_changed : (t : StoredShown) (x : Resolved) (truncates : Bool) (body : PlainBody) (count : ℕ) → DoesNotList body → IsStill body → t ≡ stored_changed x truncates body count t
 still_changed t x truncates (Lookup name) count known still = still_open t t.store
 still_changed t x truncates (Getattr g) count known still = still_open t t.store
 still_changed t x truncates Readlink count known still = still_open t t.store

@@ -6,7 +6,7 @@ use Rattle.fa_bodies.specs.Replies.{PlainReply}
 use Rattle.fa_bodies.specs.Replies.PlainReply.{Listed}
 use Rattle.fa_bodies.specs.Requests.{PlainBody}
 use Rattle.fa_tree.proofs.BindingLemmas.{none_listed}
-use Rattle.fa_tree.specs.Covered.{IsCoveredBody}
+use Rattle.fa_tree.specs.parts.PlainParts.{DoesNotList}
 use Rattle.fa_tree.specs.State.{Store, TreeState}
 use Rattle.fa_tree.specs.Resolved.{Question, Resolved}
 use Rattle.fa_tree.specs.Causes.{HasCause}
@@ -56,7 +56,7 @@ untrue b is told = cc
 
 -- ---- listings, which answer no request that has a step today
 
-pub listing_fits : (s : Store) (x : Resolved) (q : Question) (so_far : List PlainDirent) (reply : PlainReply) → IsCoveredBody q.body → IsAnswerTo q.body reply
+pub listing_fits : (s : Store) (x : Resolved) (q : Question) (so_far : List PlainDirent) (reply : PlainReply) → DoesNotList q.body → IsAnswerTo q.body reply
     → ListingFits s x q so_far reply
 listing_fits s x q so_far (Listed entries) known answers = absurd (none_listed q.body entries known answers)
 listing_fits s x q so_far other known answers = tt

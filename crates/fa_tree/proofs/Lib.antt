@@ -8,9 +8,13 @@ pub mod FileLemmas
 pub mod JudgeLemmas
 pub mod JudgingLemmas
 pub mod LawLemmas
+pub mod ListingLemmas
+pub mod ListingStepLemmas
 pub mod MakingLemmas
 pub mod NameLemmas
 pub mod NodeLemmas
+pub mod OpenLemmas
+pub mod OrderlyLemmas
 pub mod OutcomeLemmas
 pub mod PlaceOrderLemmas
 pub mod QueryLemmas
@@ -18,10 +22,13 @@ pub mod RenameLemmas
 pub mod ScanLemmas
 pub mod ShapeLemmas
 pub mod SlotLemmas
+pub mod SoFarLemmas
+pub mod StayedLemmas
 pub mod StepLemmas
 pub mod StoredChangeLemmas
 pub mod StoredLemmas
 pub mod TakeLemmas
+pub mod TallyLemmas
 pub mod TreeLemmas
 pub mod ViewLemmas
 pub mod WalkLemmas

@@ -1,19 +1,23 @@
 -- The map of nodes: its order, and what a table of nodes shows.
-use Rattle.std.proofs.Common.{◌≡◌, ℕ, cond, List, [], ◌∷◌, Some, refl, sym, ◌∙◌, arith}
+use Rattle.std.proofs.Common.{◌≡◌, ◌⊎◌, inl, inr, ℕ, suc, ◌+◌, ◌<◌, ◌≤◌, Bool, true, false, cond, List, [], ◌∷◌, length, drop, get_or, slice_get, Some, refl, sym, ap, subst, ◌∙◌, arith}
 use Rattle.std.specs.Prelude.{◌&&◌, nat_eq}
+use Rattle.std.proofs.Math.Seq.{drop-cons}
+use Rattle.std.proofs.lemmas.List.{drop_all}
+use Rattle.std.proofs.lemmas.Bool.{cases_lt}
 use Rattle.std.proofs.lemmas.Bool.Decides.{nat_tests}
 use Rattle.std.proofs.lemmas.Cmp.{then_total, nat_cmp_total, eq_by_cmp_equiv}
-use Rattle.std.specs.Cmp.{IsTotalOrder, on_total, unsigned_tied}
+use Rattle.std.specs.Cmp.{IsTotalOrder, on_total, tied_itself, unsigned_tied}
 use Rattle.std.specs.Ordering.{nat_cmp, ordering_then, ordering_reverse, eq_by_cmp, is_eq}
 use Rattle.std.specs.declared.cmp.Ordering.{Ordering}
 use Rattle.std.specs.declared.cmp.Ordering.TheVariants.{Less, Equal, Greater}
 use Rattle.std.specs.Map.{lookup}
 use Rattle.std.specs.FinMap as map
-use Rattle.std.specs.FinMap.{IsAntisymmetric, find}
+use Rattle.std.specs.FinMap.{FinMap, IsAntisymmetric, find}
 use Rattle.fa_ledger.specs.contracts.name.NodeNamePartialEq.TheImpl as derived
 use Rattle.fa_ledger.specs.declared.name.NodeName.{NodeName}
 use Rattle.fa_ledger.specs.declared.name.NodeName.TheVariants.{Root, Given}
 use Rattle.fa_tree.specs.State.{node_cmp}
+use Rattle.fa_tree.specs.Bindings.{nodes_after}
 
 -- ---- the order of names of nodes
 
@@ -96,3 +100,102 @@ pub shown_insert : (old new : List (NodeName × ℕ)) (name : NodeName) (file : 
 shown_insert old new name file wrote =
     map.same_map node_total node_same (map.from_entries new) (map.insert (map.from_entries old) name file) (λ q.
     get_shown new q ∙ (wrote q ∙ (rw (sym (ties name q), sym (get_shown old q), (eq_by_cmp_equiv node_total).symm name q) (sym (map.get-insert node_total (map.from_entries old) name file q)))))
+
+-- ---- names that are given one after the other
+
+-- the next of those that are left, where there is one
+pub one_bound : (given : List (NodeName × ℕ)) (i : ℕ) (one : NodeName × ℕ) (nodes now all : FinMap node_cmp ℕ) → i < length given → one ≡ get_or given i one
+    → nodes_after (drop i given) nodes ≡ all → now ≡ map.insert nodes one.0 one.1 → nodes_after (drop (i + 1) given) now ≡ all
+one_bound given i one nodes now all less is left put =
+    let next : drop i given ≡ one ∷ drop (suc i) given = drop-cons given i one less ∙ ap (λ x. x ∷ drop (suc i) given) (sym is) in
+    let later : i + 1 ≡ suc i = omega arith in
+    ap (λ k. nodes_after (drop k given) now) later ∙ ap (nodes_after (drop (suc i) given)) put ∙ sym (ap (λ xs. nodes_after xs nodes) next) ∙ left
+
+-- none is left
+pub all_bound : (given : List (NodeName × ℕ)) (i : ℕ) (nodes all : FinMap node_cmp ℕ) → length given ≤ i → nodes_after (drop i given) nodes ≡ all → nodes ≡ all
+all_bound given i nodes all past left = sym (ap (λ xs. nodes_after xs nodes) (drop_all i given past)) ∙ left
+
+-- ---- names that stand for one file
+
+-- names that tie are one, and each ties with itself
+name_same : (r s : NodeName) → eq_by_cmp node_cmp r s ≡ true → r ≡ s
+name_same r s tie = by (node_cmp r s) refl tie
+  where
+    by : (o : Ordering) → node_cmp r s ≡ o → is_eq o ≡ true → r ≡ s
+    by Less is tie = absurd cc
+    by Equal is tie = node_same r s is
+    by Greater is tie = absurd cc
+
+name_self : (name : NodeName) → eq_by_cmp node_cmp name name ≡ true
+name_self name = ap is_eq (tied_itself node_total name)
+
+-- the first of the names given, as a table has them, and none of them stands for another file
+pub record AreSeen (nodes seen : FinMap node_cmp ℕ) (given : List (NodeName × ℕ)) (i : ℕ) : Type 0 where
+  pub known : (k : ℕ) (one : NodeName × ℕ) → k < i → slice_get given k ≡ Some one → (other : ℕ) → map.get nodes one.0 ≡ Some other → one.1 ≡ other
+  pub found : (k : ℕ) (one : NodeName × ℕ) → k < i → slice_get given k ≡ Some one → map.get seen one.0 ≡ Some one.1
+  pub only : (name : NodeName) (file : ℕ) → map.get seen name ≡ Some file → (k : ℕ) × (k < i) × (slice_get given k ≡ Some (name, file))
+
+-- at first none is seen
+pub none_seen : (nodes seen : FinMap node_cmp ℕ) (given : List (NodeName × ℕ)) → seen ≡ map.empty → AreSeen nodes seen given 0
+none_seen nodes seen given is = record {
+  known = λ k one less there. absurd (omega (arith, less));
+  found = λ k one less there. absurd (omega (arith, less));
+  only = λ name file found.
+      let nothing = sym (map.get-empty node_cmp name) ∙ ap (λ m. map.get m name) (sym is) ∙ found in
+      absurd cc;
+}
+
+-- one more, for a file that it does not contradict
+module _ (nodes seen now : FinMap node_cmp ℕ) (given : List (NodeName × ℕ)) (i : ℕ) (one : NodeName × ℕ)
+    (before : AreSeen nodes seen given i) (there : slice_get given i ≡ Some one)
+    (may : (other : ℕ) → map.get nodes one.0 ≡ Some other → one.1 ≡ other)
+    (same : (other : ℕ) → map.get seen one.0 ≡ Some other → one.1 ≡ other)
+    (put : now ≡ map.insert seen one.0 one.1) where
+  now_has : (name : NodeName) → map.get now name ≡ cond (eq_by_cmp node_cmp name one.0) (Some one.1) (map.get seen name)
+  now_has name = ap (λ m. map.get m name) put ∙ map.get-insert node_total seen one.0 one.1 name
+
+  -- an earlier one, or this one
+  earlier : (k : ℕ) (p : NodeName × ℕ) → k < i + 1 → slice_get given k ≡ Some p → (k < i) ⊎ (p ≡ one)
+  earlier k p less is =
+      elim (cases_lt k i) [
+        | inl before_i ↦ inl before_i
+        | inr not_before ↦ inr (let own : k ≡ i = omega arith in let both : Some p ≡ Some one = sym is ∙ ap (slice_get given) own ∙ there in cc)
+      ]
+
+  known_now : (k : ℕ) (p : NodeName × ℕ) → k < i + 1 → slice_get given k ≡ Some p → (other : ℕ) → map.get nodes p.0 ≡ Some other → p.1 ≡ other
+  known_now k p less is other stands =
+      elim (earlier k p less is) [
+        | inl before_i ↦ before.known k p before_i is other stands
+        | inr own ↦ subst (λ (q : NodeName × ℕ). map.get nodes q.0 ≡ Some other → q.1 ≡ other) (sym own) (may other) stands
+      ]
+
+  still : (name : NodeName) (file : ℕ) → map.get seen name ≡ Some file → map.get now name ≡ Some file
+  still name file is = by (eq_by_cmp node_cmp name one.0) refl (now_has name)
+    where
+      by : (b : Bool) → eq_by_cmp node_cmp name one.0 ≡ b → map.get now name ≡ cond b (Some one.1) (map.get seen name) → map.get now name ≡ Some file
+      by true tie has = has ∙ ap (λ n. Some n) (same file (subst (λ n. map.get seen n ≡ Some file) (name_same name one.0 tie) is))
+      by false apart has = has ∙ is
+
+  found_now : (k : ℕ) (p : NodeName × ℕ) → k < i + 1 → slice_get given k ≡ Some p → map.get now p.0 ≡ Some p.1
+  found_now k p less is =
+      elim (earlier k p less is) [
+        | inl before_i ↦ still p.0 p.1 (before.found k p before_i is)
+        | inr own ↦ subst (λ (q : NodeName × ℕ). map.get now q.0 ≡ Some q.1) (sym own)
+            (now_has one.0 ∙ ap (λ b. cond b (Some one.1) (map.get seen one.0)) (name_self one.0))
+      ]
+
+  only_now : (name : NodeName) (file : ℕ) → map.get now name ≡ Some file → (k : ℕ) × (k < i + 1) × (slice_get given k ≡ Some (name, file))
+  only_now name file is = by (eq_by_cmp node_cmp name one.0) refl (sym (now_has name) ∙ is)
+    where
+      by : (b : Bool) → eq_by_cmp node_cmp name one.0 ≡ b → cond b (Some one.1) (map.get seen name) ≡ Some file → (k : ℕ) × (k < i + 1) × (slice_get given k ≡ Some (name, file))
+      by true tie has =
+          let own : one.1 ≡ file = (let both : Some one.1 ≡ Some file = has in cc) in
+          let pair : ◌≡◌ {A = NodeName × ℕ} one (name, file) = λ j. (sym (name_same name one.0 tie) j, own j) in
+          (i, omega arith, there ∙ ap (λ q. Some q) pair)
+      by false apart has =
+          let was = before.only name file has in
+          let less = was.1 in
+          (was.0, omega (arith, less), was.2)
+
+  pub more_seen : AreSeen nodes now given (i + 1)
+  more_seen = record { known = known_now; found = found_now; only = only_now }

@@ -14,7 +14,7 @@ use Rattle.fa_tree.specs.State.{place_cmp, name_cmp, OpenDirectory}
 use Rattle.fa_tree.specs.Edits.{each_open, open_after, open_after_one}
 use Rattle.fa_tree.specs.Edits.Edit.{Added, Removed}
 use Rattle.fa_tree.specs.Opening.{opened}
-use Rattle.fa_tree.specs.declared.names.Opening.{Opening}
+use Rattle.fa_tree.specs.declared.open.Opening.{Opening}
 use Rattle.fa_tree.specs.declared.slots.Place.{Place}
 use Rattle.fa_tree.specs.declared.slots.Slot.{Slot}
 use Rattle.fa_tree.specs.declared.slots.Slot.TheVariants.{There, Gone}

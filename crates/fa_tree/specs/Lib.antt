@@ -47,8 +47,6 @@ pub mod Outcomes
 pub mod Steps
 -- what a refusal says
 pub mod Refusals
--- the requests that have a step today
-pub mod Covered
 -- trees that are put together
 pub mod Building
 -- what makes them trees

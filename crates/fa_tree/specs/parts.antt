@@ -6,6 +6,10 @@ pub mod SlotParts
 -- the table of names: its value, and what its body shows of it
 pub mod NameParts
 pub mod NameViews
+-- openings, and open directories
+pub mod OpenParts
+-- what was listed so far
+pub mod TallyParts
 -- files
 pub mod FileParts
 pub mod FactParts
@@ -13,6 +17,9 @@ pub mod FactParts
 pub mod NodeParts
 -- what a call names
 pub mod NamedParts
+-- calls that do not list, and those that do
+pub mod PlainParts
+pub mod ListingParts
 -- ways up the tree
 pub mod ShapeParts
 -- what a tree stores, and trees, as values

@@ -14,7 +14,7 @@ ghost use Rattle.fa_tree.specs.Contents.{resized};
 ghost use Rattle.fa_tree.specs.Making.{MayBeMade, emptied, new_regular};
 ghost use Rattle.fa_tree.specs.parts.FileParts.{with_bytes};
 ghost use Rattle.fa_tree.specs.Conditions.{MayBeDone};
-ghost use Rattle.fa_tree.specs.Covered.{IsCoveredBody};
+ghost use Rattle.fa_tree.specs.parts.PlainParts.{DoesNotList};
 ghost use Rattle.fa_tree.specs.Refusals.{MayGrow};
 ghost use Rattle.fa_tree.specs.parts.NamedParts.{named_shown};
 ghost use Rattle.fa_tree.specs.parts.StoredParts.{mode_set, stored_created, stored_changed, stored_edited, stored_with, stored_opened, stored_noted};
@@ -152,7 +152,7 @@ impl Stored {
         truncates: bool,
         count: u32,
     ) -> Result<(), AllocError>
-        requires covered { IsCoveredBody (body_shown body.now) }
+        requires no_listing { DoesNotList (body_shown body.now) }
         requires done { (handle : Option OpenDirectory) → MayBeDone self.old.store (named_shown named.now handle) (body_shown body.now) }
         ensures changed { OnOk result ((handle : Option OpenDirectory) → self.new ≡ stored_changed (named_shown named.now handle) truncates (body_shown body.now) count self.old) }
         ensures memory { OnErr result (MayGrow (body_shown body.now)) }
@@ -222,7 +222,7 @@ impl Stored {
         asked: u32,
         opens: bool,
     ) -> Result<(), AllocError>
-        requires covered { IsCoveredBody (body_shown body.now) }
+        requires no_listing { DoesNotList (body_shown body.now) }
         requires done { (handle : Option OpenDirectory) → MayBeDone self.old.store (named_shown named.now handle) (body_shown body.now) }
         ensures left { OnOk result ((handle : Option OpenDirectory) → self.new ≡ stored_noted (named_shown named.now handle) truncates (body_shown body.now) asked opens count self.old) }
         ensures memory { OnErr result (MayGrow (body_shown body.now)) }

@@ -9,7 +9,7 @@ pub enum StepError {
     /// The tree does not allow it: the code of the first check that fails, one of [`codes`](fa_capture::codes).
     #[error("not allowed, by code {0}")]
     Refused(u16),
-    /// Memory for a file, a name, a node or an open directory was refused.
+    /// Memory for a file, a name, a node or an open directory, or for what was listed so far, was refused.
     #[error("out of memory")]
     Memory,
 }

@@ -17,7 +17,7 @@ ghost use Rattle.fa_tree.specs.Changes.{changed};
 ghost use Rattle.fa_tree.specs.Answers.{IsAnswerTo, FindsAsSaid};
 ghost use Rattle.fa_tree.specs.Judging.{AttributesFit, BytesFit, BytesAre, entry_file};
 ghost use Rattle.fa_tree.specs.Contents.{IsReadFrom};
-ghost use Rattle.fa_tree.specs.Covered.{IsCovered, IsCoveredBody};
+ghost use Rattle.fa_tree.specs.parts.PlainParts.{AsksNoListing, DoesNotList};
 ghost use Rattle.fa_tree.specs.Lookups.{IsFoundAs, IsTargetOf, bits_set};
 ghost use Rattle.fa_tree.specs.Making.{node_kind, new_bits};
 ghost use Rattle.fa_tree.specs.parts.FactParts.{size_set, AreOpenedFacts, AreFactsOf, AreFactsIfAny, AreFactsAfter, AreNewFacts, AreFurtherFacts, AreSetFacts, AreCreatedFacts, IsFoundOrNext, SpokenFit, IsLookup, left_by, spoken_of};
@@ -276,7 +276,7 @@ impl Stored {
 
     /// What the attributes in an answer are judged by, after the request.
     fn facts_after(&self, named: &Named, body: &RequestBody<'_>, truncates: bool) -> Option<Facts>
-        ensures { (handle : Option OpenDirectory) (count : ℕ) → IsCoveredBody (body_shown body.now) → MayBeDone self.now.store (named_shown named.now handle) (body_shown body.now)
+        ensures { (handle : Option OpenDirectory) (count : ℕ) → DoesNotList (body_shown body.now) → MayBeDone self.now.store (named_shown named.now handle) (body_shown body.now)
             → AreFactsAfter self.now.store (named_shown named.now handle) truncates (body_shown body.now) count result }
     {
         let node = named.node;
@@ -323,7 +323,7 @@ impl Stored {
 
     /// The file of the name in an entry that answers the request, after the request.
     fn file_left(&self, named: &Named, body: &RequestBody<'_>) -> Option<FileId>
-        ensures { (handle : Option OpenDirectory) (truncates : Bool) (count : ℕ) → IsCoveredBody (body_shown body.now) → MayBeDone self.now.store (named_shown named.now handle) (body_shown body.now)
+        ensures { (handle : Option OpenDirectory) (truncates : Bool) (count : ℕ) → DoesNotList (body_shown body.now) → MayBeDone self.now.store (named_shown named.now handle) (body_shown body.now)
             → result ≡ entry_file (left_by self.now.store (named_shown named.now handle) truncates (body_shown body.now) count) (named_shown named.now handle) (body_shown body.now) }
     {
         let node = named.node;
@@ -340,7 +340,7 @@ impl Stored {
 
     /// The file of the name in an entry that answers the request, after the request.
     pub(crate) fn file_after(&self, named: &Named, body: &RequestBody<'_>) -> Option<FileId>
-        ensures { (handle : Option OpenDirectory) (q : Question) (count : ℕ) → q.body ≡ body_shown body.now → IsCovered q → MayBeDone self.now.store (named_shown named.now handle) q.body
+        ensures { (handle : Option OpenDirectory) (q : Question) (count : ℕ) → q.body ≡ body_shown body.now → AsksNoListing q → MayBeDone self.now.store (named_shown named.now handle) q.body
             → result ≡ entry_file (changed self.now.store (named_shown named.now handle) q count) (named_shown named.now handle) q.body }
     {
         self.file_left(named, body)
@@ -391,7 +391,7 @@ impl Stored {
         truncates: bool,
         attr: &Attributes,
     ) -> bool
-        ensures { (handle : Option OpenDirectory) (count : ℕ) → IsCoveredBody (body_shown body.now) → MayBeDone self.now.store (named_shown named.now handle) (body_shown body.now)
+        ensures { (handle : Option OpenDirectory) (count : ℕ) → DoesNotList (body_shown body.now) → MayBeDone self.now.store (named_shown named.now handle) (body_shown body.now)
             → IsTrue result ↔ SpokenFit (left_by self.now.store (named_shown named.now handle) truncates (body_shown body.now) count) (spoken_of (left_by self.now.store (named_shown named.now handle) truncates (body_shown body.now) count) (named_shown named.now handle) (body_shown body.now)) attr.now }
     {
         match self.facts_after(named, body, truncates) {
@@ -408,7 +408,7 @@ impl Stored {
         truncates: bool,
         entry: &EntryOut,
     ) -> bool
-        ensures { (handle : Option OpenDirectory) (count : ℕ) → IsCoveredBody (body_shown body.now) → MayBeDone self.now.store (named_shown named.now handle) (body_shown body.now) → IsAnswerTo (body_shown body.now) (Entry entry.now)
+        ensures { (handle : Option OpenDirectory) (count : ℕ) → DoesNotList (body_shown body.now) → MayBeDone self.now.store (named_shown named.now handle) (body_shown body.now) → IsAnswerTo (body_shown body.now) (Entry entry.now)
             → IsTrue result ↔ AttributesFit (left_by self.now.store (named_shown named.now handle) truncates (body_shown body.now) count) (named_shown named.now handle) (body_shown body.now) (Entry entry.now) }
     {
         finds_nothing(body, entry) || self.attributes_are(named, body, truncates, &entry.attr)
@@ -434,7 +434,7 @@ impl Stored {
         truncates: bool,
         reply: &Reply<'_>,
     ) -> bool
-        ensures { (handle : Option OpenDirectory) (count : ℕ) → IsCoveredBody (body_shown body.now) → MayBeDone self.now.store (named_shown named.now handle) (body_shown body.now) → IsAnswerTo (body_shown body.now) (reply_shown reply.now)
+        ensures { (handle : Option OpenDirectory) (count : ℕ) → DoesNotList (body_shown body.now) → MayBeDone self.now.store (named_shown named.now handle) (body_shown body.now) → IsAnswerTo (body_shown body.now) (reply_shown reply.now)
             → IsTrue result ↔ AttributesFit (left_by self.now.store (named_shown named.now handle) truncates (body_shown body.now) count) (named_shown named.now handle) (body_shown body.now) (reply_shown reply.now) }
     {
         match reply {
@@ -462,7 +462,7 @@ impl Stored {
         truncates: bool,
         reply: &Reply<'_>,
     ) -> bool
-        ensures { (handle : Option OpenDirectory) (q : Question) (count : ℕ) → q.body ≡ body_shown body.now → q.truncates ≡ truncates → IsCovered q → MayBeDone self.now.store (named_shown named.now handle) q.body → IsAnswerTo q.body (reply_shown reply.now)
+        ensures { (handle : Option OpenDirectory) (q : Question) (count : ℕ) → q.body ≡ body_shown body.now → q.truncates ≡ truncates → AsksNoListing q → MayBeDone self.now.store (named_shown named.now handle) q.body → IsAnswerTo q.body (reply_shown reply.now)
             → IsTrue result ↔ AttributesFit (changed self.now.store (named_shown named.now handle) q count) (named_shown named.now handle) q.body (reply_shown reply.now) }
     {
         self.attributes_left_fit(named, body, truncates, reply)
@@ -490,7 +490,7 @@ impl Stored {
 
     /// Whether bytes are those that the request asks for.
     fn bytes_are(&self, named: &Named, body: &RequestBody<'_>, direct: bool, bytes: &[u8]) -> bool
-        ensures { (handle : Option OpenDirectory) (truncates : Bool) (count : ℕ) → IsCoveredBody (body_shown body.now)
+        ensures { (handle : Option OpenDirectory) (truncates : Bool) (count : ℕ) → DoesNotList (body_shown body.now)
             → IsTrue result ↔ BytesAre (left_by self.now.store (named_shown named.now handle) truncates (body_shown body.now) count) (named_shown named.now handle) direct (body_shown body.now) bytes.now }
     {
         match body {
@@ -510,7 +510,7 @@ impl Stored {
         direct: bool,
         reply: &Reply<'_>,
     ) -> bool
-        ensures { (handle : Option OpenDirectory) (q : Question) (count : ℕ) → q.body ≡ body_shown body.now → q.direct ≡ direct → IsCovered q → IsAnswerTo q.body (reply_shown reply.now)
+        ensures { (handle : Option OpenDirectory) (q : Question) (count : ℕ) → q.body ≡ body_shown body.now → q.direct ≡ direct → AsksNoListing q → IsAnswerTo q.body (reply_shown reply.now)
             → IsTrue result ↔ BytesFit (changed self.now.store (named_shown named.now handle) q count) (named_shown named.now handle) q (reply_shown reply.now) }
     {
         match reply {

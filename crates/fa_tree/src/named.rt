@@ -1,6 +1,7 @@
 //! What a call names in a tree.
 
 use crate::id::FileId;
+use crate::open::OpenNames;
 
 /// The files that a request names.
 #[derive(Clone, Copy, Debug)]
@@ -9,4 +10,12 @@ pub(crate) struct Named {
     pub node: FileId,
     /// The new directory of a RENAME, and the file of a LINK.
     pub other: Option<FileId>,
+}
+
+/// The files that a call names that lists, and the directory that it lists, which is open.
+#[derive(Clone, Copy)]
+pub(crate) struct NamedDirectory<'t> {
+    pub named: Named,
+    /// The directory of its handle.
+    pub names: OpenNames<'t>,
 }

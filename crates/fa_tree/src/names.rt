@@ -2,21 +2,17 @@
 
 ghost use Rattle.std.specs.Prelude.{◌≡◌, ◌≢◌, ◌↔◌, ◌==◌, ◌∷◌, [], ℕ, List, count_by, IsTrue, IfSome, IfNone, Some, None, OnOk, OnErr};
 ghost use Rattle.std.specs.FinMap.{get, entries};
+ghost use Rattle.std.specs.Option.{option_map};
 ghost use Rattle.fa_tree.specs.Edits.Edit.{Added, Removed};
 ghost use Rattle.fa_tree.specs.Renaming.{moved};
 ghost use Rattle.fa_tree.specs.parts.NameParts.{NamesShown, no_names, edited, opened_by};
+ghost use Rattle.fa_tree.specs.parts.OpenParts.{open_of};
 
 use crate::id::FileId;
+use crate::open::{OpenNames, Opening, Openings};
 use crate::slots::{Slot, Slots};
 use std::alloc::{AllocError, Global};
 use std::marker::Model;
-
-/// The opening of a directory, by the request of this number.
-#[derive(Clone, Copy)]
-pub(crate) struct Opening {
-    pub asked: u32,
-    pub directory: FileId,
-}
 
 /// The names of directories, with their files, and the directories that are open, with what was in them since then.
 ///
@@ -26,8 +22,8 @@ pub(crate) struct Opening {
 pub(crate) struct Names {
     /// For each place that ever had a name what is there.
     slots: Slots,
-    /// All openings, the earlier before the later.
-    openings: Vec<Opening>,
+    /// All openings.
+    openings: Openings,
 }
 
 impl Model for Names {
@@ -41,9 +37,9 @@ impl Model for Names {
     ghost use Rattle.std.specs.Prelude.{length};
     ghost use Rattle.fa_tree.specs.parts.NameViews.{shown, AreStampsWithin};
 
-    ghost view = { λ n. shown n.slots.table.entries n.openings.items };
+    ghost view = { λ n. shown n.slots.table.entries n.openings };
 
-    ghost invariant = { λ n. AreStampsWithin (length n.openings.items) n.slots.table.entries };
+    ghost invariant = { λ n. AreStampsWithin (length n.openings) n.slots.table.entries };
 }
 
 impl Names {
@@ -55,7 +51,7 @@ impl Names {
     {
         Names {
             slots: Slots::new(alloc),
-            openings: Vec::new(alloc),
+            openings: Openings::new(alloc),
         }
     }
 
@@ -150,12 +146,20 @@ impl Names {
     /// Notes that the request of this number opens a directory. An error says that memory was refused, and nothing is
     /// changed.
     ///
-    /// Constant time but for growing, and nothing is copied of what is in the directory.
+    /// Expected constant time but for growing, and nothing is copied of what is in the directory.
     pub fn open(&mut self, asked: u32, directory: FileId) -> Result<(), AllocError>
         ensures opened { OnOk result (self.new ≡ opened_by asked directory self.old) }
         ensures unchanged { OnErr result (self.new ≡ self.old) }
     {
-        self.openings.push(Opening { asked, directory })?;
-        Ok(())
+        self.openings.push(Opening { asked, directory })
+    }
+
+    /// The directory that the request of this number opened, if one did.
+    ///
+    /// Takes no memory, in expected constant time.
+    pub fn open_directory(&self, asked: u32) -> Option<OpenNames<'_>>
+        ensures { option_map open_of result ≡ get self.now.handles asked }
+    {
+        self.openings.last(asked, &self.slots)
     }
 }

@@ -1,8 +1,9 @@
 //! The files that names of nodes stand for.
 
-ghost use Rattle.std.specs.Prelude.{◌≡◌, ◌<◌, [], IsTrue, OnOk, OnErr};
+ghost use Rattle.std.specs.Prelude.{◌≡◌, ◌≤◌, ◌<◌, ◌+◌, ◌↔◌, ℕ, Some, length, IsTrue, IfOk, OnOk};
 ghost use Rattle.std.specs.FinMap as map;
 ghost use Rattle.indexmap.specs.IndexMap.{spare};
+ghost use Rattle.fa_tree.specs.Bindings.{AreBound, nodes_after};
 ghost use Rattle.fa_tree.specs.parts.NodeParts.{nodes_shown};
 
 use crate::id::FileId;
@@ -38,14 +39,64 @@ impl Nodes {
         ensures same { nodes_shown self.new ≡ nodes_shown self.old }
         ensures room { OnOk result (0 < spare self.new.files) }
     {
-        self.files.reserve(1)
+        self.reserve_for(1)
+    }
+
+    /// Makes room for so many names.
+    pub fn reserve_for(&mut self, count: usize) -> Result<(), AllocError>
+        ensures same { nodes_shown self.new ≡ nodes_shown self.old }
+        ensures room { OnOk result (count ≤ spare self.new.files) }
+    {
+        self.files.reserve(count)
     }
 
     /// The name stands for the file from now on. There is room for it.
     pub fn bind(&mut self, given: (NodeName, FileId))
         requires room { 0 < spare self.old.files }
         ensures bound { nodes_shown self.new ≡ map.insert (nodes_shown self.old) given.0 given.1 }
+        ensures left { spare self.old.files ≤ spare self.new.files + 1 }
     {
         self.files.insert(given.0, given.1).unwrap();
+    }
+
+    /// Names stand for files from now on. There is room for them.
+    pub fn bind_all(&mut self, given: &[(NodeName, FileId)])
+        requires room { length given.now ≤ spare self.old.files }
+        ensures bound { nodes_shown self.new ≡ nodes_after given.now (nodes_shown self.old) }
+    {
+        for one in given {
+            self.bind(*one);
+        }
+    }
+
+    /// Whether a name may be given for this file: it stands for no other.
+    fn may_bind(&self, given: &(NodeName, FileId)) -> bool
+        ensures { IsTrue result ↔ ((other : ℕ) → map.get (nodes_shown self.now) given.now.0 ≡ Some other → given.now.1 ≡ other) }
+    {
+        match self.get(&given.0) {
+            Some(other) => other == given.1,
+            None => true,
+        }
+    }
+
+    /// Whether names may be given for these files: none stands for another file, and none is given for two.
+    ///
+    /// Time linear in them, with memory for a table of them.
+    pub fn may_bind_all(
+        &self,
+        alloc: Global,
+        given: &[(NodeName, FileId)],
+    ) -> Result<bool, AllocError>
+        ensures { IfOk result (λ may. IsTrue may ↔ AreBound (nodes_shown self.now) given.now) }
+    {
+        let mut seen = Nodes::new(alloc);
+        seen.reserve_for(given.len())?;
+        for one in given {
+            if !self.may_bind(one) || !seen.may_bind(one) {
+                return Ok(false);
+            }
+            seen.bind(*one);
+        }
+        Ok(true)
     }
 }

@@ -11,7 +11,7 @@ ghost use Rattle.fa_ledger.specs.Choices.{Allows};
 ghost use Rattle.fa_ledger.specs.SoFar.{listing_so_far};
 ghost use Rattle.fa_ledger.specs.declared.call.Call.{Call as TheCall};
 ghost use Rattle.fa_tree.specs.State.{file_of};
-ghost use Rattle.fa_tree.specs.Resolved.{Question, question, resolved};
+ghost use Rattle.fa_tree.specs.Resolved.{Question, question, resolved, other_of};
 ghost use Rattle.fa_tree.specs.Causes.{HasCause};
 ghost use Rattle.fa_tree.specs.Conditions.{MayBeDone};
 ghost use Rattle.fa_tree.specs.Changes.{changed};
@@ -21,7 +21,7 @@ ghost use Rattle.fa_tree.specs.Bindings.{AreBound, given_in};
 ghost use Rattle.fa_tree.specs.Outcomes.{outcome, count_written};
 ghost use Rattle.fa_tree.specs.Outcomes.Outcome.{Fails, Succeeds, Unanswered};
 ghost use Rattle.fa_tree.specs.Steps.{SuccessAllowed, OfCallAt, setting, outcome_checks, step_checks, tree_changed, noted, tree_after, Steps};
-ghost use Rattle.fa_tree.specs.Covered.{IsCovered};
+ghost use Rattle.fa_tree.specs.parts.PlainParts.{AsksNoListing};
 ghost use Rattle.fa_tree.specs.Refusals.{MayGrow, MayTakeMemory, TellsOf};
 ghost use Rattle.fa_tree.specs.parts.NamedParts.{named_shown};
 
@@ -53,29 +53,33 @@ impl Tree {
     /// after a success it is the tree that the request leaves, after an error it stays as it is. A request without an answer is
     /// done as a success without one.
     ///
-    /// READDIR and READDIRPLUS have no step yet.
-    ///
     /// `Refused` tells the least code that applies:
-    /// [`UNKNOWN_HERE`](fa_capture::codes::UNKNOWN_HERE) that the tree knows no file for a node that the call names;
+    /// [`UNKNOWN_HERE`](fa_capture::codes::UNKNOWN_HERE) that the tree knows no file for a node that the call names, or no open directory for its handle;
     /// [`SUCCESS_NOT_ALLOWED`](fa_capture::codes::SUCCESS_NOT_ALLOWED) that the request can't succeed here, or not with such an
     /// answer; [`ERROR_WITHOUT_CAUSE`](fa_capture::codes::ERROR_WITHOUT_CAUSE) that an error of POSIX that has one cause is
     /// answered without it; [`ATTRIBUTES`](fa_capture::codes::ATTRIBUTES) that attributes (`struct fuse_attr`) are not those of
     /// the file; [`NODE_ID_OF_ANOTHER`](fa_capture::codes::NODE_ID_OF_ANOTHER) that a node is given for another file than
-    /// before; [`BYTES_READ`](fa_capture::codes::BYTES_READ) that bytes are not those of the file, or a target another one.
+    /// before; [`BYTES_READ`](fa_capture::codes::BYTES_READ) that bytes are not those of the file, or a target another one;
+    /// [`LISTING`](fa_capture::codes::LISTING) that entries are not what the rule of listings allows.
     /// `Memory` tells that memory was refused. The tree is then as it was.
     ///
     /// Errors, GETATTR, READLINK, READ, OPEN, UNLINK, RMDIR and SETATTR without a size take no memory. Time and memory otherwise
     /// in the bytes of names and targets, and in those that are read, written or filled up with zeros; where links are counted,
-    /// parents looked for or a directory asked to be empty, time in the names of the tree too (this profile).
+    /// parents looked for, a directory asked to be empty or all that stayed in it for, time in all places that ever had a name
+    /// too. READDIR and READDIRPLUS take time and memory in the names that were listed so far (this profile).
     pub fn step(&mut self, calls: &Calls<'_>, k: usize, wrote: Option<u32>) -> Result<(), StepError>
         requires there { k < length calls.now.list.items }
         requires allowed { OfCallAt (map call_shown calls.now.list.items) k (λ call. Allows call wrote) }
-        requires covered { OfCallAt (map call_shown calls.now.list.items) k (λ call. IsCovered (question call)) }
         ensures steps { OnOk result (OfCallAt (map call_shown calls.now.list.items) k (λ call. Steps self.old self.new call wrote (listing_so_far (map call_shown calls.now.list.items) k))) }
         ensures refused { IfErr result (λ e. OfCallAt (map call_shown calls.now.list.items) k (λ call. TellsOf e call (step_checks self.old call wrote (listing_so_far (map call_shown calls.now.list.items) k)))) }
         ensures unchanged { OnErr result (self.new ≡ self.old) }
     {
-        self.step_on(&calls.list[k], wrote)
+        let call = &calls.list[k];
+        match &call.request.body {
+            RequestBody::Readdir(_) => self.list(calls, k, call),
+            RequestBody::Readdirplus(_) => self.list(calls, k, call),
+            _ => self.step_on(call, wrote),
+        }
     }
 
     /// The file that the name of a node stands for, if it stands for one.
@@ -88,11 +92,10 @@ impl Tree {
         }
     }
 
-    /// The files that a call names, if the tree knows all of them.
-    fn named(&self, call: &Call<'_>) -> Option<Named>
-        requires { call.now.listing ≡ None }
-        ensures found { IfSome result (λ named. resolved self.now (call_shown call.now) ≡ Some (named_shown named None)) }
-        ensures none { IfNone result (resolved self.now (call_shown call.now) ≡ None) }
+    /// The files that the nodes of a call stand for, if the tree knows all of them.
+    pub(crate) fn files_named(&self, call: &Call<'_>) -> Option<Named>
+        ensures found { IfSome result (λ named. (file_of self.now call.now.node ≡ Some named.node) × (other_of self.now call.now.other ≡ Some named.other)) }
+        ensures none { IfNone result ((node : ℕ) (other : Option ℕ) → file_of self.now call.now.node ≡ Some node → other_of self.now call.now.other ≡ Some other → ⊥) }
     {
         let node = self.file_of(&call.node)?;
         match &call.other {
@@ -107,6 +110,15 @@ impl Tree {
         }
     }
 
+    /// The files that a call names that does not list, if the tree knows all of them.
+    fn named(&self, call: &Call<'_>) -> Option<Named>
+        requires { call.now.listing ≡ None }
+        ensures found { IfSome result (λ named. resolved self.now (call_shown call.now) ≡ Some (named_shown named None)) }
+        ensures none { IfNone result (resolved self.now (call_shown call.now) ≡ None) }
+    {
+        self.files_named(call)
+    }
+
     /// The name of a node that an answer gives, with the file for which it is given, if it gives one.
     fn binding(
         &self,
@@ -114,7 +126,7 @@ impl Tree {
         body: &RequestBody<'_>,
         answer: &Answer<'_>,
     ) -> Option<(NodeName, FileId)>
-        ensures { (q : Question) (count : ℕ) → q.body ≡ body_shown body.now → IsCovered q → MayBeDone self.now.store (named_shown named.now None) q.body → IsAnswerTo q.body (reply_shown answer.now.reply) → given_in (changed self.now.store (named_shown named.now None) q count) (named_shown named.now None) q.body (answer_shown answer.now) ≡ option_to_list result }
+        ensures { (q : Question) (count : ℕ) → q.body ≡ body_shown body.now → AsksNoListing q → MayBeDone self.now.store (named_shown named.now None) q.body → IsAnswerTo q.body (reply_shown answer.now.reply) → given_in (changed self.now.store (named_shown named.now None) q count) (named_shown named.now None) q.body (answer_shown answer.now) ≡ option_to_list result }
     {
         match &answer.reply {
             Reply::Entry(_) | Reply::Created { .. } => {
@@ -151,7 +163,7 @@ impl Tree {
 
     /// Whether the attributes in an answer fit.
     fn attributes_fit(&self, named: &Named, call: &Call<'_>, answer: &Answer<'_>) -> bool
-        requires covered { IsCovered (question (call_shown call.now)) }
+        requires no_listing { AsksNoListing (question (call_shown call.now)) }
         requires done { MayBeDone self.now.store (named_shown named.now None) (body_shown call.now.request.body) }
         requires answers { IsAnswerTo (body_shown call.now.request.body) (reply_shown answer.now.reply) }
         ensures { (count : ℕ) → IsTrue result ↔ AttributesFit (changed self.now.store (named_shown named.now None) (question (call_shown call.now)) count) (named_shown named.now None) (body_shown call.now.request.body) (reply_shown answer.now.reply) }
@@ -162,7 +174,7 @@ impl Tree {
 
     /// Whether the names of nodes in an answer may be given for their files.
     fn nodes_fit(&self, named: &Named, call: &Call<'_>, answer: &Answer<'_>) -> bool
-        requires covered { IsCovered (question (call_shown call.now)) }
+        requires no_listing { AsksNoListing (question (call_shown call.now)) }
         requires done { MayBeDone self.now.store (named_shown named.now None) (body_shown call.now.request.body) }
         requires answers { IsAnswerTo (body_shown call.now.request.body) (reply_shown answer.now.reply) }
         ensures { (count : ℕ) → IsTrue result ↔ AreBound self.now.nodes (given_in (changed self.now.store (named_shown named.now None) (question (call_shown call.now)) count) (named_shown named.now None) (body_shown call.now.request.body) (answer_shown answer.now)) }
@@ -172,7 +184,7 @@ impl Tree {
 
     /// Whether the bytes in an answer are those that the request asks for.
     fn bytes_fit(&self, named: &Named, call: &Call<'_>, answer: &Answer<'_>) -> bool
-        requires covered { IsCovered (question (call_shown call.now)) }
+        requires no_listing { AsksNoListing (question (call_shown call.now)) }
         requires answers { IsAnswerTo (body_shown call.now.request.body) (reply_shown answer.now.reply) }
         ensures { (count : ℕ) → IsTrue result ↔ BytesFit (changed self.now.store (named_shown named.now None) (question (call_shown call.now)) count) (named_shown named.now None) (question (call_shown call.now)) (reply_shown answer.now.reply) }
     {
@@ -182,7 +194,7 @@ impl Tree {
 
     /// Judges an answer that is a success.
     fn judge_success(&self, named: &Named, call: &Call<'_>, answer: &Answer<'_>) -> Result<(), u16>
-        requires covered { IsCovered (question (call_shown call.now)) }
+        requires no_listing { AsksNoListing (question (call_shown call.now)) }
         ensures ok { OnOk result ((count : ℕ) (so_far : List PlainDirent) → AllHold (outcome_checks self.now.nodes (setting self.now.store (named_shown named.now None) (question (call_shown call.now)) count so_far) (Succeeds (answer_shown answer.now)))) }
         ensures fault { IfErr result (λ code. (count : ℕ) (so_far : List PlainDirent) → FirstFailure (outcome_checks self.now.nodes (setting self.now.store (named_shown named.now None) (question (call_shown call.now)) count so_far) (Succeeds (answer_shown answer.now))) code) }
     {
@@ -203,7 +215,7 @@ impl Tree {
 
     /// Judges a call that names these files.
     fn judge(&self, named: &Named, call: &Call<'_>) -> Result<(), u16>
-        requires covered { IsCovered (question (call_shown call.now)) }
+        requires no_listing { AsksNoListing (question (call_shown call.now)) }
         ensures ok { OnOk result ((count : ℕ) (so_far : List PlainDirent) → AllHold (outcome_checks self.now.nodes (setting self.now.store (named_shown named.now None) (question (call_shown call.now)) count so_far) (outcome (call_shown call.now)))) }
         ensures fault { IfErr result (λ code. (count : ℕ) (so_far : List PlainDirent) → FirstFailure (outcome_checks self.now.nodes (setting self.now.store (named_shown named.now None) (question (call_shown call.now)) count so_far) (outcome (call_shown call.now))) code) }
     {
@@ -260,7 +272,7 @@ impl Tree {
         answer: &Answer<'_>,
         count: u32,
     ) -> Result<(), AllocError>
-        requires covered { IsCovered (question (call_shown call.now)) }
+        requires no_listing { AsksNoListing (question (call_shown call.now)) }
         requires done { MayBeDone self.old.store (named_shown named.now None) (body_shown call.now.request.body) }
         requires answers { IsAnswerTo (body_shown call.now.request.body) (reply_shown answer.now.reply) }
         ensures taken { OnOk result (self.new ≡ noted (tree_changed self.old (named_shown named.now None) (question (call_shown call.now)) count) (named_shown named.now None) (body_shown call.now.request.body) call.now.asked (answer_shown answer.now)) }
@@ -286,7 +298,7 @@ impl Tree {
         call: &Call<'_>,
         count: u32,
     ) -> Result<(), AllocError>
-        requires covered { IsCovered (question (call_shown call.now)) }
+        requires no_listing { AsksNoListing (question (call_shown call.now)) }
         requires done { MayBeDone self.old.store (named_shown named.now None) (body_shown call.now.request.body) }
         ensures taken { OnOk result (self.new ≡ tree_changed self.old (named_shown named.now None) (question (call_shown call.now)) count) }
         ensures memory { OnErr result (MayGrow (body_shown call.now.request.body)) }
@@ -298,7 +310,7 @@ impl Tree {
 
     /// Takes a call over that was judged.
     fn take(&mut self, named: &Named, call: &Call<'_>, count: u32) -> Result<(), AllocError>
-        requires covered { IsCovered (question (call_shown call.now)) }
+        requires no_listing { AsksNoListing (question (call_shown call.now)) }
         requires judged { (count : ℕ) (so_far : List PlainDirent) → AllHold (outcome_checks self.old.nodes (setting self.old.store (named_shown named.now None) (question (call_shown call.now)) count so_far) (outcome (call_shown call.now))) }
         ensures taken { OnOk result (self.new ≡ tree_after self.old (named_shown named.now None) (call_shown call.now) count (outcome (call_shown call.now))) }
         ensures memory { OnErr result (MayTakeMemory (outcome (call_shown call.now)) (body_shown call.now.request.body)) }
@@ -315,7 +327,7 @@ impl Tree {
 
     /// One step, of a call that does not list.
     fn step_on(&mut self, call: &Call<'_>, wrote: Option<u32>) -> Result<(), StepError>
-        requires covered { IsCovered (question (call_shown call.now)) }
+        requires no_listing { AsksNoListing (question (call_shown call.now)) }
         requires plain { call.now.listing ≡ None }
         ensures steps { OnOk result ((so_far : List PlainDirent) → Steps self.old self.new (call_shown call.now) wrote so_far) }
         ensures refused { IfErr result (λ e. (so_far : List PlainDirent) → TellsOf e (call_shown call.now) (step_checks self.old (call_shown call.now) wrote so_far)) }

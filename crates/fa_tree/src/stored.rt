@@ -2,17 +2,20 @@
 
 ghost use Rattle.std.specs.Prelude.{◌≡◌, ◌<◌, length, IfOk, OnOk, OnErr};
 ghost use Rattle.std.specs.FinMap as map;
+ghost use Rattle.std.specs.Option.{option_map};
 ghost use Rattle.fa_tree.specs.State as state;
 ghost use Rattle.fa_tree.specs.State.{IsDirectory};
 ghost use Rattle.fa_tree.specs.Making.{MayBeMade};
 ghost use Rattle.fa_tree.specs.Building.{empty_tree, tree_added, tree_linked};
 ghost use Rattle.fa_tree.specs.parts.FileParts.{file_shown};
+ghost use Rattle.fa_tree.specs.parts.OpenParts.{open_of};
 ghost use Rattle.fa_tree.specs.parts.StoredParts.{as_tree, stored_of};
 
 use crate::file::File;
 use crate::files::Files;
 use crate::id::FileId;
 use crate::names::Names;
+use crate::open::OpenNames;
 use std::alloc::{AllocError, Global};
 use std::marker::Model;
 
@@ -66,6 +69,15 @@ impl Stored {
         ensures { result ≡ map.get self.now.store.names (directory, name.now) }
     {
         self.names.get(directory, name)
+    }
+
+    /// The directory that the request of this number opened, if one did.
+    ///
+    /// Takes no memory, in expected constant time.
+    pub fn open_directory(&self, asked: u32) -> Option<OpenNames<'_>>
+        ensures { option_map open_of result ≡ map.get self.now.handles asked }
+    {
+        self.names.open_directory(asked)
     }
 
     /// Adds a name to a directory, for a file that is there and no directory.

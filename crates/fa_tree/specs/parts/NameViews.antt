@@ -11,7 +11,7 @@ use Rattle.fa_tree.specs.State.{place_cmp, name_cmp, OpenDirectory}
 use Rattle.fa_tree.specs.declared.slots.Place.{Place}
 use Rattle.fa_tree.specs.declared.slots.Slot.{Slot}
 use Rattle.fa_tree.specs.declared.slots.Slot.TheVariants.{There, Gone}
-use Rattle.fa_tree.specs.declared.names.Opening.{Opening}
+use Rattle.fa_tree.specs.declared.open.Opening.{Opening}
 use Rattle.fa_tree.specs.parts.SlotParts.{slot_at, put_or_not, names_shown}
 use Rattle.fa_tree.specs.parts.NameParts.{NamesShown}
 

@@ -10,7 +10,7 @@ pub returns-clause-put : goal.returns-clause-put
 returns-clause-put c =
     let old = c.self.inside.slots.table.entries in
     let new = c.insert.new.self.table.entries in
-    let openings = c.self.inside.openings.items in
+    let openings = c.self.inside.openings in
     ok_also c.insert.result _ _ (λ wrote.
     shown_put old new c.args.directory c.args.name.now c.args.file c.len-born.result wrote openings (omega arith)
     ∙ ap (edited (Removed c.args.directory c.args.name.now ∷ Added c.args.directory c.args.name.now c.args.file ∷ [])) c.self.view_is)
@@ -18,6 +18,6 @@ returns-clause-put c =
 
 pub returns-clause-fresh : goal.returns-clause-fresh
 returns-clause-fresh c = λ free.
-    let stays = subst StaysThere c.self.view_is (shown_stays c.self.inside.slots.table.entries c.self.inside.openings.items) in
+    let stays = subst StaysThere c.self.view_is (shown_stays c.self.inside.slots.table.entries c.self.inside.openings) in
     ok_also c.insert.result _ _ (λ put. put ∙ edited_put_free c.args.self.now stays c.args.directory c.args.name.now c.args.file free)
     (returns-clause-put c)

@@ -8,7 +8,7 @@ use Rattle.fa_tree.proofs.names.Names.rename.Goals as goal
 
 pub returns-clause-renamed : goal.returns-clause-renamed
 returns-clause-renamed c =
-    let stays = subst StaysThere c.self.view_is (shown_stays c.self.inside.slots.table.entries c.self.inside.openings.items) in
+    let stays = subst StaysThere c.self.view_is (shown_stays c.self.inside.slots.table.entries c.self.inside.openings) in
     c.remove.ensures
     ∙ (ap (edited (Removed c.args.old_directory c.args.old_name.now ∷ [])) c.in_ok-put.ensures.put
     ∙ edited_moved c.args.self.now stays c.args.old_directory c.args.old_name.now c.args.new_directory c.args.new_name.now c.args.file c.requires.there

@@ -7,4 +7,5 @@ returns c = record {
   bound =
       shown_insert c.args.self.now.files.entries c.insert.new.self.entries c.args.given.0 c.args.given.1
       (wrote_ok c.insert.result _ c.unwrap.result c.unwrap.ensures c.insert.ensures.updates).0;
+  left = c.insert.ensures.spare;
 }

@@ -73,7 +73,7 @@ returns-in_default-other-2-clause-changed c = λ handle.
 pub returns-in_default : goal.returns-in_default
 returns-in_default c = record {
   changed = λ handle.
-      still_changed c.args.self.now (named_shown c.args.named.now handle) c.args.truncates (body_shown c.args.body.now) c.args.count c.requires.covered (kept c.args.body.now refl);
+      still_changed c.args.self.now (named_shown c.args.named.now handle) c.args.truncates (body_shown c.args.body.now) c.args.count c.requires.no_listing (kept c.args.body.now refl);
   memory = tt;
   unchanged = tt;
 }

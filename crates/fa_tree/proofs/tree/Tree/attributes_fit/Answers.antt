@@ -11,4 +11,4 @@ pub returns : goal.returns
 returns c = λ count.
     let q = question (call_shown c.args.call.now) in
     attributes_still (tree_shown c.self.inside) c.args.self.now c.self.view_is (named_shown c.args.named.now None) q
-    (reply_shown c.args.answer.now.reply) c.attributes_fit.result (λ n done. c.attributes_fit.ensures None q n refl refl c.requires.covered done c.requires.answers) count c.requires.done
+    (reply_shown c.args.answer.now.reply) c.attributes_fit.result (λ n done. c.attributes_fit.ensures None q n refl refl c.requires.no_listing done c.requires.answers) count c.requires.done

@@ -11,4 +11,4 @@ pub returns : goal.returns
 returns c =
     let q = question (call_shown c.args.call.now) in
     bytes_still (tree_shown c.self.inside) c.args.self.now c.self.view_is (named_shown c.args.named.now None) q
-    (reply_shown c.args.answer.now.reply) c.bytes_fit.result (λ n. c.bytes_fit.ensures None q n refl refl c.requires.covered c.requires.answers)
+    (reply_shown c.args.answer.now.reply) c.bytes_fit.result (λ n. c.bytes_fit.ensures None q n refl refl c.requires.no_listing c.requires.answers)

@@ -79,7 +79,7 @@ returns-clause-ok c = λ count so_far.
             (c.nodes_fit.ensures count).0 c.if-not-nodes_fit.false,
             (
               (c.bytes_fit.ensures count).0 c.if-not-bytes_fit.false,
-              (listing_fits (changed c.args.self.now.store x q count) x q so_far (reply_shown c.args.answer.now.reply) c.requires.covered allowed.1, tt),
+              (listing_fits (changed c.args.self.now.store x q count) x q so_far (reply_shown c.args.answer.now.reply) c.requires.no_listing allowed.1, tt),
             ),
           ),
         ),

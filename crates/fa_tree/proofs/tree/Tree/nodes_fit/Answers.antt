@@ -9,4 +9,4 @@ use Rattle.fa_tree.proofs.tree.Tree.nodes_fit.Goals as goal
 pub returns : goal.returns
 returns c = λ count.
     subst (λ (given : List (NodeName × ℕ)). IsTrue c.may_bind.result ↔ AreBound c.args.self.now.nodes given)
-    (sym (c.binding.ensures (question (call_shown c.args.call.now)) count refl c.requires.covered c.requires.done c.requires.answers)) c.may_bind.ensures
+    (sym (c.binding.ensures (question (call_shown c.args.call.now)) count refl c.requires.no_listing c.requires.done c.requires.answers)) c.may_bind.ensures

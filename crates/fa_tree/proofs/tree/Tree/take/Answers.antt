@@ -16,4 +16,4 @@ pub take_success-requires : goal.take_success-requires
 take_success-requires c =
     let judged = all_of c.args.self.now.nodes c.args.self.now.store (named_shown c.args.named.now None) (question (call_shown c.args.call.now))
     (outcome (call_shown c.args.call.now)) (Succeeds (answer_shown c.in-Some.answer)) (a_success c.args.call.now c.in-Some.answer c.in-Some.is c.in_default.not-Refused) c.requires.judged 0 [] in
-    record { covered = c.requires.covered; done = judged.0.0; answers = judged.0.1 }
+    record { no_listing = c.requires.no_listing; done = judged.0.0; answers = judged.0.1 }

@@ -1,0 +1,14 @@
+use Rattle.std.proofs.Common.{◌≡◌, List, ◌++◌}
+use Rattle.std.specs.Prelude.{All}
+use Rattle.fa_bodies.specs.Dirents.{PlainDirent}
+use Rattle.fa_bodies.specs.Listing.{entries_left}
+use Rattle.fa_tree.specs.Directories.{judged, WasThere}
+use Rattle.fa_tree.specs.parts.OpenParts.{open_of}
+use Rattle.fa_tree.proofs.open.OpenNames.all_were_there.Given as goal
+
+-- the names so far were there
+abbrev pub invariant-loop-dirent : goal.invariant-loop-dirent
+invariant-loop-dirent l =
+    (goal.iterator-loop-dirent).can_next l.dirent-iterator
+    × (goal.iterator-loop-dirent).is_finite l.dirent-iterator
+    × ((front : List PlainDirent) × (entries_left l.fn.entries ≡ front ++ entries_left l.dirent-iterator) × All (WasThere (open_of l.self)) (judged front))

@@ -1,0 +1,26 @@
+use Rattle.std.proofs.Common.{rules, ◌≡◌, [], sym, ◌∙◌}
+use Rattle.std.specs.Prelude.{map, length}
+use Rattle.std.specs.Vec.{vec_len}
+use Rattle.fa_ledger.specs.Calls.{call_shown}
+use Rattle.fa_ledger.specs.SoFar.{listing_so_far}
+use Rattle.fa_tree.specs.parts.NodeParts.{nodes_shown}
+use Rattle.fa_tree.proofs.ListingStepLemmas.{lists_to, bound_tree, none_of}
+use Rattle.fa_tree.proofs.tree.Tree.list.Goals as goal
+use Rattle.fa_tree.proofs.tree.Tree.list.Goals.{then-not-is_empty+in_ok-reserve_for, else-not-is_empty}
+
+pub returns-clause-steps : goal.returns-clause-steps
+returns-clause-steps c = λ wrote.
+    let ok = c.in_ok-nodes.ensures.ok in
+    let call = call_shown c.args.call.now in
+    let so_far = listing_so_far (map call_shown c.args.calls.now.list.items) c.args.k in
+    let items = c.in_ok-nodes.nodes.items in
+    elim c.if-not-is_empty.branch [
+      | then-not-is_empty+in_ok-reserve_for w ↦
+          lists_to c.args.self.now c.if-not-is_empty.self call wrote so_far ok.0 items c.requires.lists ok.1 ok.2 ok.3
+          (w.self-is ∙ bound_tree c.args.self.now c.self.inside.stored (nodes_shown c.self.inside.nodes) (nodes_shown w.reserve_for.new.self) (nodes_shown w.bind_all.new.self)
+          w.deref.result.now items c.self.view_is w.reserve_for.ensures.same w.deref.ensures.value w.bind_all.ensures.bound)
+      | else-not-is_empty w ↦
+          let len : vec_len c.in_ok-nodes.nodes ≡ length items = search rules in
+          let none : items ≡ [] = none_of items (vec_len c.in_ok-nodes.nodes) len (sym c.is_empty.ensures ∙ w.if-not-is_empty.false) in
+          lists_to c.args.self.now c.if-not-is_empty.self call wrote so_far ok.0 [] c.requires.lists ok.1 ok.2 (sym none ∙ ok.3) w.self-is
+    ]

@@ -1,0 +1,33 @@
+-- How often names were listed, as a tally of them tells it.
+use Rattle.std.specs.Prelude.{◌≡◌, ◌+◌, ℕ, zero, suc, Bool, true, false, List, Option, None, Some, option_map, option_and_then}
+use Rattle.std.specs.Map.{lookup}
+use Rattle.std.specs.Str.{bytes_eq}
+use Rattle.fa_bodies.specs.Dirents.{PlainDirent}
+use Rattle.fa_ledger.specs.Calls.{PlainCall}
+use Rattle.fa_ledger.specs.SoFar.{call_asked, before_of}
+use Rattle.fa_tree.specs.declared.tally.Tally.{Tally}
+use Rattle.fa_tree.specs.Directories.{times_listed}
+
+-- what a tally has for a name that was listed so many times: nothing, or whether that was more than once
+abbrev pub tallied : ℕ → Option Bool
+tallied zero = None
+tallied (suc zero) = Some false
+tallied (suc (suc more)) = Some true
+
+-- what the tally has for a name
+abbrev pub tally_of : Tally → List ℕ → Option Bool
+tally_of tally name = lookup (λ key. bytes_eq name key.now) tally.names.entries
+
+-- the tally tells how many times each name was listed
+abbrev pub Tallies : Tally → (times : List ℕ → ℕ) → Type 0
+Tallies tally times = (name : List ℕ) → tally_of tally name ≡ tallied (times name)
+
+-- these entries were noted in between
+abbrev pub Notes : (old new : Tally) → List PlainDirent → Type 0
+Notes old new entries =
+    (times : List ℕ → ℕ) → Tallies old times → Tallies new (λ name. times name + times_listed name entries)
+
+-- the call that a call goes on from, if it goes on from one, and how many entries of that one's answer count
+abbrev pub going_on_from : List PlainCall → PlainCall → Option (PlainCall × ℕ)
+going_on_from calls call =
+    option_and_then (λ before. option_map (λ earlier. (earlier, before.1)) (call_asked calls before.0)) (before_of call)

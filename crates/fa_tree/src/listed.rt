@@ -1,0 +1,92 @@
+//! The rule of listings.
+
+ghost use Rattle.std.specs.Prelude.{◌↔◌, ◌<◌, length, map, All, IsTrue, IfOk};
+ghost use Rattle.fa_bodies.specs.Dirents.{dirent_shown};
+ghost use Rattle.fa_bodies.specs.Listing.{entries_left};
+ghost use Rattle.fa_ledger.specs.Calls.{call_shown};
+ghost use Rattle.fa_ledger.specs.SoFar.{listing_so_far};
+ghost use Rattle.fa_tree.specs.Directories.{judged, WasThere, IsTypedAsStayed, IsThereIfLookedUp, IsListed};
+ghost use Rattle.fa_tree.specs.parts.OpenParts.{open_of};
+
+use crate::id::FileId;
+use crate::listing::is_judged;
+use crate::open::OpenNames;
+use crate::orderly::is_orderly;
+use crate::stored::Stored;
+use fa_bodies::{Dirent, Entries};
+use fa_ledger::{Calls, Listing};
+use std::alloc::AllocError;
+
+impl OpenNames<'_> {
+    /// Whether each name that is listed was in the directory at some moment since it was opened.
+    fn all_were_there(&self, entries: Entries<'_>) -> bool
+        ensures { IsTrue result ↔ All (WasThere (open_of self.now)) (judged (entries_left entries.entry)) }
+    {
+        for dirent in entries {
+            if is_judged(&dirent) && !self.had(dirent.name) {
+                return false;
+            }
+        }
+        true
+    }
+}
+
+impl Stored {
+    /// Whether the type of an entry is that of the file which stayed under its name, if one did.
+    fn is_typed_as_stayed(&self, names: &OpenNames<'_>, dirent: &Dirent<'_>) -> bool
+        ensures { IsTrue result ↔ IsTypedAsStayed self.now.store (open_of names.now) (dirent_shown dirent.now) }
+    {
+        match names.stayed(dirent.name) {
+            Some(file) => self.is_type_of(file, dirent),
+            None => true,
+        }
+    }
+
+    /// Whether the types of the entries are those of the files which stayed under their names.
+    fn all_typed_as_stayed(&self, names: &OpenNames<'_>, entries: Entries<'_>) -> bool
+        ensures { IsTrue result ↔ All (IsTypedAsStayed self.now.store (open_of names.now)) (judged (entries_left entries.entry)) }
+    {
+        for dirent in entries {
+            if is_judged(&dirent) && !self.is_typed_as_stayed(names, &dirent) {
+                return false;
+            }
+        }
+        true
+    }
+
+    /// Whether each entry that is judged is what the rule of listings allows, whatever the others are.
+    fn all_allowed(&self, directory: FileId, names: &OpenNames<'_>, entries: Entries<'_>) -> bool
+        ensures { IsTrue result ↔ (All (WasThere (open_of names.now)) (judged (entries_left entries.entry)) × All (IsTypedAsStayed self.now.store (open_of names.now)) (judged (entries_left entries.entry)) × All (IsThereIfLookedUp self.now.store directory) (judged (entries_left entries.entry))) }
+    {
+        names.all_were_there(entries)
+            && self.all_typed_as_stayed(names, entries)
+            && self.all_there(directory, entries)
+    }
+
+    /// Whether the entries are what the rule of listings allows, for the call at this place. An error says that memory was
+    /// refused.
+    ///
+    /// Expected time in the entries; for a listing that began at the start, without gaps, on a handle of its own, also in the
+    /// calls that it goes on from, the names that they list, and all places that ever had a name.
+    pub(crate) fn is_listed<'a>(
+        &self,
+        directory: FileId,
+        names: &OpenNames<'_>,
+        calls: &Calls<'a>,
+        k: usize,
+        listing: &Listing,
+        entries: Entries<'a>,
+        size: u32,
+    ) -> Result<bool, AllocError>
+        requires { k < length calls.now.list.items }
+        ensures { IfOk result (λ is. IsTrue is ↔ IsListed self.now.store directory (open_of names.now) listing.now size (listing_so_far (map call_shown calls.now.list.items) k) (entries_left entries.entry)) }
+    {
+        if !self.all_allowed(directory, names, entries) {
+            return Ok(false);
+        }
+        if listing.adrift || listing.shared {
+            return Ok(true);
+        }
+        is_orderly(self.alloc, names, calls, k, entries, size)
+    }
+}

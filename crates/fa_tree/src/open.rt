@@ -1,0 +1,153 @@
+//! Directories that are open: all openings, and what was in a directory since one of them.
+
+ghost use Rattle.std.specs.Prelude.{◌≡◌, ◌∷◌, ◌++◌, [], ℕ, List, Some, true, false, length, IsTrue, IsFalse, OnOk, OnErr};
+ghost use Rattle.std.specs.Fn.{FnReturnsAt};
+ghost use Rattle.std.specs.FinMap as map;
+ghost use Rattle.std.specs.FinMap.{get};
+ghost use Rattle.std.specs.FinSet.{contains};
+ghost use Rattle.std.specs.Option.{option_map};
+ghost use Rattle.fa_tree.specs.parts.NameViews.{has_stayed, handles_shown};
+ghost use Rattle.fa_tree.specs.parts.OpenParts.{open_of};
+
+use crate::id::FileId;
+use crate::slots::{Slot, Slots};
+use indexmap::IndexMap;
+use std::alloc::{AllocError, Global};
+use std::marker::Model;
+
+/// The opening of a directory, by the request of this number.
+#[derive(Clone, Copy)]
+pub(crate) struct Opening {
+    pub asked: u32,
+    pub directory: FileId,
+}
+
+/// All openings of directories, the earlier before the later.
+#[derive(Drop)]
+pub(crate) struct Openings {
+    list: Vec<Opening>,
+    /// For each request that opened a directory the place of its last opening in the list.
+    places: IndexMap<u32, usize>,
+}
+
+/// A directory that is open, with the names that were in it since. Nothing of it is copied.
+#[derive(Clone, Copy)]
+pub(crate) struct OpenNames<'a> {
+    slots: &'a Slots,
+    directory: FileId,
+    /// How many openings came before.
+    at: usize,
+}
+
+impl Model for Openings {
+    ghost use Rattle.std.specs.Prelude.{List};
+    ghost use Rattle.fa_tree.specs.declared.open.Opening.{Opening};
+
+    ghost Value = { List Opening };
+
+    ghost use Rattle.fa_tree.specs.parts.OpenParts.{AreLast};
+
+    ghost view = { λ o. o.list.items };
+
+    ghost invariant = { λ o. AreLast o.places.entries o.list.items };
+}
+
+impl Openings {
+    /// No directory was opened. What is stored later takes memory from `alloc`.
+    ///
+    /// Takes no memory, in constant time.
+    pub fn new(alloc: Global) -> Self
+        ensures { result ≡ [] }
+    {
+        Openings {
+            list: Vec::new(alloc),
+            places: IndexMap::new(alloc),
+        }
+    }
+
+    /// How many there are.
+    pub fn len(&self) -> usize
+        ensures { result ≡ length self.now }
+    {
+        self.list.len()
+    }
+
+    /// One opening more. An error says that memory was refused, and nothing is changed.
+    ///
+    /// Expected constant time but for growing.
+    pub fn push(&mut self, opening: Opening) -> Result<(), AllocError>
+        ensures pushed { OnOk result (self.new ≡ self.old ++ opening ∷ []) }
+        ensures unchanged { OnErr result (self.new ≡ self.old) }
+    {
+        let asked = opening.asked;
+        let at = self.list.len();
+        self.places.reserve(1)?;
+        self.list.push(opening)?;
+        self.places.insert(asked, at).unwrap();
+        Ok(())
+    }
+
+    /// The directory that the request of this number opened last, if it opened one, with the slots of its names.
+    ///
+    /// Takes no memory, in expected constant time.
+    pub fn last<'a>(&self, asked: u32, slots: &'a Slots) -> Option<OpenNames<'a>>
+        ensures { option_map open_of result ≡ get (handles_shown slots.now.table.entries 0 map.empty self.now) asked }
+    {
+        let at = *self.places.get(&asked)?;
+        let directory = self.list[at].directory;
+        Some(OpenNames {
+            slots,
+            directory,
+            at,
+        })
+    }
+}
+
+impl OpenNames<'_> {
+    /// Whether a name was in the directory at some moment since it was opened.
+    ///
+    /// Takes no memory, in expected constant time but for reading the name.
+    pub fn had(&self, name: &[u8]) -> bool
+        ensures { result ≡ contains (open_of self.now).since name.now }
+    {
+        match self.slots.get(self.directory, name) {
+            Some(Slot::There { .. }) => true,
+            Some(Slot::Gone { at }) => self.at < at,
+            None => false,
+        }
+    }
+
+    /// The file that stayed in the directory under a name since it was opened, if one did.
+    ///
+    /// Takes no memory, in expected constant time but for reading the name.
+    pub fn stayed(&self, name: &[u8]) -> Option<FileId>
+        ensures { result ≡ get (open_of self.now).stayed name.now }
+    {
+        self.file_stayed(self.slots.get(self.directory, name)?)
+    }
+
+    /// Whether each name is listed, as this test tells, whose file stayed in the directory since it was opened.
+    ///
+    /// Takes no memory, and time in the number of all places that ever had a name.
+    pub fn all_stayed<F: Fn(&[u8]) -> bool>(&self, is_listed: F) -> bool
+        requires { F.IsAlwaysCallable is_listed }
+        ensures all { IsTrue result → (name : List ℕ) (file : ℕ) → get (open_of self.now).stayed name ≡ Some file → FnReturnsAt F.Fn is_listed name true }
+        ensures missing { IsFalse result → (name : List ℕ) × (file : ℕ) × (get (open_of self.now).stayed name ≡ Some file) × FnReturnsAt F.Fn is_listed name false }
+    {
+        self.slots.table.iter().all(|(place, slot)| {
+            place.directory != self.directory
+                || self.file_stayed(*slot).is_none()
+                || is_listed(place.name.as_slice())
+        })
+    }
+
+    /// The file of a slot, if it stayed since the directory was opened.
+    fn file_stayed(&self, slot: Slot) -> Option<FileId>
+        ensures { result ≡ has_stayed self.now.at slot }
+    {
+        match slot {
+            Slot::There { file, born } => { if born <= self.at { Some(file) } else { None } }
+            Slot::Gone { .. } => None,
+        }
+    }
+}

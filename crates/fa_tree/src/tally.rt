@@ -1,0 +1,61 @@
+//! How often names were listed.
+
+ghost use Rattle.std.specs.Prelude.{◌≡◌, ◌↔◌, ◌≤◌, ◌<◌, ◌+◌, cond, ℕ, true, false, List, IsTrue, OnOk, OnErr};
+ghost use Rattle.std.specs.Bool.{MatchBool};
+ghost use Rattle.std.specs.Fn.{FnReturnsAt};
+ghost use Rattle.std.specs.Str.{bytes_eq};
+ghost use Rattle.fa_tree.specs.parts.TallyParts.{Tallies};
+
+use indexmap::IndexMap;
+use std::alloc::{AllocError, Global};
+
+/// Names that were listed, each with whether that was more than once.
+#[derive(Drop)]
+pub(crate) struct Tally<'a> {
+    pub names: IndexMap<&'a [u8], bool>,
+}
+
+impl<'a> Tally<'a> {
+    /// No name was listed. The table takes memory from `alloc` later.
+    pub fn new(alloc: Global) -> Self
+        ensures { Tallies result (λ name. 0) }
+    {
+        Tally {
+            names: IndexMap::new(alloc),
+        }
+    }
+
+    /// Notes that the name was listed once more. An error says that memory was refused, and nothing is changed.
+    ///
+    /// Expected time in the bytes of the name, but for what growing costs.
+    pub fn note(&mut self, name: &'a [u8]) -> Result<(), AllocError>
+        ensures noted { OnOk result ((times : List ℕ → ℕ) → Tallies self.old times → Tallies self.new (λ other. times other + cond (bytes_eq name.now other) 1 0)) }
+        ensures unchanged { OnErr result (self.new.names.entries ≡ self.old.names.entries) }
+    {
+        match self.names.get_mut(name) {
+            Some(more) => {
+                *more = true;
+                Ok(())
+            }
+            None => {
+                self.names.insert(name, false)?;
+                Ok(())
+            }
+        }
+    }
+
+    /// Whether the name was listed. Takes no memory, in expected time of the bytes of the name.
+    pub fn has(&self, name: &[u8]) -> bool
+        ensures { (times : List ℕ → ℕ) → Tallies self.now times → IsTrue result ↔ (1 ≤ times name.now) }
+    {
+        self.names.contains_key(name)
+    }
+
+    /// Whether this holds of each name that was listed more than once. Takes no memory, in time of the names and of what it asks.
+    pub fn all_repeated<F: Fn(&[u8]) -> bool + Drop>(&self, holds: F) -> bool
+        requires { F.IsAlwaysCallable holds }
+        ensures { (times : List ℕ → ℕ) → Tallies self.now times → MatchBool result ((name : List ℕ) → 1 < times name → FnReturnsAt F.Fn holds name true) ((name : List ℕ) × (1 < times name) × FnReturnsAt F.Fn holds name false) }
+    {
+        self.names.iter().all(|(name, more)| !*more || holds(name))
+    }
+}
