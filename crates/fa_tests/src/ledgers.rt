@@ -1,6 +1,7 @@
 //! Ledgers of a few messages. The unique of each request is the number of its message.
 
-use crate::paired::Paired;
+use crate::messages::{INIT, INIT_ANSWER, begun, packet, spelled, thirty};
+use crate::paired::{Paired, calls_of};
 use Mark::*;
 use NodeName::{Given, Root};
 use Sent::*;
@@ -8,11 +9,11 @@ use bitflags::Flags;
 use fa_bodies::errno::{EACCES, EIO, ENOENT};
 use fa_bodies::sample::Field::{U32, U64, Zeros};
 use fa_bodies::sample::{Listed, REG, Sample, entry_out};
-use fa_bodies::{FopenFlags, GetattrFlags, InitFlags, OpenFlags, Reply, opcodes};
+use fa_bodies::{FopenFlags, GetattrFlags, OpenFlags, Reply, opcodes};
 use fa_capture::codes::{
     CLOSED_HANDLE, FORGOTTEN_NODE, FORGOTTEN_TOO_OFTEN, NODE_ID_NOT_ALLOWED, PROFILE_LIMIT,
 };
-use fa_capture::{Direction, Packet, read_capture};
+use fa_capture::{Direction, read_capture};
 use fa_ledger::{Call, Calls, NodeName};
 use std::alloc::Global;
 
@@ -163,15 +164,6 @@ fn with_all(mut sample: Sample, messages: &[Sent]) -> Sample {
         sample = with(sample, *message);
     }
     sample
-}
-
-/// INIT with these flags and its answer with those: the messages 0 and 1.
-pub fn begun(alloc: Global, flags: (u32, u32)) -> Sample {
-    let asked = InitFlags::from_bits_retain(flags.0);
-    let answered = InitFlags::from_bits_retain(flags.1);
-    Sample::new(alloc)
-        .init_with(1, 7, 31, asked)
-        .init_answer_with(1, 7, 31, answered, 64)
 }
 
 /// The code of each message of a capture, 0 where it is taken. None where memory was refused, or the bytes are no capture.
@@ -784,17 +776,6 @@ const CALLS: [Called; 10] = [
     ((ATOMIC_O_TRUNC, ATOMIC_O_TRUNC), TRUNCATING, BY_OPEN),
 ];
 
-/// The calls of a capture whose messages are all taken.
-pub fn calls_of<'a>(alloc: Global, packets: &[Packet<'a>]) -> Option<Calls<'a>> {
-    let mut paired = Paired::new(alloc);
-    let mut codes = vec![in alloc; 0; packets.len()].ok()?;
-    paired.take_each(packets, &mut codes);
-    if !ends_with(&codes, 0) {
-        return None;
-    }
-    Some(paired.into_calls())
-}
-
 /// The error of an answer, or 0.
 fn error_of(answer: &fa_ledger::Answer<'_>) -> i32 {
     match answer.reply {
@@ -964,35 +945,6 @@ fn what_an_order_may_name(rt: HostRuntime) {
     assert!(rt; are_choices(rt.alloc(), &CHOICES) == Some(true));
 }
 
-/// The bytes of a message: zeros but for these.
-pub fn spelled<const N: usize>(bytes: &[(usize, u8)]) -> [u8; N] {
-    let mut message = [0; N];
-    for (at, byte) in bytes {
-        if let Some(place) = message.get_mut(*at) {
-            *place = *byte;
-        }
-    }
-    message
-}
-
-/// 30 messages of one kind, which count up in their unique from 2, and at this place from 10.
-pub fn thirty<const N: usize>(bytes: &[(usize, u8)], place: usize) -> [[u8; N]; 30] {
-    let mut messages = [spelled(bytes); 30];
-    for (number, message) in (0u8..30).zip(messages.iter_mut()) {
-        if let Some(node) = message.get_mut(place) {
-            *node = number.wrapping_add(10);
-        }
-        if let Some(unique) = message.get_mut(8) {
-            *unique = number.wrapping_add(2);
-        }
-    }
-    messages
-}
-
-/// INIT, and its answer of 24 bytes behind the header.
-pub const INIT: &[(usize, u8)] = &[(0, 56), (4, 26), (8, 1), (40, 7), (44, 31)];
-
-pub const INIT_ANSWER: &[(usize, u8)] = &[(0, 40), (8, 1), (16, 7), (20, 31)];
 /// LOOKUP of `a` in the root, an entry, OPEN, and a file handle.
 const LOOKUP: &[(usize, u8)] = &[(0, 42), (4, 1), (16, 1), (40, b'a')];
 
@@ -1024,11 +976,6 @@ const LISTING: &[(usize, u8)] = &[
 ];
 /// READDIR of 4,096 bytes at the offset 2.
 const READDIR: &[(usize, u8)] = &[(0, 80), (4, 28), (8, 1), (16, 1), (48, 2), (57, 16)];
-
-/// A message in this direction.
-pub fn packet(direction: Direction, bytes: &[u8]) -> Packet<'_> {
-    Packet { direction, bytes }
-}
 
 /// Whether a call is answered so: by this message, giving these nodes.
 fn gives(call: &Call<'_>, at: u32, names: &[NodeName]) -> bool {

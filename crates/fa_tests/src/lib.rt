@@ -1,11 +1,9 @@
-//! Tests of streams, captures, sessions, ledgers and trees by what their crates offer, as tables. Those of single messages
-//! stand in `fa_message_tests`, and what the program answers is shown by the files in `cases`.
+//! Tests of streams, captures, sessions and ledgers by what their crates offer, as tables. Those of single messages stand in
+//! `fa_message_tests`, those of trees in `fa_tree_tests`, and what the program answers is shown by the files in `cases`.
 //!
 //! The expected values come from the formats (docs/formats.md), from `fuse.h` and from `errno.h`.
 #![tactic(auto)]
 
-#[cfg(test)]
-mod bytes;
 #[cfg(test)]
 mod captures;
 #[cfg(test)]
@@ -14,15 +12,11 @@ mod first;
 mod ledgers;
 #[cfg(test)]
 mod listings;
-#[cfg(test)]
-mod paired;
+pub mod messages;
+pub mod paired;
 #[cfg(test)]
 mod sessions;
 #[cfg(test)]
-mod steps;
-#[cfg(test)]
 mod streams;
-#[cfg(test)]
-mod trees;
 #[cfg(test)]
 mod tried;

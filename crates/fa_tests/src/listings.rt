@@ -1,6 +1,6 @@
 //! What a READDIR or READDIRPLUS goes on from. The unique of each request is the number of its message.
 
-use crate::ledgers::begun;
+use crate::messages::begun;
 use crate::paired::Paired;
 use Sent::*;
 use fa_bodies::ROOT_ID;

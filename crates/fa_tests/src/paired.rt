@@ -143,3 +143,14 @@ impl<'a> Paired<'a> {
         ledger.into_calls()
     }
 }
+
+/// The calls of a capture whose messages are all taken.
+pub fn calls_of<'a>(alloc: Global, packets: &[Packet<'a>]) -> Option<Calls<'a>> {
+    let mut paired = Paired::new(alloc);
+    let mut codes = vec![in alloc; 0; packets.len()].ok()?;
+    paired.take_each(packets, &mut codes);
+    if codes.iter().any(|code| *code != 0) {
+        return None;
+    }
+    Some(paired.into_calls())
+}

@@ -1,6 +1,5 @@
 //! Steps on the bytes of files: what READ gives after WRITE, SETATTR of a size, OPEN and CREATE.
 
-use crate::ledgers::begun;
 use crate::steps::End::{self, *};
 use crate::steps::Sent::*;
 use crate::steps::{Bytes, CREAT, FILE, Messages, TRUNC, end_of, with, with_all};
@@ -10,6 +9,7 @@ use fa_bodies::errno::{EISDIR, ENOSYS};
 use fa_capture::codes::{
     ATTRIBUTES, BYTES_READ, CHOICE_NOT_ALLOWED, ERROR_WITHOUT_CAUSE, SUCCESS_NOT_ALLOWED,
 };
+use fa_tests::messages::begun;
 use fa_tree::Kind;
 use std::alloc::Global;
 

@@ -1,12 +1,5 @@
 //! Steps of a tree: what it says of requests and of their answers.
 
-ghost use Rattle.std.specs.Prelude.{IsTrue};
-ghost use Rattle.fa_ledger.specs.Calls.{call_shown};
-ghost use Rattle.fa_tree.specs.Covered.{IsCovered};
-ghost use Rattle.fa_tree.specs.Resolved.{question};
-
-use crate::ledgers::{INIT, INIT_ANSWER, begun, calls_of, packet, spelled, thirty};
-use crate::paired::Paired;
 use crate::trees::Added::{self, File, Name};
 use crate::trees::{empty_again, tree_of};
 use End::*;
@@ -14,14 +7,16 @@ use Sent::*;
 use bitflags::Flags;
 use fa_bodies::errno::{EACCES, EEXIST, EIO, EISDIR, ENOENT, ENOTDIR, ENOTEMPTY};
 use fa_bodies::sample::Field::{U32, Zeros};
-use fa_bodies::sample::{BLK, CHR, DIR, FIFO, LNK, REG, SOCK, Sample};
-use fa_bodies::{FattrFlags, FopenFlags, OpenFlags, ROOT_ID as ROOT, RequestBody, opcodes};
+use fa_bodies::sample::{BLK, CHR, DIR, FIFO, LNK, Listed, REG, SOCK, Sample, entry_out};
+use fa_bodies::{FattrFlags, FopenFlags, OpenFlags, ROOT_ID as ROOT, opcodes};
 use fa_capture::codes::{
     ATTRIBUTES, BYTES_READ, CHOICE_NOT_ALLOWED, ERROR_WITHOUT_CAUSE, NODE_ID_OF_ANOTHER,
     SUCCESS_NOT_ALLOWED, UNKNOWN_HERE,
 };
 use fa_capture::{Direction, read_capture};
-use fa_ledger::{Call, Calls};
+use fa_ledger::Calls;
+use fa_tests::messages::{INIT, INIT_ANSWER, begun, packet, spelled, thirty};
+use fa_tests::paired::{Paired, calls_of};
 use fa_tree::{FileId, Kind, StepError, Tree};
 use std::alloc::Global;
 
@@ -43,6 +38,9 @@ const LINK: u32 = LNK | 0o777;
 const PIPE: u32 = FIFO | 0o644;
 
 pub type Bytes = &'static [u8];
+
+/// Entries of a listing by name, place and type, at most three.
+pub type Entries = &'static [(Bytes, u64, u32)];
 
 /// A request of this node, or an answer.
 #[derive(Clone, Copy)]
@@ -95,6 +93,13 @@ pub enum Sent {
     Release(u64),
     /// Read by its header alone.
     Getxattr(u64),
+    /// At this offset, so many bytes.
+    Readdir(u64, u64, u32),
+    Readdirplus(u64, u64, u32),
+    /// What READDIR gives.
+    Gives(Entries),
+    /// What READDIRPLUS gives, each entry with this node and this mode.
+    GivesPlus(u64, u32, Entries),
     /// No answer.
     Nothing,
 }
@@ -133,6 +138,10 @@ pub fn with(sample: Sample, unique: u64, message: Sent) -> Sample {
         OpenedDirect => sample.opened_with(unique, 1, FopenFlags::DIRECT_IO),
         Release(node) => sample.release(unique, node, 1),
         Getxattr(node) => sample.request(unique, opcodes::GETXATTR, node, b""),
+        Readdir(node, offset, size) => sample.readdir(unique, node, 1, offset, size),
+        Readdirplus(node, offset, size) => sample.readdirplus(unique, node, 1, offset, size),
+        Gives(entries) => with_entries(sample, unique, entries),
+        GivesPlus(node, mode, entries) => with_entries_plus(sample, unique, node, mode, entries),
         Nothing => sample,
     }
 }
@@ -157,6 +166,43 @@ fn with_create(
     sample.create_with(unique, node, OpenFlags::from_bits_retain(flags), mode, name)
 }
 
+/// The entry at this place, and one without a name behind the last.
+fn nth(entries: Entries, place: usize) -> Listed<'static> {
+    match entries.get(place) {
+        Some((name, off, file_type)) => Listed {
+            name,
+            off: *off,
+            file_type: *file_type,
+        },
+        None => Listed {
+            name: b"",
+            off: 0,
+            file_type: 0,
+        },
+    }
+}
+
+fn with_entries(sample: Sample, unique: u64, entries: Entries) -> Sample {
+    let three = [nth(entries, 0), nth(entries, 1), nth(entries, 2)];
+    sample.listing(unique, three.get(..entries.len()).unwrap_or(&three))
+}
+
+fn with_entries_plus(
+    sample: Sample,
+    unique: u64,
+    node: u64,
+    mode: u32,
+    entries: Entries,
+) -> Sample {
+    let entry = entry_out(node, mode, 0, 1);
+    let three = [
+        (entry, nth(entries, 0)),
+        (entry, nth(entries, 1)),
+        (entry, nth(entries, 2)),
+    ];
+    sample.listing_plus(unique, three.get(..entries.len()).unwrap_or(&three))
+}
+
 /// Messages, each with its unique. That of a request is the number of its message.
 pub type Messages = &'static [(u64, Sent)];
 
@@ -168,34 +214,9 @@ pub fn with_all(mut sample: Sample, messages: Messages) -> Sample {
     sample
 }
 
-/// Whether a tree takes a step for such a call.
-fn is_covered(call: &Call<'_>) -> bool
-    ensures { IsTrue result → IsCovered (question (call_shown call.now)) }
-{
-    match &call.request.body {
-        RequestBody::Lookup { .. } => true,
-        RequestBody::Getattr(_) => true,
-        RequestBody::Setattr(_) => true,
-        RequestBody::Readlink => true,
-        RequestBody::Symlink { .. } => true,
-        RequestBody::Mknod { .. } => true,
-        RequestBody::Mkdir { .. } => true,
-        RequestBody::Unlink { .. } => true,
-        RequestBody::Rmdir { .. } => true,
-        RequestBody::Rename { .. } => true,
-        RequestBody::Link { .. } => true,
-        RequestBody::Open(_) => true,
-        RequestBody::Read(_) => true,
-        RequestBody::Write { .. } => true,
-        RequestBody::Opendir(_) => true,
-        RequestBody::Create { .. } => true,
-        _ => false,
-    }
-}
-
 /// One step, by the number of its request, and how many bytes an order says that it wrote. A choice that is not allowed is told
-/// by its code. None where no call has this number, or a tree takes no step for it.
-fn step(
+/// by its code. None where no call has this number.
+pub fn step(
     tree: &mut Tree,
     calls: &Calls<'_>,
     at: u32,
@@ -203,9 +224,6 @@ fn step(
 ) -> Option<Result<(), StepError>> {
     let place = calls.find(at)?;
     let call = calls.list.get(place)?;
-    if !is_covered(call) {
-        return None;
-    }
     if !call.allows(wrote) {
         return Some(Err(StepError::Refused(CHOICE_NOT_ALLOWED)));
     }
@@ -1375,6 +1393,22 @@ const RENAME: &[(usize, u8)] = &[
 
 const RENAMED: &[(usize, u8)] = &[(0, 16), (8, 1)];
 
+/// READDIRPLUS of 4,096 bytes, and its answer: the first of those names, of a node that was not given yet.
+const READDIRPLUS: &[(usize, u8)] = &[(0, 80), (4, 44), (8, 1), (16, 1), (57, 16)];
+
+const LISTING: &[(usize, u8)] = &[
+    (0, 176),
+    (8, 1),
+    (16, 60),
+    (116, 0xA4),
+    (117, 0x81),
+    (120, 1),
+    (152, 1),
+    (160, 1),
+    (164, 8),
+    (168, 10),
+];
+
 /// The files of the names of one byte in the root, by these.
 fn named(tree: &Tree) -> [Option<FileId>; 128] {
     let mut named = [None; 128];
@@ -1422,7 +1456,8 @@ fn a_step_without_memory_is_taken_again(rt: HostRuntime) {
     );
     let (symlink, symlinked): ([u8; 44], [u8; 144]) = (spelled(SYMLINK), spelled(SYMLINKED));
     let (rename, renamed): ([u8; 52], [u8; 16]) = (spelled(RENAME), spelled(RENAMED));
-    let mut packets = [packet(to, &init); 70];
+    let (readdirplus, listing): ([u8; 80], [u8; 176]) = (spelled(READDIRPLUS), spelled(LISTING));
+    let mut packets = [packet(to, &init); 72];
     packets[1] = packet(from, &init_answer);
     packets[2] = packet(to, &opendir);
     packets[3] = packet(from, &handle);
@@ -1436,9 +1471,11 @@ fn a_step_without_memory_is_taken_again(rt: HostRuntime) {
     packets[67] = packet(from, &renamed);
     packets[68] = packet(to, &opendir);
     packets[69] = packet(from, &handle);
-    let mut codes = [0; 70];
+    packets[70] = packet(to, &readdirplus);
+    packets[71] = packet(from, &listing);
+    let mut codes = [0; 72];
     let mut paired = Paired::new(rt.alloc());
     paired.take_each(&packets, &mut codes);
-    assert!(rt; codes == [0; 70]);
+    assert!(rt; codes == [0; 72]);
     assert!(rt; all_step(rt.alloc(), &paired.into_calls()) == Some(true));
 }

@@ -1,0 +1,13 @@
+//! Tests of trees and of their steps by what `fa_tree` offers, as tables.
+//!
+//! The expected values come from the formats (docs/formats.md), from `fuse.h` and from `errno.h`.
+#![tactic(auto)]
+
+#[cfg(test)]
+mod bytes;
+#[cfg(test)]
+mod lists;
+#[cfg(test)]
+mod steps;
+#[cfg(test)]
+mod trees;
