@@ -8,14 +8,16 @@ use Rattle.fa_capture.specs.Reading.{IsReading}
 use Rattle.std.proofs.lemmas.List.{length-map, length-append}
 use Rattle.std.proofs.lemmas.Option.{slice_get_within}
 use Rattle.fa_audit.specs.declared.calls.Call.{Call}
-use Rattle.fa_audit.specs.declared.order.Entry.{Entry}
-use Rattle.fa_audit.specs.declared.order.TextError.{TextError}
-use Rattle.fa_audit.specs.declared.order.TextError.TheVariants as text
+use Rattle.fa_order.specs.declared.entry.Entry.{Entry}
+use Rattle.fa_order.specs.declared.error.TextError.{TextError}
+use Rattle.fa_order.specs.declared.error.TextError.TheVariants as text
 use Rattle.fa_audit.specs.declared.verdict.Verdict.{Verdict}
 use Rattle.fa_audit.specs.declared.verdict.AuditError.{AuditError}
 use Rattle.fa_audit.specs.declared.verdict.AuditError.TheVariants.{OrderText, Memory}
 use Rattle.fa_audit.specs.Faults.{EachPasses, IsGoodCapture, IsMessageFault, IsFirstFault}
-use Rattle.fa_audit.specs.Order.{IsOrderText, IsFaultTold, opening, first_line, end_line, entry_line}
+use Rattle.fa_order.specs.Lines.{end_line}
+use Rattle.fa_order.specs.Order.{IsOrderText, opening, first_line, entry_line}
+use Rattle.fa_order.specs.Faults.{IsOrderFaultTold}
 use Rattle.std.specs.List.{flat_map}
 use Rattle.fa_audit.specs.Tree.{empty_root}
 use Rattle.fa_audit.specs.Calls.{AreCalls}
@@ -23,7 +25,7 @@ use Rattle.fa_audit.specs.Placed.{AreReplayed, IsExplained}
 use Rattle.fa_audit.specs.parts.Errors.{audit_error}
 use Rattle.fa_audit.specs.Verdict.{IsLegal, IsAnswer, Tells, Exactly, OneAnswer}
 use Rattle.fa_audit.proofs.OneAnswerLists.{rising_within}
-use Rattle.fa_audit.proofs.OrderLines.{entries_fit}
+use Rattle.fa_order.proofs.CallerLemmas.{entries_fit}
 
 messages_length : (packets : List Packet) → length (messages packets) ≡ length packets
 messages_length packets = length-map packets message
@@ -68,7 +70,7 @@ replayed packets given calls unanswered same passes are = record {
 }
 
 -- a fault of the order text
-pub text_told : (bytes order : List ℕ) (c : List Message) (error : TextError) (result : Result Verdict AuditError) → IsGoodCapture bytes c → IsFaultTold order error → IsErrAnd result (λ e. e ≡ audit_error error) → Tells bytes order result
+pub text_told : (bytes order : List ℕ) (c : List Message) (error : TextError) (result : Result Verdict AuditError) → IsGoodCapture bytes c → IsOrderFaultTold order error → IsErrAnd result (λ e. e ≡ audit_error error) → Tells bytes order result
 text_told bytes order c error (Ok verdict) good fault told = absurd told
 text_told bytes order c (text.Line line) (Err e) good fault told = subst (λ (x : AuditError). Tells bytes order (Err x)) (sym told) (record { c = c; good = good; text = fault })
 text_told bytes order c text.Memory (Err e) good fault told = subst (λ (x : AuditError). Tells bytes order (Err x)) (sym told) tt

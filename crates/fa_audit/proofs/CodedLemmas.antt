@@ -19,7 +19,7 @@ use Rattle.fa_audit.specs.Nodes.{node_checks_by}
 use Rattle.fa_audit.specs.Faults.{message_checks, IsFirstFault}
 use Rattle.fa_audit.specs.Tree.{Tree, empty_root, step_checks}
 use Rattle.fa_audit.specs.Replay.{order_checks, EntryFails, IsOrderAtFault}
-use Rattle.fa_audit.specs.declared.order.Entry.{Entry}
+use Rattle.fa_order.specs.declared.entry.Entry.{Entry}
 use Rattle.fa_audit.specs.Verdict.{Tells}
 use Rattle.fa_audit.specs.Line.{IsCoded}
 

@@ -1,8 +1,5 @@
 pub mod MessageLemmas
 pub mod CallsLemmas
-pub mod OrderDigits
-pub mod OrderLines
-pub mod OrderLemmas
 pub mod StepLemmas
 pub mod OneAnswerLists
 pub mod OneAnswerRuns

@@ -7,20 +7,20 @@ use Rattle.fa_capture.specs.declared.fault.CaptureFault.{CaptureFault}
 use Rattle.fa_capture.specs.Checks.{FirstFailure}
 use Rattle.fa_capture.specs.Message.{Message}
 use Rattle.fa_capture.specs.Reading.{OneReading}
-use Rattle.fa_audit.specs.declared.order.Entry.{Entry}
+use Rattle.fa_order.specs.declared.entry.Entry.{Entry}
 use Rattle.fa_audit.specs.declared.verdict.Verdict.{Verdict}
 use Rattle.fa_audit.specs.declared.verdict.Verdict.TheVariants.{Legal, Fault, NotShown}
 use Rattle.fa_audit.specs.declared.verdict.AuditError.{AuditError}
 use Rattle.fa_audit.specs.declared.verdict.AuditError.TheVariants.{OrderText, Memory}
 use Rattle.fa_audit.specs.Faults.{message_checks, EachPasses, IsGoodCapture, IsMessageFault, IsFramingFault, IsFirstFault}
-use Rattle.fa_audit.specs.Order.{OneOrderText, OneOrderFault, TextHasNoFault}
+use Rattle.fa_order.specs.Laws.{OneOrderText, OneOrderFault, OrderTextHasNoFault}
 use Rattle.fa_audit.specs.Tree.{empty_root}
 use Rattle.fa_audit.specs.Replay.{IsUnansweredUnplaced, Counts, IsOrderAtFault}
 use Rattle.fa_audit.specs.Verdict.{IsLegal, IsNotShown, OneAnswer}
 use Rattle.fa_capture.proofs.CallerLemmas.{no_failure, one_failure, one_reading}
 use Rattle.fa_bodies.proofs.CallerLemmas.{request_is_one, reply_is_one}
 use Rattle.fa_session.proofs.CallerLemmas.{answered_once}
-use Rattle.fa_audit.proofs.OrderLemmas.{one_order_text, one_order_fault, text_has_no_fault_lem}
+use Rattle.fa_order.proofs.CallerLemmas.{one_order_text, one_order_fault, order_text_has_no_fault}
 use Rattle.fa_audit.proofs.OneAnswerLists.{rising_same}
 use Rattle.fa_audit.proofs.OneAnswerRuns.{RepliedOnce, replied_once, one_order_at_fault, valid_no_fault}
 
@@ -165,7 +165,7 @@ not_shown_same entry at code other place told same =
     cc
 
 -- A capture and an order have one answer at most. It takes the laws that bytes have one reading as a capture and as an order text, and that an answered request has one reply.
-one_answer_lem : OneReading → RepliedOnce → OneOrderText → OneOrderFault → TextHasNoFault → OneAnswer
+one_answer_lem : OneReading → RepliedOnce → OneOrderText → OneOrderFault → OrderTextHasNoFault → OneAnswer
 one_answer_lem one once one_text one_fault or_fault capture order (Ok (Legal messages placed left)) (Ok (Legal others entries rest)) a b =
     legal_same messages placed left others entries rest (one_legal one one_text capture order messages placed left others entries rest a b)
 one_answer_lem one once one_text one_fault or_fault capture order (Ok (Legal messages placed left)) (Ok (Fault at code)) a b =
@@ -202,4 +202,4 @@ one_answer_lem one once one_text one_fault or_fault capture order (Err Memory) b
 one_answer_lem one once one_text one_fault or_fault capture order a (Err Memory) _ b = absurd b
 
 pub one_answer : OneAnswer
-one_answer = one_answer_lem one_reading (replied_once request_is_one reply_is_one answered_once) one_order_text one_order_fault text_has_no_fault_lem
+one_answer = one_answer_lem one_reading (replied_once request_is_one reply_is_one answered_once) one_order_text one_order_fault order_text_has_no_fault

@@ -12,7 +12,7 @@ use Rattle.fa_bodies.specs.Requests.{PlainRequest}
 use Rattle.fa_bodies.specs.Replies.{PlainReply, IsReply}
 use Rattle.fa_session.specs.Answers.{AnswersAt, IsAnsweredBy, IsRepliedTo}
 use Rattle.fa_session.specs.Laws.{AnsweredOnce}
-use Rattle.fa_audit.specs.declared.order.Entry.{Entry}
+use Rattle.fa_order.specs.declared.entry.Entry.{Entry}
 use Rattle.fa_audit.specs.Tree.{Tree, Step, step_checks}
 use Rattle.fa_audit.specs.Replay.{EntryFails, IsTreeRequestAt, numbers, IsChoice, IsValidOrder, EntryStep, Run, order_checks, EachPlaced, IsEntryAtFault, IsAnsweredUnplaced, LeavesOut, IsOrderAtFault}
 use Rattle.fa_capture.proofs.CallerLemmas.{no_failure, one_failure}

@@ -17,7 +17,7 @@ use Rattle.fa_session.specs.Answers.{IsRequestAt, AnswersAt, IsAnsweredBy, IsUna
 use Rattle.fa_session.specs.Allowed.{session_checks}
 use Rattle.fa_session.specs.Laws.{AnsweredOnce}
 use Rattle.fa_audit.specs.declared.calls.Call.{Call}
-use Rattle.fa_audit.specs.declared.order.Entry.{Entry}
+use Rattle.fa_order.specs.declared.entry.Entry.{Entry}
 use Rattle.fa_audit.specs.Operations.{operation_checks}
 use Rattle.fa_bodies.specs.declared.requests.TheConstants.{ROOT_ID}
 use Rattle.fa_audit.specs.Nodes.{NamesKnown, node_checks_by}

@@ -6,8 +6,6 @@ pub mod Verdict
 pub mod Faults
 pub mod Operations
 pub mod Nodes
--- order texts
-pub mod Order
 -- valid orders, runs, and the first entry at fault
 pub mod Replay
 -- the tree machine

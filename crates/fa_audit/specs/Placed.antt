@@ -8,7 +8,7 @@ use Rattle.fa_bodies.specs.Requests.{PlainRequest}
 use Rattle.fa_bodies.specs.Replies.{PlainReply, reply_shown}
 use Rattle.fa_audit.specs.declared.calls.Call.{Call}
 use Rattle.fa_audit.specs.declared.calls.Calls.{Calls}
-use Rattle.fa_audit.specs.declared.order.Entry.{Entry}
+use Rattle.fa_order.specs.declared.entry.Entry.{Entry}
 use Rattle.fa_audit.specs.declared.replay.ReplayError.{ReplayError}
 use Rattle.fa_audit.specs.declared.replay.ReplayError.TheVariants.{AtFault, Memory}
 use Rattle.fa_audit.specs.Faults.{EachPasses}

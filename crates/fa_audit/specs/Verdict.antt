@@ -1,13 +1,13 @@
 -- The answers of the audit, each by what it says of the capture and the order.
 use Rattle.std.specs.Prelude.{◌≡◌, ℕ, ◌⊎◌, List, length, Result, Ok, Err}
 use Rattle.fa_capture.specs.Message.{Message}
-use Rattle.fa_audit.specs.declared.order.Entry.{Entry}
+use Rattle.fa_order.specs.declared.entry.Entry.{Entry}
 use Rattle.fa_audit.specs.declared.verdict.Verdict.{Verdict}
 use Rattle.fa_audit.specs.declared.verdict.Verdict.TheVariants.{Legal, Fault, NotShown}
 use Rattle.fa_audit.specs.declared.verdict.AuditError.{AuditError}
 use Rattle.fa_audit.specs.declared.verdict.AuditError.TheVariants.{OrderText, Memory}
 use Rattle.fa_audit.specs.Faults.{IsGoodCapture, IsFirstFault}
-use Rattle.fa_audit.specs.Order.{IsOrderText, IsOrderFault}
+use Rattle.fa_order.specs.Order.{IsOrderText, IsOrderFault}
 use Rattle.fa_audit.specs.Tree.{Tree, empty_root}
 use Rattle.fa_audit.specs.Replay.{IsValidOrder, Run, IsUnansweredUnplaced, Counts, IsOrderAtFault}
 

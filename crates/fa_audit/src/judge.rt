@@ -4,13 +4,13 @@ ghost use Rattle.std.specs.Prelude.{◌≡◌, ◌≤◌, ℕ, length, Ok, Err, 
 ghost use Rattle.fa_audit.specs.Verdict.{IsLegal, IsTextAtFault, IsNotShown, Tells, Exactly};
 ghost use Rattle.fa_audit.specs.Faults.{IsFirstFault};
 ghost use Rattle.fa_audit.specs.Line.{IsCoded};
-ghost use Rattle.fa_audit.specs.declared.order.TheConstants.{MAX_TEXT_BYTES};
+ghost use Rattle.fa_order.specs.declared.lines.TheConstants.{MAX_TEXT_BYTES};
 
 use crate::calls::{Refusal, calls_of};
-use crate::order::read_order;
 use crate::replay::{EntryFault, ReplayError, replay};
 use crate::verdict::{AuditError, Verdict};
 use fa_capture::read_capture;
+use fa_order::read_order;
 use std::alloc::Global;
 
 /// Judges a capture and an order.

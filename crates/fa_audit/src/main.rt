@@ -16,7 +16,6 @@ mod judge;
 pub mod laws;
 mod line;
 mod messages;
-mod order;
 mod replay;
 mod run;
 mod status;

@@ -6,10 +6,10 @@ ghost use Rattle.fa_audit.specs.Calls.{asked_at};
 ghost use Rattle.fa_audit.specs.Placed.{IsUncaused, StepAllows, StepRefuses, IsFront, IsNonePlaced, IsCallAt, IsEarly, FailsAfter, IsNext, IsLesser, IsLeastLeft, AreExplained, AreUnexplained};
 
 use crate::calls::{Call, Calls};
-use crate::order::Entry;
 use fa_bodies::Reply;
 use fa_bodies::errno::{EEXIST, EISDIR, ENOTDIR, ENOTEMPTY};
 use fa_capture::codes;
+use fa_order::Entry;
 use std::alloc::{AllocError, Global};
 
 /// The first entry of an order that is at fault.

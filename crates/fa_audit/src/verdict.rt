@@ -1,6 +1,6 @@
 //! What the audit answers.
 
-use crate::order::TextError;
+use fa_order::TextError;
 use std::alloc::AllocError;
 use thiserror::Error;
 

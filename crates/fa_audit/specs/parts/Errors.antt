@@ -1,6 +1,6 @@
 -- What the fault of an order text is among the errors of the audit.
-use Rattle.fa_audit.specs.declared.order.TextError.{TextError}
-use Rattle.fa_audit.specs.declared.order.TextError.TheVariants as text
+use Rattle.fa_order.specs.declared.error.TextError.{TextError}
+use Rattle.fa_order.specs.declared.error.TextError.TheVariants as text
 use Rattle.fa_audit.specs.declared.verdict.AuditError.{AuditError}
 use Rattle.fa_audit.specs.declared.verdict.AuditError.TheVariants.{OrderText, Memory}
 

@@ -1,5 +1,0 @@
-use Rattle.fa_audit.proofs.OrderLemmas.{one_order_text}
-use Rattle.fa_audit.proofs.laws.one_order.Goals as goal
-
-pub returns : goal.returns
-returns c = one_order_text

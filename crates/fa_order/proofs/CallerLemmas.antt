@@ -1,0 +1,9 @@
+-- The lemmas for the crates above.
+
+-- entries have no more numbers than their lines have bytes
+pub use Rattle.fa_order.proofs.OrderLines.{entries_fit}
+-- an order text, or its fault, and one alone
+pub use Rattle.fa_order.proofs.OrderLemmas.{one_order_text, one_order_fault, order_text_has_no_fault}
+pub use Rattle.fa_order.proofs.OrderTotal.{order_text_or_fault}
+-- a tree text, or its fault, and one alone
+pub use Rattle.fa_order.proofs.TreeLaws.{one_tree_text, one_tree_fault, tree_text_has_no_fault, tree_text_or_fault}

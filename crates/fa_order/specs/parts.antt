@@ -1,0 +1,10 @@
+-- decimal digits
+pub mod Digits
+-- bytes that are split
+pub mod Splits
+-- ways down a tree
+pub mod Ways
+-- the fields of lines
+pub mod Fields
+-- what comes of a line
+pub mod Outcomes

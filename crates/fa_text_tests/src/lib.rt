@@ -1,0 +1,9 @@
+//! Tests of order texts and tree texts by what `fa_order` offers, as tables.
+//!
+//! The expected values come from the formats (docs/formats.md).
+#![tactic(auto)]
+
+#[cfg(test)]
+mod orders;
+#[cfg(test)]
+mod trees;
