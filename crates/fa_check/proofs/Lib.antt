@@ -1,0 +1,13 @@
+pub mod ListLemmas
+pub mod OrderLemmas
+pub mod RunLemmas
+pub mod FaultLemmas
+pub mod MarkLemmas
+pub mod MessageLemmas
+pub mod GoodLemmas
+pub mod PlacingLemmas
+pub mod EntryLemmas
+pub mod EndLemmas
+pub mod VerdictLemmas
+pub mod ThereLemmas
+pub mod CallerLemmas

@@ -1,0 +1,50 @@
+use Rattle.std.proofs.Common.{◌≡◌, take, Result, Ok, Err, refl, sym, subst}
+use Rattle.std.specs.Prelude.{OnOk, IfOk}
+use Rattle.fa_check.specs.Verdicts.{IsVerdict}
+use Rattle.fa_check.proofs.VerdictLemmas.{legal_exactly, not_shown_exactly, never_fault, none_replayed, replayed_next, all_replayed, failed_at}
+use Rattle.fa_check.proofs.checking.check.Goals as goal
+
+-- what is no error is a success
+on_ok : {A E : Type 0} (r : Result A E) (P : Type 0) → OnOk r P → ((e : E) → r ≡ Err e → ⊥) → P
+on_ok (Ok a) P holds other = holds
+on_ok (Err e) P holds other = absurd (other e refl)
+
+pub loop-entry-init : goal.loop-entry-init
+loop-entry-init c = none_replayed c.args.calls.now c.args.tree c.in_ok-placing.placing c.in_ok-placing.ensures.shape c.in_ok-placing.ensures.none
+
+pub returns-in-Err-clause-legal : goal.returns-in-Err-clause-legal
+returns-in-Err-clause-legal c = λ messages is.
+    legal_exactly messages c.args.tree c.args.order.now c.told.result
+    (subst (λ r. IfOk r (IsVerdict messages c.args.tree c.args.order.now)) (sym c.told.ensures)
+    (failed_at c.args.calls.now c.args.tree c.loop-entry.tree c.args.order.now c.loop-entry.entry-index _ c.loop-entry.placing c.place.new.self.count c.in-Err.error c.loop-entry-test.true c.loop-entry.invariant
+    c.in-Err.ensures.fault c.in-Err.ensures.counted messages is))
+
+pub returns-in-Err-clause-not_shown : goal.returns-in-Err-clause-not_shown
+returns-in-Err-clause-not_shown c = λ messages is.
+    not_shown_exactly messages c.args.tree c.args.order.now c.told.result
+    (subst (λ r. IfOk r (IsVerdict messages c.args.tree c.args.order.now)) (sym c.told.ensures)
+    (failed_at c.args.calls.now c.args.tree c.loop-entry.tree c.args.order.now c.loop-entry.entry-index _ c.loop-entry.placing c.place.new.self.count c.in-Err.error c.loop-entry-test.true c.loop-entry.invariant
+    c.in-Err.ensures.fault c.in-Err.ensures.counted messages is))
+
+pub loop-entry-preserved : goal.loop-entry-preserved
+loop-entry-preserved c =
+    replayed_next c.args.calls.now c.args.tree c.place.new.tree c.args.order.now c.loop-entry.entry-index _ c.place.new.self c.loop-entry-test.true
+    (on_ok c.place.result _ c.place.ensures.placed c.in_default.not-Err c.args.tree (take c.loop-entry.entry-index c.args.order.now) c.loop-entry.invariant)
+
+pub returns-clause-legal : goal.returns-clause-legal
+returns-clause-legal c = λ messages is.
+    legal_exactly messages c.args.tree c.args.order.now (Ok c.verdict.result)
+    (c.verdict.ensures c.args.tree c.loop-entry.tree c.args.order.now
+    (all_replayed c.args.calls.now c.args.tree c.loop-entry.tree c.args.order.now c.loop-entry.entry-index c.loop-entry.placing c.loop-entry-test.false c.loop-entry.invariant) messages is)
+
+pub returns-clause-not_shown : goal.returns-clause-not_shown
+returns-clause-not_shown c = λ messages is.
+    not_shown_exactly messages c.args.tree c.args.order.now (Ok c.verdict.result)
+    (c.verdict.ensures c.args.tree c.loop-entry.tree c.args.order.now
+    (all_replayed c.args.calls.now c.args.tree c.loop-entry.tree c.args.order.now c.loop-entry.entry-index c.loop-entry.placing c.loop-entry-test.false c.loop-entry.invariant) messages is)
+
+pub returns-clause-never_fault : goal.returns-clause-never_fault
+returns-clause-never_fault c =
+    never_fault c.args.calls.now c.args.tree c.args.order.now (Ok c.verdict.result) (λ messages is.
+    c.verdict.ensures c.args.tree c.loop-entry.tree c.args.order.now
+    (all_replayed c.args.calls.now c.args.tree c.loop-entry.tree c.args.order.now c.loop-entry.entry-index c.loop-entry.placing c.loop-entry-test.false c.loop-entry.invariant) messages is)

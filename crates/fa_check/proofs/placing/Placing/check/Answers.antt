@@ -1,0 +1,51 @@
+use Rattle.std.proofs.Common.{◌≡◌, ◌<◌, length, false, sym, subst, ◌∙◌, vec_len, arith, rules}
+use Rattle.std.specs.Prelude.{map}
+use Rattle.std.proofs.lemmas.List.{length-map}
+use Rattle.std.proofs.lemmas.Option.{slice_get_within, same_Some}
+use Rattle.fa_ledger.specs.Calls.{PlainCall, call_shown}
+use Rattle.fa_ledger.specs.Choices.{Allows}
+use Rattle.fa_tree.proofs.StepLemmas.{shown_at}
+use Rattle.fa_check.proofs.MarkLemmas.{mark_at}
+use Rattle.fa_check.proofs.PlacingLemmas.{fails_early, fails_choice, place_holds}
+use Rattle.fa_check.proofs.placing.Placing.check.Goals as goal
+
+pub returns-then-self-entry-clause-fault : goal.returns-then-self-entry-clause-fault
+returns-then-self-entry-clause-fault c =
+    let calls = map call_shown c.args.calls.now.list.items in
+    let found = c.in-Some.ensures.found in
+    let within : c.in-Some.place < length calls = slice_get_within calls c.in-Some.place found.0 found.1 in
+    fails_early calls c.args.calls.now.messages c.args.calls.now.good c.args.self.now c.args.entry c.in-Some.place c.requires found
+    (mark_at c.args.self.now.marks.items c.in-Some.place c.index.result.now false (omega (arith, within, c.requires.sized)) c.index.ensures c.if-index.false)
+    c.if-self-entry.true
+
+pub index-requires-2 : goal.index-requires-2
+index-requires-2 c =
+    let list = c.args.calls.now.list.items in
+    let found = c.in-Some.ensures.found in
+    let within = slice_get_within (map call_shown list) c.in-Some.place found.0 found.1 in
+    let long : vec_len c.args.calls.now.list ≡ length list = search rules in
+    omega (arith, within, length-map list call_shown, long)
+
+pub returns-then-not-allows-clause-fault : goal.returns-then-not-allows-clause-fault
+returns-then-not-allows-clause-fault c =
+    let list = c.args.calls.now.list.items in
+    let found = c.in-Some.ensures.found in
+    let within = slice_get_within (map call_shown list) c.in-Some.place found.0 found.1 in
+    let there = shown_at list c.in-Some.place c.index-2.result.now (omega (arith, within, length-map list call_shown)) c.index-2.ensures in
+    let same : found.0 ≡ call_shown c.index-2.result.now = same_Some found.0 (call_shown c.index-2.result.now) (sym found.1 ∙ there) in
+    fails_choice (map call_shown list) c.args.calls.now.messages c.args.calls.now.good c.args.self.now c.args.entry c.in-Some.place c.requires found
+    (mark_at c.args.self.now.marks.items c.in-Some.place c.index.result.now false (omega (arith, within, c.requires.sized)) c.index.ensures c.if-index.false)
+    c.if-self-entry.false
+    (λ allowed. let answer = c.allows.ensures.1 (subst (λ (x : PlainCall). Allows x c.args.entry.wrote) same allowed) in let other = c.if-not-allows.true in absurd cc)
+
+pub returns-clause-holds : goal.returns-clause-holds
+returns-clause-holds c =
+    let list = c.args.calls.now.list.items in
+    let found = c.in-Some.ensures.found in
+    let within = slice_get_within (map call_shown list) c.in-Some.place found.0 found.1 in
+    let there = shown_at list c.in-Some.place c.index-2.result.now (omega (arith, within, length-map list call_shown)) c.index-2.ensures in
+    let same : found.0 ≡ call_shown c.index-2.result.now = same_Some found.0 (call_shown c.index-2.result.now) (sym found.1 ∙ there) in
+    place_holds (map call_shown list) c.args.calls.now.messages c.args.calls.now.good c.args.self.now c.args.entry c.in-Some.place c.requires found
+    (mark_at c.args.self.now.marks.items c.in-Some.place c.index.result.now false (omega (arith, within, c.requires.sized)) c.index.ensures c.if-index.false)
+    c.if-self-entry.false
+    (subst (λ (x : PlainCall). Allows x c.args.entry.wrote) (sym same) (c.allows.ensures.0 c.if-not-allows.false))

@@ -1,0 +1,32 @@
+-- Which orders are valid. An order is a list of entries; each names a tree request by the number of its message, and says of
+-- an unanswered WRITE how many bytes it wrote.
+use Rattle.std.specs.Prelude.{◌≡◌, ◌≢◌, ℕ, ◌≤◌, List, map, All, AllPairs, Contains, None}
+use Rattle.fa_capture.specs.Message.{Message}
+use Rattle.fa_bodies.specs.Requests.{PlainRequest}
+use Rattle.fa_session.specs.Answers.{IsRequestAt, IsAnsweredBy, IsUnanswered}
+use Rattle.fa_ledger.specs.Kinds.{IsTreeRequest}
+use Rattle.fa_ledger.specs.Choices.{MayBePlaced}
+use Rattle.fa_order.specs.declared.entry.Entry.{Entry}
+
+-- message p is a tree request
+abbrev pub IsTreeRequestAt : List Message → ℕ → Type 0
+IsTreeRequestAt c p = (r : PlainRequest) × IsRequestAt c p r × IsTreeRequest r.body
+
+-- the message numbers of the entries
+abbrev pub numbers : List Entry → List ℕ
+numbers es = map (λ e. e.at) es
+
+-- The entry's choice is allowed: it carries no count where its request was answered; where it was not, the request may be
+-- taken as done so. A request that only reads, and was not answered, may not be placed.
+pub record IsChoice (c : List Message) (e : Entry) : Type 0 where
+  pub answered : (q : ℕ) → IsAnsweredBy c e.at q → e.wrote ≡ None
+  pub unanswered : IsUnanswered c e.at → (r : PlainRequest) → IsRequestAt c e.at r → MayBePlaced r.body e.wrote
+
+-- The order is valid: it holds tree requests, each at most once, and all those that were answered; of two entries
+-- the later one was not answered before the earlier one was sent; and each choice is allowed.
+pub record IsValidOrder (c : List Message) (es : List Entry) : Type 0 where
+  pub each : All (λ e. IsTreeRequestAt c e.at) es
+  pub once : AllPairs (λ a b. a.at ≢ b.at) es
+  pub complete : (p q : ℕ) → IsTreeRequestAt c p → IsAnsweredBy c p q → Contains (numbers es) p
+  pub precedence : AllPairs (λ earlier later. (q : ℕ) → IsAnsweredBy c later.at q → earlier.at ≤ q) es
+  pub choices : All (IsChoice c) es

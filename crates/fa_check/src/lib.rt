@@ -1,0 +1,11 @@
+//! Which orders of the tree requests of a capture are legal.
+#![tactic(auto)]
+
+mod checking;
+pub mod laws;
+mod placing;
+mod verdict;
+mod waiting;
+
+pub use checking::check;
+pub use verdict::Verdict;

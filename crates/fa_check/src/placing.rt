@@ -1,0 +1,134 @@
+//! How far an order is placed.
+
+ghost use Rattle.std.specs.Prelude.{◌≡◌, ◌+◌, ◌++◌, ◌∷◌, [], List, length, map, set, true, IfOk, IfErr, OnOk, OnErr};
+ghost use Rattle.fa_capture.specs.Checks.{AllHold, FirstFailure};
+ghost use Rattle.fa_capture.specs.Message.{Message};
+ghost use Rattle.fa_ledger.specs.Calls.{call_shown};
+ghost use Rattle.fa_tree.specs.State.{TreeState};
+ghost use Rattle.fa_order.specs.declared.entry.Entry.{Entry as TheEntry};
+ghost use Rattle.fa_check.specs.Verdicts.{AreMessagesOf, IsVerdict};
+ghost use Rattle.fa_check.specs.parts.Marks.{IsUnset, AreUnset};
+ghost use Rattle.fa_check.specs.parts.Placing.{IsPlacing, IsCallOf, place_checks, IsLeastLeft, IsReplayed, NextFails};
+
+use crate::verdict::Verdict;
+use crate::waiting::{Waiting, unset};
+use fa_capture::codes;
+use fa_ledger::Calls;
+use fa_order::Entry;
+use fa_tree::{StepError, Tree};
+use std::alloc::{AllocError, Global};
+
+/// Which calls are placed by the entries of an order so far.
+#[derive(Debug, Drop)]
+pub(crate) struct Placing {
+    /// For each call, by its place in the list, whether it is placed.
+    marks: Vec<bool>,
+    /// The answers of those that are not.
+    waiting: Waiting,
+    /// How many are placed, which is how many entries there were.
+    pub count: u32,
+}
+
+impl Placing {
+    /// None of these calls.
+    pub fn new(alloc: Global, calls: &Calls<'_>) -> Result<Self, AllocError>
+        ensures shape { IfOk result (IsPlacing (map call_shown calls.now.list.items) calls.now.messages) }
+        ensures none { IfOk result (λ placing. AreUnset (length calls.now.list.items) placing.marks.items) }
+    {
+        Ok(Placing {
+            marks: unset(alloc, calls.list.len())?,
+            waiting: Waiting::all(alloc, calls)?,
+            count: 0,
+        })
+    }
+
+    /// The place of the call that an entry names, where the entry may come next. The error is the code of the first check of
+    /// its place that it fails.
+    fn check(&self, calls: &Calls<'_>, entry: Entry) -> Result<usize, u16>
+        requires { IsPlacing (map call_shown calls.now.list.items) calls.now.messages self.now }
+        ensures found { IfOk result (λ place. IsCallOf (map call_shown calls.now.list.items) place entry.at) }
+        ensures holds { OnOk result (AllHold (place_checks (map call_shown calls.now.list.items) self.now.marks.items entry)) }
+        ensures fault { IfErr result (FirstFailure (place_checks (map call_shown calls.now.list.items) self.now.marks.items entry)) }
+    {
+        let Some(place) = calls.find(entry.at) else {
+            return Err(codes::NO_TREE_REQUEST);
+        };
+        if self.marks[place] {
+            return Err(codes::PLACED_TWICE);
+        }
+        if self.waiting.front < entry.at as usize {
+            return Err(codes::EARLIER_NOT_PLACED);
+        }
+        if !calls.list[place].allows(entry.wrote) {
+            return Err(codes::CHOICE_NOT_ALLOWED);
+        }
+        Ok(place)
+    }
+
+    /// Notes that the call at this place is placed.
+    fn note(&mut self, calls: &Calls<'_>, place: usize)
+        requires shape { IsPlacing (map call_shown calls.now.list.items) calls.now.messages self.old }
+        requires unplaced { IsUnset self.old.marks.items place }
+        ensures shape { IsPlacing (map call_shown calls.now.list.items) calls.now.messages self.new }
+        ensures marked { self.new.marks.items ≡ set self.old.marks.items place true }
+        ensures counted { self.new.count ≡ self.old.count + 1 }
+    {
+        self.marks[place] = true;
+        self.count += 1;
+        if let Some(answer) = &calls.list[place].answer {
+            self.waiting.remove(answer.at);
+        }
+    }
+
+    /// Places the next entry, and takes the step of its call.
+    ///
+    /// `Refused` tells the code of the first check that the entry fails, of its place or else of its step.
+    pub fn place(
+        &mut self,
+        calls: &Calls<'_>,
+        tree: &mut Tree,
+        entry: Entry,
+    ) -> Result<(), StepError>
+        requires { IsPlacing (map call_shown calls.now.list.items) calls.now.messages self.old }
+        ensures placed { OnOk result ((first : TreeState) (es : List TheEntry) → IsReplayed calls.now first tree.old es self.old → IsReplayed calls.now first tree.new (es ++ entry ∷ []) self.new) }
+        ensures fault { IfErr result (NextFails calls.now tree.old entry self.old) }
+        ensures counted { OnErr result (self.new.count ≡ self.old.count) }
+    {
+        let place = self.check(calls, entry)?;
+        tree.step(calls, place, entry.wrote)?;
+        self.note(calls, place);
+        Ok(())
+    }
+
+    /// The least message number of an answered call that is not placed.
+    fn least_left(&self, calls: &Calls<'_>) -> Option<u32>
+        requires { IsPlacing (map call_shown calls.now.list.items) calls.now.messages self.now }
+        ensures { IsLeastLeft (map call_shown calls.now.list.items) self.now.marks.items result }
+    {
+        for (place, call) in calls.list.iter().enumerate() {
+            if call.answer.is_some() && !self.marks[place] {
+                return Some(call.asked);
+            }
+        }
+        None
+    }
+
+    /// What is answered after all entries.
+    pub fn verdict(&self, calls: &Calls<'_>) -> Verdict
+        requires { IsPlacing (map call_shown calls.now.list.items) calls.now.messages self.now }
+        ensures { (first last : TreeState) (es : List TheEntry) → IsReplayed calls.now first last es self.now → (c : List Message) → AreMessagesOf calls.now c → IsVerdict c first es result }
+    {
+        match self.least_left(calls) {
+            Some(at) => Verdict::NotShown {
+                entry: self.count,
+                at,
+                code: codes::ANSWERED_LEFT_OUT,
+            },
+            None => Verdict::Legal {
+                messages: calls.messages,
+                placed: self.count,
+                left: calls.list.len() as u32 - self.count,
+            },
+        }
+    }
+}
