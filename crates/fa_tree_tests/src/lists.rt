@@ -340,7 +340,7 @@ const READDIRPLUSES: [Row; 6] = [
 ];
 
 /// One node is given for two files, in one answer; and for one that is not there, which the listing tells alone.
-const ONE_NODE: [Row; 2] = [
+const ONE_NODE: [Row; 4] = [
     (
         &[
             (4, Readdirplus(ROOT, 0, 4096)),
@@ -360,6 +360,25 @@ const ONE_NODE: [Row; 2] = [
         ],
         &[2, 4, 6, 8],
         Told(3, LISTING),
+    ),
+    // Attributes are told before nodes, and nodes before the listing, over all entries.
+    (
+        &[
+            (4, Readdirplus(ROOT, 0, 4096)),
+            (4, GivesPlus(2, DIR | 0o644, BOTH)),
+        ],
+        &[2, 4],
+        Told(1, ATTRIBUTES),
+    ),
+    (
+        &[
+            (4, Lookup(ROOT, b"b")),
+            (4, Entry(7, FILE, 0, 1)),
+            (6, Readdirplus(ROOT, 0, 4096)),
+            (6, GivesPlus(7, FILE, &[(b"a", 1, 8), (b"z", 2, 8)])),
+        ],
+        &[2, 4, 6],
+        Told(2, NODE_ID_OF_ANOTHER),
     ),
 ];
 
