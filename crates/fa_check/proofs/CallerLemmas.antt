@@ -1,4 +1,21 @@
 -- The lemmas for the crates above.
-
--- an order has one verdict, and never none
+use Rattle.std.proofs.Common.{◌≡◌, ℕ, List, Result, Ok}
+use Rattle.std.specs.declared.alloc.AllocError.{AllocError}
+use Rattle.fa_capture.specs.Message.{Message}
+use Rattle.fa_tree.specs.State.{TreeState}
+use Rattle.fa_order.specs.declared.entry.Entry.{Entry}
+use Rattle.fa_check.specs.declared.verdict.Verdict.{Verdict}
+use Rattle.fa_check.specs.declared.verdict.Verdict.TheVariants.{Legal, Fault, NotShown}
+use Rattle.fa_check.specs.Faults.{IsOrderAtFault}
+use Rattle.fa_check.specs.Verdicts.{IsLegalWith, IsVerdict, Exactly}
+-- an order has one verdict
 pub use Rattle.fa_check.proofs.VerdictLemmas.{verdict_is_one}
+
+-- what `check` answers is the verdict
+pub verdict_told : (c : List Message) (first : TreeState) (es : List Entry) (result : Result Verdict AllocError) (verdict : Verdict) → result ≡ Ok verdict
+    → ((messages placed left : ℕ) → Exactly result (Legal messages placed left) (IsLegalWith c first es messages placed left))
+    → ((entry at code : ℕ) → Exactly result (NotShown entry at code) (IsOrderAtFault c first es entry at code))
+    → ((at code : ℕ) → result ≡ Ok (Fault at code) → ⊥) → IsVerdict c first es verdict
+verdict_told c first es result (Legal messages placed left) is legal not_shown never = (legal messages placed left).only is
+verdict_told c first es result (Fault at code) is legal not_shown never = never at code is
+verdict_told c first es result (NotShown entry at code) is legal not_shown never = (not_shown entry at code).only is

@@ -10,4 +10,7 @@ pub mod EntryLemmas
 pub mod EndLemmas
 pub mod VerdictLemmas
 pub mod ThereLemmas
+pub mod KnownLemmas
+pub mod NamingLemmas
+pub mod UnknownLemmas
 pub mod CallerLemmas

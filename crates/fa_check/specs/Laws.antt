@@ -1,5 +1,6 @@
 -- What holds of orders and verdicts.
 use Rattle.std.specs.Prelude.{◌≡◌, ◌↔◌, ℕ, List}
+use Rattle.fa_capture.specs.declared.codes.TheConstants.{UNKNOWN_HERE}
 use Rattle.fa_capture.specs.Message.{Message}
 use Rattle.fa_ledger.specs.Passing.{AreGood}
 use Rattle.fa_ledger.specs.Calls.{PlainCall, AreCalls}
@@ -40,3 +41,10 @@ abbrev pub VerdictIsThere : Type 0
 VerdictIsThere =
     (c : List Message) (calls : List PlainCall) (first : TreeState) (es : List Entry) → AreGood c → AreCalls c calls
     → ((verdict : Verdict) → IsVerdict c first es verdict → ⊥) → ⊥
+
+-- The tree knows what the call of an entry names, where the entry's place is right: a file for each node, and the open directory
+-- for a handle. An answer before the entry's request gave these, and the request of that answer is placed before the entry. So
+-- none is at fault with this code, whatever the messages and the first tree.
+abbrev pub NeverUnknownHere : Type 0
+NeverUnknownHere =
+    (c : List Message) (first : TreeState) (es : List Entry) (entry at : ℕ) → IsOrderAtFault c first es entry at UNKNOWN_HERE → ⊥

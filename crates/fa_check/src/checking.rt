@@ -1,6 +1,7 @@
 //! Whether an order is legal.
 
 ghost use Rattle.std.specs.Prelude.{◌≡◌, ℕ, List, Ok};
+ghost use Rattle.fa_capture.specs.declared.codes.TheConstants.{UNKNOWN_HERE};
 ghost use Rattle.fa_capture.specs.Message.{Message};
 ghost use Rattle.fa_check.specs.Faults.{IsOrderAtFault};
 ghost use Rattle.fa_check.specs.Verdicts.{AreMessagesOf, IsLegalWith, Exactly};
@@ -27,7 +28,8 @@ use std::alloc::{AllocError, Global};
 /// fails, one of [`codes`](fa_capture::codes). Where all entries pass, it tells the number of entries, the least message number of
 /// an answered tree request that is in no entry, and `ANSWERED_LEFT_OUT`. Where there is none the answer is [`Verdict::Legal`]: with
 /// the number of messages, that of entries, and that of the unanswered tree requests that are in no entry, those that only read
-/// among them. [`Verdict::Fault`] is never answered.
+/// among them. [`Verdict::Fault`] is never answered, and `UNKNOWN_HERE` is never told: what a request names came from an answer
+/// before it, and the request of that answer is placed first.
 ///
 /// # Errors
 ///
@@ -46,6 +48,7 @@ pub fn check(
     ensures legal { (c : List Message) → AreMessagesOf calls.now c → (messages placed left : ℕ) → Exactly result (Legal messages placed left) (IsLegalWith c tree order.now messages placed left) }
     ensures not_shown { (c : List Message) → AreMessagesOf calls.now c → (entry at code : ℕ) → Exactly result (NotShown entry at code) (IsOrderAtFault c tree order.now entry at code) }
     ensures never_fault { (at code : ℕ) → result ≡ Ok (Fault at code) → ⊥ }
+    ensures never_unknown { (entry at : ℕ) → result ≡ Ok (NotShown entry at UNKNOWN_HERE) → ⊥ }
 {
     let mut tree = tree;
     let mut placing = Placing::new(alloc, calls)?;

@@ -2,6 +2,7 @@ use Rattle.std.proofs.Common.{◌≡◌, take, Result, Ok, Err, refl, sym, subst
 use Rattle.std.specs.Prelude.{OnOk, IfOk}
 use Rattle.fa_check.specs.Verdicts.{IsVerdict}
 use Rattle.fa_check.proofs.VerdictLemmas.{legal_exactly, not_shown_exactly, never_fault, none_replayed, replayed_next, all_replayed, failed_at}
+use Rattle.fa_check.proofs.UnknownLemmas.{never_unknown}
 use Rattle.fa_check.proofs.checking.check.Goals as goal
 
 -- what is no error is a success
@@ -26,6 +27,13 @@ returns-in-Err-clause-not_shown c = λ messages is.
     (failed_at c.args.calls.now c.args.tree c.loop-entry.tree c.args.order.now c.loop-entry.entry-index _ c.loop-entry.placing c.place.new.self.count c.in-Err.error c.loop-entry-test.true c.loop-entry.invariant
     c.in-Err.ensures.fault c.in-Err.ensures.counted messages is))
 
+pub returns-in-Err-clause-never_unknown : goal.returns-in-Err-clause-never_unknown
+returns-in-Err-clause-never_unknown c =
+    never_unknown c.args.calls.now c.args.tree c.args.order.now c.told.result (λ messages is.
+    subst (λ r. IfOk r (IsVerdict messages c.args.tree c.args.order.now)) (sym c.told.ensures)
+    (failed_at c.args.calls.now c.args.tree c.loop-entry.tree c.args.order.now c.loop-entry.entry-index _ c.loop-entry.placing c.place.new.self.count c.in-Err.error c.loop-entry-test.true c.loop-entry.invariant
+    c.in-Err.ensures.fault c.in-Err.ensures.counted messages is))
+
 pub loop-entry-preserved : goal.loop-entry-preserved
 loop-entry-preserved c =
     replayed_next c.args.calls.now c.args.tree c.place.new.tree c.args.order.now c.loop-entry.entry-index _ c.place.new.self c.loop-entry-test.true
@@ -46,5 +54,11 @@ returns-clause-not_shown c = λ messages is.
 pub returns-clause-never_fault : goal.returns-clause-never_fault
 returns-clause-never_fault c =
     never_fault c.args.calls.now c.args.tree c.args.order.now (Ok c.verdict.result) (λ messages is.
+    c.verdict.ensures c.args.tree c.loop-entry.tree c.args.order.now
+    (all_replayed c.args.calls.now c.args.tree c.loop-entry.tree c.args.order.now c.loop-entry.entry-index c.loop-entry.placing c.loop-entry-test.false c.loop-entry.invariant) messages is)
+
+pub returns-clause-never_unknown : goal.returns-clause-never_unknown
+returns-clause-never_unknown c =
+    never_unknown c.args.calls.now c.args.tree c.args.order.now (Ok c.verdict.result) (λ messages is.
     c.verdict.ensures c.args.tree c.loop-entry.tree c.args.order.now
     (all_replayed c.args.calls.now c.args.tree c.loop-entry.tree c.args.order.now c.loop-entry.entry-index c.loop-entry.placing c.loop-entry-test.false c.loop-entry.invariant) messages is)
