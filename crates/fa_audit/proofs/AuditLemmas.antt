@@ -1,39 +1,26 @@
 -- The parts of the audit make its answer.
-use Rattle.std.proofs.Common.{◌≡◌, ℕ, ◌+◌, ◌^◌, ◌<◌, ◌≤◌, ◌⊎◌, List, length, Option, Some, None, Result, Ok, Err, refl, sym, ap, subst, ◌∙◌, inl, inr, arith}
-use Rattle.std.specs.Prelude.{IsErrAnd}
+use Rattle.std.proofs.Common.{◌≡◌, ℕ, ◌⊎◌, List, length, map, Option, Some, None, Result, Ok, Err, refl, sym, ap, subst, ◌∙◌, inl, inr}
+use Rattle.std.proofs.lemmas.List.{length-map}
 use Rattle.fa_capture.specs.declared.packet.Packet.{Packet}
 use Rattle.fa_capture.specs.declared.fault.CaptureFault.{CaptureFault}
 use Rattle.fa_capture.specs.Message.{Message, message, messages}
 use Rattle.fa_capture.specs.Reading.{IsReading}
-use Rattle.std.proofs.lemmas.List.{length-map, length-append}
-use Rattle.std.proofs.lemmas.Option.{slice_get_within}
-use Rattle.fa_audit.specs.declared.calls.Call.{Call}
+use Rattle.fa_ledger.specs.declared.calls.Calls.{Calls}
+use Rattle.fa_ledger.specs.Calls.{AreCalls, call_shown}
+use Rattle.fa_ledger.specs.Passing.{AreGood, IsGoodCapture, IsMessageFault, IsFirstFault}
+use Rattle.fa_tree.specs.State.{TreeState}
 use Rattle.fa_order.specs.declared.entry.Entry.{Entry}
-use Rattle.fa_order.specs.declared.error.TextError.{TextError}
-use Rattle.fa_order.specs.declared.error.TextError.TheVariants as text
-use Rattle.fa_audit.specs.declared.verdict.Verdict.{Verdict}
+use Rattle.fa_order.specs.Order.{IsOrderText}
+use Rattle.fa_check.specs.declared.verdict.Verdict.{Verdict}
+use Rattle.fa_check.specs.declared.verdict.Verdict.TheVariants.{Legal, Fault, NotShown}
+use Rattle.fa_check.specs.Verdicts.{AreMessagesOf, IsVerdict}
 use Rattle.fa_audit.specs.declared.verdict.AuditError.{AuditError}
-use Rattle.fa_audit.specs.declared.verdict.AuditError.TheVariants.{OrderText, Memory}
-use Rattle.fa_audit.specs.Faults.{EachPasses, IsGoodCapture, IsMessageFault, IsFirstFault}
-use Rattle.fa_order.specs.Lines.{end_line}
-use Rattle.fa_order.specs.Order.{IsOrderText, opening, first_line, entry_line}
-use Rattle.fa_order.specs.Faults.{IsOrderFaultTold}
-use Rattle.std.specs.List.{flat_map}
-use Rattle.fa_audit.specs.Tree.{empty_root}
-use Rattle.fa_audit.specs.Calls.{AreCalls}
-use Rattle.fa_audit.specs.Placed.{AreReplayed, IsExplained}
-use Rattle.fa_audit.specs.parts.Errors.{audit_error}
-use Rattle.fa_audit.specs.Verdict.{IsLegal, IsAnswer, Tells, Exactly, OneAnswer}
-use Rattle.fa_audit.proofs.OneAnswerLists.{rising_within}
-use Rattle.fa_order.proofs.CallerLemmas.{entries_fit}
+use Rattle.fa_audit.specs.declared.verdict.AuditError.TheVariants.{OrderText, TreeText, Memory}
+use Rattle.fa_audit.specs.Verdict.{IsGivenTree, IsAnswer, Exactly, OneAnswer}
+use Rattle.fa_audit.specs.parts.Answers.{Tells, IsOrderRefused}
 
-messages_length : (packets : List Packet) → length (messages packets) ≡ length packets
+pub messages_length : (packets : List Packet) → length (messages packets) ≡ length packets
 messages_length packets = length-map packets message
-
--- each of the packets passes
-all_pass : (packets given : List Packet) → given ≡ packets → EachPasses (messages given) (length given) → EachPasses (messages packets) (length (messages packets))
-all_pass packets given same passes =
-    subst (λ (n : ℕ). EachPasses (messages packets) n) (sym (messages_length packets)) (subst (λ (ps : List Packet). EachPasses (messages ps) (length ps)) same passes)
 
 -- the first message that does not pass
 pub message_fault : (bytes : List ℕ) (packets given : List Packet) (framing : Option CaptureFault) (at code : ℕ) → IsReading bytes (messages packets) framing → given ≡ packets → IsMessageFault (messages given) at code → IsFirstFault bytes at code
@@ -45,83 +32,41 @@ message_fault bytes packets given framing at code read same fault = record {
 }
 
 -- the framing fault after messages that pass
-pub framing_fault : (bytes : List ℕ) (packets given : List Packet) (framing : Option CaptureFault) (f : CaptureFault) → IsReading bytes (messages packets) framing → given ≡ packets → EachPasses (messages given) (length given)
+pub framing_fault : (bytes : List ℕ) (packets given : List Packet) (framing : Option CaptureFault) (f : CaptureFault) → IsReading bytes (messages packets) framing → given ≡ packets → AreGood (messages given)
     → framing ≡ Some f → IsFirstFault bytes f.whole f.code
-framing_fault bytes packets given framing f read same passes is = record {
+framing_fault bytes packets given framing f read same good is = record {
   messages = messages packets;
   framing = framing;
   read = read;
-  fault = inr (record { there = is; passes = all_pass packets given same passes });
+  fault = inr (record { there = is; passes = subst (λ (ps : List Packet). AreGood (messages ps)) same good });
 }
 
 -- a good capture
-pub good_capture : (bytes : List ℕ) (packets given : List Packet) (framing : Option CaptureFault) → IsReading bytes (messages packets) framing → given ≡ packets → EachPasses (messages given) (length given) → framing ≡ None
+pub good_capture : (bytes : List ℕ) (packets given : List Packet) (framing : Option CaptureFault) → IsReading bytes (messages packets) framing → given ≡ packets → AreGood (messages given) → framing ≡ None
     → IsGoodCapture bytes (messages packets)
-good_capture bytes packets given framing read same passes none = record {
+good_capture bytes packets given framing read same good none = record {
   read = subst (IsReading bytes (messages packets)) none read;
-  passes = all_pass packets given same passes;
-}
-
--- what the calls of a good capture are
-pub replayed : (packets given : List Packet) (calls : List Call) (unanswered : List ℕ) → given ≡ packets → EachPasses (messages given) (length given) → AreCalls (messages given) calls unanswered → AreReplayed (messages packets) calls unanswered
-replayed packets given calls unanswered same passes are = record {
-  all = subst (λ (ps : List Packet). AreCalls (messages ps) calls unanswered) same are;
-  passes = all_pass packets given same passes;
-}
-
--- a fault of the order text
-pub text_told : (bytes order : List ℕ) (c : List Message) (error : TextError) (result : Result Verdict AuditError) → IsGoodCapture bytes c → IsOrderFaultTold order error → IsErrAnd result (λ e. e ≡ audit_error error) → Tells bytes order result
-text_told bytes order c error (Ok verdict) good fault told = absurd told
-text_told bytes order c (text.Line line) (Err e) good fault told = subst (λ (x : AuditError). Tells bytes order (Err x)) (sym told) (record { c = c; good = good; text = fault })
-text_told bytes order c text.Memory (Err e) good fault told = subst (λ (x : AuditError). Tells bytes order (Err x)) (sym told) tt
-
--- an order text has fewer entries than a number of 32 bits counts
-pub few_entries : (order : List ℕ) (es : List Entry) → IsOrderText order es → length order ≤ 268435456 → length es < 2 ^ 32
-few_entries order es is limit =
-    let whole : length order ≡ length (opening es) + length end_line = ap length is.spelled ∙ length-append (opening es) end_line in
-    let front : length (opening es) ≡ length first_line + length (flat_map entry_line es) = length-append first_line (flat_map entry_line es) in
-    omega (arith, entries_fit es)
-
--- unanswered requests are messages, of which there are fewer than a number of 32 bits counts
-pub few_unanswered : (c : List Message) (calls : List Call) (unanswered : List ℕ) → AreCalls c calls unanswered → length c ≤ 16777216 → length unanswered < 2 ^ 32
-few_unanswered c calls unanswered are limit =
-    let within : length unanswered ≤ length c = rising_within unanswered (length c) are.rising
-    (λ p has. let asked = (are.left p has).0.1 in slice_get_within c p asked.0 asked.1) in
-    omega (arith, within, limit)
-
--- a legal order
-pub legal : (bytes order : List ℕ) (packets : List Packet) (es : List Entry) (messages_count placed left : ℕ) → IsGoodCapture bytes (messages packets) → IsOrderText order es → IsExplained (messages packets) es left
-    → messages_count ≡ length packets → placed ≡ length es → IsLegal bytes order messages_count placed left
-legal bytes order packets es messages_count placed left good is explained counted listed = record {
-  c = messages packets;
-  entries = es;
-  last = empty_root;
-  good = good;
-  text = is;
-  valid = explained.valid;
-  run = explained.run;
-  messages_are = counted ∙ sym (messages_length packets);
-  placed_are = listed;
-  left_are = explained.counted;
+  good = subst (λ (ps : List Packet). AreGood (messages ps)) same good;
 }
 
 -- ---- the answer is the only one
 
 -- what is told is the answer, or that memory was refused
-told_cases : (capture order : List ℕ) (result : Result Verdict AuditError) → Tells capture order result → (result ≡ Err Memory) ⊎ IsAnswer capture order result
-told_cases capture order (Ok verdict) tells = inr tells
-told_cases capture order (Err (OrderText line)) tells = inr tells
-told_cases capture order (Err Memory) tells = inl refl
+told_cases : (capture : List ℕ) (tree : Option (List ℕ)) (order : List ℕ) (result : Result Verdict AuditError) → Tells capture tree order result → (result ≡ Err Memory) ⊎ IsAnswer capture tree order result
+told_cases capture tree order (Ok verdict) tells = inr tells
+told_cases capture tree order (Err (TreeText line)) tells = inr tells
+told_cases capture tree order (Err (OrderText line)) tells = inr tells
+told_cases capture tree order (Err Memory) tells = inl refl
 
-pub exactly : OneAnswer → (capture order : List ℕ) (result answer : Result Verdict AuditError) → Tells capture order result → (answer ≡ Err Memory → ⊥) → Exactly result answer (IsAnswer capture order answer)
-exactly one capture order result answer tells apart = record {
-  only = λ same. elim (told_cases capture order result tells) [
+pub exactly : OneAnswer → (capture : List ℕ) (tree : Option (List ℕ)) (order : List ℕ) (result answer : Result Verdict AuditError) → Tells capture tree order result → (answer ≡ Err Memory → ⊥) → Exactly result answer (IsAnswer capture tree order answer)
+exactly one capture tree order result answer tells apart = record {
+  only = λ same. elim (told_cases capture tree order result tells) [
     | inl memory ↦ absurd (apart (sym same ∙ memory))
-    | inr is ↦ subst (IsAnswer capture order) same is
+    | inr is ↦ subst (IsAnswer capture tree order) same is
   ];
-  always = λ is. elim (told_cases capture order result tells) [
+  always = λ is. elim (told_cases capture tree order result tells) [
     | inl memory ↦ inr memory
-    | inr told ↦ inl (one capture order result answer told is)
+    | inr told ↦ inl (one capture tree order result answer told is)
   ];
 }
 
@@ -134,5 +79,35 @@ refused error = Err error
 pub verdict_apart : (verdict : Verdict) → given verdict ≡ refused Memory → ⊥
 verdict_apart verdict same = absurd cc
 
-pub line_apart : (line : ℕ) → refused (OrderText line) ≡ refused Memory → ⊥
-line_apart line same = absurd cc
+pub tree_line_apart : (line : ℕ) → refused (TreeText line) ≡ refused Memory → ⊥
+tree_line_apart line same = absurd cc
+
+pub order_line_apart : (line : ℕ) → refused (OrderText line) ≡ refused Memory → ⊥
+order_line_apart line same = absurd cc
+
+-- ---- the verdict on an order
+
+-- the calls of good messages
+pub messages_of : (packets given : List Packet) (calls : Calls) → given ≡ packets → AreGood (messages given) → calls.messages ≡ length given → AreCalls (messages given) (map call_shown calls.list.items)
+    → AreMessagesOf calls (messages packets)
+messages_of packets given calls same good counted are = record {
+  good = subst (λ (ps : List Packet). AreGood (messages ps)) same good;
+  counted = counted ∙ ap (λ (ps : List Packet). length ps) same ∙ sym (messages_length packets);
+  are = subst (λ (ps : List Packet). AreCalls (messages ps) (map call_shown calls.list.items)) same are;
+}
+
+-- what is answered of an order, as an answer of the audit
+pub verdict_told : (capture : List ℕ) (tree : Option (List ℕ)) (order : List ℕ) (c : List Message) (first : TreeState) (es : List Entry) (verdict : Verdict)
+    → IsGoodCapture capture c → IsGivenTree tree first → IsOrderText order es → IsVerdict c first es verdict → IsAnswer capture tree order (Ok verdict)
+verdict_told capture tree order c first es (Legal messages placed left) good given text is =
+    record { c = c; first = first; entries = es; good = good; given = given; text = text; legal = is }
+verdict_told capture tree order c first es (Fault at code) good given text is = absurd is
+verdict_told capture tree order c first es (NotShown entry at code) good given text is =
+    record { c = c; first = first; entries = es; good = good; given = given; text = text; fault = is }
+
+-- a fault of the order text
+pub order_told : (capture : List ℕ) (tree : Option (List ℕ)) (order : List ℕ) (c : List Message) (first : TreeState) (error : AuditError)
+    → IsGoodCapture capture c → IsGivenTree tree first → IsOrderRefused order error → Tells capture tree order (Err error)
+order_told capture tree order c first (OrderText line) good given fault = record { c = c; first = first; good = good; given = given; fault = fault }
+order_told capture tree order c first (TreeText line) good given fault = absurd fault
+order_told capture tree order c first Memory good given fault = tt

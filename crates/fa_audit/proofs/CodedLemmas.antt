@@ -1,5 +1,5 @@
 -- Each code that the audit tells has a text.
-use Rattle.std.proofs.Common.{◌≡◌, ℕ, List, [], ◌∷◌, ◌++◌, Option, Some, Result, Ok, Err, Bool, true, false, is_some, length, take, refl, sym, subst, inl, inr}
+use Rattle.std.proofs.Common.{◌≡◌, ℕ, List, [], ◌∷◌, ◌++◌, Option, None, Some, Result, Ok, Err, Bool, true, false, is_some, length, take, refl, sym, subst, inl, inr}
 use Rattle.std.specs.Prelude.{IfOk, IsSome}
 use Rattle.fa_capture.specs.declared.packet.Direction.{Direction}
 use Rattle.fa_capture.specs.declared.packet.Direction.TheVariants.{ToServer, FromServer}
@@ -10,17 +10,20 @@ use Rattle.fa_capture.specs.Reading.{HasMagic, IsReading, IsFault, record_checks
 use Rattle.fa_capture.specs.Framing.{capture_spelling}
 use Rattle.fa_capture.specs.declared.codes.TheConstants.{NO_MAGIC}
 use Rattle.fa_capture.specs.declared.fault.CaptureFault.{CaptureFault}
-use Rattle.fa_audit.specs.declared.verdict.Verdict.{Verdict}
-use Rattle.fa_audit.specs.declared.verdict.Verdict.TheVariants.{Legal, Fault, NotShown}
+use Rattle.fa_check.specs.declared.verdict.Verdict.{Verdict}
+use Rattle.fa_check.specs.declared.verdict.Verdict.TheVariants.{Legal, Fault, NotShown}
 use Rattle.fa_audit.specs.declared.verdict.AuditError.{AuditError}
 use Rattle.fa_session.specs.Allowed.{checks_by}
-use Rattle.fa_audit.specs.Operations.{operation_checks}
-use Rattle.fa_audit.specs.Nodes.{node_checks_by}
-use Rattle.fa_audit.specs.Faults.{message_checks, IsFirstFault}
-use Rattle.fa_audit.specs.Tree.{Tree, empty_root, step_checks}
-use Rattle.fa_audit.specs.Replay.{order_checks, EntryFails, IsOrderAtFault}
+use Rattle.fa_ledger.specs.Passing.{ledger_checks_by, message_checks, IsFirstFault}
+use Rattle.fa_ledger.specs.Calls.{PlainCall}
+use Rattle.fa_bodies.specs.Dirents.{PlainDirent}
+use Rattle.fa_tree.specs.State.{TreeState}
+use Rattle.fa_tree.specs.Resolved.{Resolved, resolved}
+use Rattle.fa_tree.specs.Steps.{step_checks, checks_of_files}
+use Rattle.fa_tree.specs.Outcomes.{count_written}
+use Rattle.fa_check.specs.Faults.{order_checks, EntryFails, IsOrderAtFault}
 use Rattle.fa_order.specs.declared.entry.Entry.{Entry}
-use Rattle.fa_audit.specs.Verdict.{Tells}
+use Rattle.fa_audit.specs.parts.Answers.{Tells}
 use Rattle.fa_audit.specs.Line.{IsCoded}
 
 -- the code of each check has a text
@@ -37,9 +40,9 @@ coded_failure (c ∷ checks) code coded fails =
     ]
 
 -- the checks of a message by its direction
-message_coded : (d : Direction) (before : List Message) (m : Message) → AllCoded (operation_checks m ++ checks_by d before m ++ node_checks_by d before m)
-message_coded ToServer before m = (refl, (refl, (refl, (refl, (refl, (refl, (refl, (refl, (refl, (refl, (refl, (refl, tt))))))))))))
-message_coded FromServer before m = (refl, (refl, (refl, (refl, (refl, (refl, (refl, (refl, (refl, (refl, (refl, (refl, (refl, (refl, tt))))))))))))))
+message_coded : (d : Direction) (before : List Message) (m : Message) → AllCoded (checks_by d before m ++ ledger_checks_by d before m)
+message_coded ToServer before m = (refl, (refl, (refl, (refl, (refl, (refl, (refl, (refl, (refl, (refl, (refl, (refl, (refl, tt)))))))))))))
+message_coded FromServer before m = (refl, (refl, (refl, (refl, (refl, (refl, (refl, (refl, (refl, (refl, (refl, (refl, (refl, tt)))))))))))))
 
 record_coded : (before offset : ℕ) (left : List ℕ) → AllCoded (record_checks before offset left)
 record_coded before offset left = (refl, (refl, (refl, (refl, (refl, (refl, tt))))))
@@ -66,22 +69,27 @@ fault_coded capture at code first =
       | inr framing ↦ framing_coded capture first.messages first.framing at code first.read framing.there
     ]
 
-entry_coded : (c : List Message) (tree : Tree) (earlier : List Entry) (e : Entry) (code : ℕ) → EntryFails c tree earlier e code → IsSome (text_of code)
-entry_coded c tree earlier e code fails =
+step_coded : (tree : TreeState) (call : PlainCall) (count : ℕ) (so_far : List PlainDirent) (files : Option Resolved) → AllCoded (checks_of_files tree call count so_far files)
+step_coded tree call count so_far None = (refl, tt)
+step_coded tree call count so_far (Some files) = (refl, (refl, (refl, (refl, (refl, (refl, (refl, tt)))))))
+
+entry_coded : (tree : TreeState) (c : List Message) (earlier : List Entry) (e : Entry) (code : ℕ) → EntryFails tree c earlier e code → IsSome (text_of code)
+entry_coded tree c earlier e code fails =
     elim fails [
       | inl here ↦ coded_failure (order_checks c earlier e) code (refl, (refl, (refl, (refl, tt)))) here
-      | inr step ↦ coded_failure (step_checks tree step.1 step.2) code (refl, (refl, (refl, tt))) step.4
+      | inr step ↦ coded_failure (step_checks tree step.1.call e.wrote step.1.so_far) code
+          (step_coded tree step.1.call (count_written step.1.call e.wrote) step.1.so_far (resolved tree step.1.call)) step.1.fails
     ]
 
-order_coded : (c : List Message) (first : Tree) (es : List Entry) (entry at code : ℕ) → IsOrderAtFault c first es entry at code → IsSome (text_of code)
+order_coded : (c : List Message) (first : TreeState) (es : List Entry) (entry at code : ℕ) → IsOrderAtFault c first es entry at code → IsSome (text_of code)
 order_coded c first es entry at code fault =
     elim fault [
-      | inl fails ↦ entry_coded c fails.tree fails.earlier fails.e code fails.fails
+      | inl fails ↦ entry_coded fails.tree c fails.earlier fails.e code fails.fails
       | inr leaves ↦ subst (λ (n : ℕ). IsSome (text_of n)) (sym leaves.told) refl
     ]
 
-pub told_coded : (capture order : List ℕ) (result : Result Verdict AuditError) → Tells capture order result → IfOk result IsCoded
-told_coded capture order (Ok (Legal messages placed left)) tells = tt
-told_coded capture order (Ok (Fault at code)) tells = fault_coded capture at code tells
-told_coded capture order (Ok (NotShown entry at code)) tells = order_coded tells.c empty_root tells.entries entry at code tells.fault
-told_coded capture order (Err error) tells = tt
+pub told_coded : (capture : List ℕ) (tree : Option (List ℕ)) (order : List ℕ) (result : Result Verdict AuditError) → Tells capture tree order result → IfOk result IsCoded
+told_coded capture tree order (Ok (Legal messages placed left)) tells = tt
+told_coded capture tree order (Ok (Fault at code)) tells = fault_coded capture at code tells
+told_coded capture tree order (Ok (NotShown entry at code)) tells = order_coded tells.c tells.first tells.entries entry at code tells.fault
+told_coded capture tree order (Err error) tells = tt

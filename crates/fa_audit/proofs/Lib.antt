@@ -1,13 +1,7 @@
-pub mod MessageLemmas
-pub mod CallsLemmas
-pub mod StepLemmas
-pub mod OneAnswerLists
-pub mod OneAnswerRuns
+pub mod ProtocolLemmas
 pub mod OneAnswer
-pub mod PlaceLemmas
-pub mod ReplayLemmas
 pub mod AuditLemmas
-pub mod RunLemmas
-pub mod AnswerLemmas
 pub mod CodedLemmas
 pub mod CommandLineLemmas
+pub mod AnswerLemmas
+pub mod RunLemmas

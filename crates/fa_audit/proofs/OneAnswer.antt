@@ -1,4 +1,4 @@
--- A capture and an order have one answer at most.
+-- A capture, a tree text or none and an order text have one answer at most.
 use Rattle.std.proofs.Common.{◌≡◌, ℕ, ◌<◌, ◌⊎◌, List, length, take, Option, Some, None, Result, Ok, Err, sym, ap, subst, ◌∙◌, inl, inr, arith}
 use Rattle.std.specs.Prelude.{slice_get}
 use Rattle.std.proofs.lemmas.Bool.{cases_lt}
@@ -7,22 +7,20 @@ use Rattle.fa_capture.specs.declared.fault.CaptureFault.{CaptureFault}
 use Rattle.fa_capture.specs.Checks.{FirstFailure}
 use Rattle.fa_capture.specs.Message.{Message}
 use Rattle.fa_capture.specs.Reading.{OneReading}
+use Rattle.fa_ledger.specs.Passing.{message_checks, EachPasses, IsGoodCapture, IsMessageFault, IsFramingFault, IsFirstFault}
+use Rattle.fa_tree.specs.State.{TreeState}
 use Rattle.fa_order.specs.declared.entry.Entry.{Entry}
-use Rattle.fa_audit.specs.declared.verdict.Verdict.{Verdict}
-use Rattle.fa_audit.specs.declared.verdict.Verdict.TheVariants.{Legal, Fault, NotShown}
+use Rattle.fa_order.specs.Order.{IsOrderText}
+use Rattle.fa_order.specs.TreeText.{IsTreeFault}
+use Rattle.fa_check.specs.declared.verdict.Verdict.{Verdict}
+use Rattle.fa_check.specs.declared.verdict.Verdict.TheVariants.{Legal, Fault, NotShown}
+use Rattle.fa_check.specs.Verdicts.{IsVerdict}
 use Rattle.fa_audit.specs.declared.verdict.AuditError.{AuditError}
-use Rattle.fa_audit.specs.declared.verdict.AuditError.TheVariants.{OrderText, Memory}
-use Rattle.fa_audit.specs.Faults.{message_checks, EachPasses, IsGoodCapture, IsMessageFault, IsFramingFault, IsFirstFault}
-use Rattle.fa_order.specs.Laws.{OneOrderText, OneOrderFault, OrderTextHasNoFault}
-use Rattle.fa_audit.specs.Tree.{empty_root}
-use Rattle.fa_audit.specs.Replay.{IsUnansweredUnplaced, Counts, IsOrderAtFault}
-use Rattle.fa_audit.specs.Verdict.{IsLegal, IsNotShown, OneAnswer}
+use Rattle.fa_audit.specs.declared.verdict.AuditError.TheVariants.{OrderText, TreeText, Memory}
+use Rattle.fa_audit.specs.Verdict.{IsGivenTree, IsLegal, IsNotShown, IsTreeTextAtFault, OneAnswer}
 use Rattle.fa_capture.proofs.CallerLemmas.{no_failure, one_failure, one_reading}
-use Rattle.fa_bodies.proofs.CallerLemmas.{request_is_one, reply_is_one}
-use Rattle.fa_session.proofs.CallerLemmas.{answered_once}
-use Rattle.fa_order.proofs.CallerLemmas.{one_order_text, one_order_fault, order_text_has_no_fault}
-use Rattle.fa_audit.proofs.OneAnswerLists.{rising_same}
-use Rattle.fa_audit.proofs.OneAnswerRuns.{RepliedOnce, replied_once, one_order_at_fault, valid_no_fault}
+use Rattle.fa_order.proofs.CallerLemmas.{one_order_text, one_order_fault, order_text_has_no_fault, one_tree_text, one_tree_fault, tree_text_has_no_fault}
+use Rattle.fa_check.proofs.CallerLemmas.{verdict_is_one}
 
 -- ---- captures
 
@@ -86,7 +84,7 @@ pub good_no_fault : OneReading → (capture : List ℕ) (c : List Message) (at c
 good_no_fault one capture c at code good f =
     let same : (f.messages ≡ c) × (f.framing ≡ None) = one capture f.messages c f.framing None f.read good.read in
     elim f.fault [
-      | inl message ↦ all_pass_no_fault c at code good.passes (subst (λ (x : List Message). IsMessageFault x at code) same.0 message)
+      | inl message ↦ all_pass_no_fault c at code good.good (subst (λ (x : List Message). IsMessageFault x at code) same.0 message)
       | inr framing ↦
           let here : f.framing ≡ Some (record { whole = at; code = code }) = framing.there in
           let none : f.framing ≡ None = same.1 in
@@ -97,56 +95,53 @@ good_no_fault one capture c at code good f =
 pub one_good_capture : OneReading → (capture : List ℕ) (c d : List Message) → IsGoodCapture capture c → IsGoodCapture capture d → c ≡ d
 one_good_capture one capture c d good too = (one capture c d None None good.read too.read).0
 
--- ---- orders
+-- ---- the given tree
 
--- such numbers are so many
-pub counts_once : (Such : ℕ → Type 0) (count many : ℕ) → Counts Such count → Counts Such many → count ≡ many
-counts_once Such count many a b =
-    sym a.number ∙ rising_same a.all b.all a.rising b.rising (λ z has. b.complete z (a.each z has)) (λ z has. a.complete z (b.each z has)) ∙ b.number
+-- one tree is given at most
+one_given : (tree : Option (List ℕ)) (first other : TreeState) → IsGivenTree tree first → IsGivenTree tree other → first ≡ other
+one_given None first other given too = given ∙ sym too
+one_given (Some text) first other given too = one_tree_text text first other given too
 
--- what an answer on an order says of the messages and the entries, at those of another
-order_fault_moved : (c d : List Message) (es fs : List Entry) (entry at code : ℕ) → c ≡ d → es ≡ fs → IsOrderAtFault c empty_root es entry at code → IsOrderAtFault d empty_root fs entry at code
-order_fault_moved c d es fs entry at code messages entries fault =
-    subst (λ (x : List Entry). IsOrderAtFault d empty_root x entry at code) entries (subst (λ (x : List Message). IsOrderAtFault x empty_root es entry at code) messages fault)
+-- a tree text that gives a tree has no fault
+given_no_fault : (tree : Option (List ℕ)) (first : TreeState) (capture : List ℕ) (line : ℕ) → IsGivenTree tree first → IsTreeTextAtFault capture tree line → ⊥
+given_no_fault None first capture line given f = (let handed_in : ◌≡◌ {A = Option (List ℕ)} None (Some f.text) = f.handed_in in absurd cc)
+given_no_fault (Some text) first capture line given f =
+    let same : text ≡ f.text = same_Some text f.text f.handed_in in
+    tree_text_has_no_fault text first line given (subst (λ (x : List ℕ). IsTreeFault x line) (sym same) f.fault)
 
--- an order that explains a capture does so with the same counts
-pub one_legal : OneReading → OneOrderText → (capture order : List ℕ) (messages placed left others entries rest : ℕ) → IsLegal capture order messages placed left → IsLegal capture order others entries rest
-    → (messages ≡ others) × (placed ≡ entries) × (left ≡ rest)
-one_legal one one_text capture order messages placed left others entries rest a b =
-    let same : a.c ≡ b.c = one_good_capture one capture a.c b.c a.good b.good in
-    let text : a.entries ≡ b.entries = one_text order a.entries b.entries a.text b.text in
-    let counts : Counts (IsUnansweredUnplaced b.c b.entries) left =
-    subst (λ (x : List Entry). Counts (IsUnansweredUnplaced b.c x) left) text (subst (λ (x : List Message). Counts (IsUnansweredUnplaced x a.entries) left) same a.left_are) in (
-      a.messages_are ∙ ap length same ∙ sym b.messages_are,
-      a.placed_are ∙ ap length text ∙ sym b.placed_are,
-      counts_once (IsUnansweredUnplaced b.c b.entries) left rest counts b.left_are,
-    )
+-- ---- verdicts on orders
 
--- it has no fault
-pub legal_no_fault : OneReading → RepliedOnce → OneOrderText → (capture order : List ℕ) (messages placed left entry at code : ℕ) → IsLegal capture order messages placed left → IsNotShown capture order entry at code → ⊥
-legal_no_fault one once one_text capture order messages placed left entry at code a b =
-    let same : b.c ≡ a.c = one_good_capture one capture b.c a.c b.good a.good in
-    let text : b.entries ≡ a.entries = one_text order b.entries a.entries b.text a.text in
-    valid_no_fault once a.c empty_root a.last a.entries entry at code a.valid a.run (order_fault_moved b.c a.c b.entries a.entries entry at code same text b.fault)
+-- The capture is good, the texts are in their grammar, and this is the verdict on the order.
+record IsJudged (capture : List ℕ) (tree : Option (List ℕ)) (order : List ℕ) (verdict : Verdict) : Type 0 where
+  pub c : List Message
+  pub first : TreeState
+  pub entries : List Entry
+  pub good : IsGoodCapture capture c
+  pub given : IsGivenTree tree first
+  pub text : IsOrderText order entries
+  pub told : IsVerdict c first entries verdict
 
--- an order that does not explain a capture has one first fault
-pub one_not_shown : OneReading → RepliedOnce → OneOrderText → (capture order : List ℕ) (entry at code other place told : ℕ) → IsNotShown capture order entry at code → IsNotShown capture order other place told
-    → (entry ≡ other) × (at ≡ place) × (code ≡ told)
-one_not_shown one once one_text capture order entry at code other place told a b =
-    let same : a.c ≡ b.c = one_good_capture one capture a.c b.c a.good b.good in
-    let text : a.entries ≡ b.entries = one_text order a.entries b.entries a.text b.text in
-    one_order_at_fault once b.c empty_root b.entries entry at code other place told (order_fault_moved a.c b.c a.entries b.entries entry at code same text a.fault) b.fault
+judged_legal : (capture : List ℕ) (tree : Option (List ℕ)) (order : List ℕ) (messages placed left : ℕ) → IsLegal capture tree order messages placed left → IsJudged capture tree order (Legal messages placed left)
+judged_legal capture tree order messages placed left a =
+    record { c = a.c; first = a.first; entries = a.entries; good = a.good; given = a.given; text = a.text; told = a.legal }
+
+judged_not_shown : (capture : List ℕ) (tree : Option (List ℕ)) (order : List ℕ) (entry at code : ℕ) → IsNotShown capture tree order entry at code → IsJudged capture tree order (NotShown entry at code)
+judged_not_shown capture tree order entry at code a =
+    record { c = a.c; first = a.first; entries = a.entries; good = a.good; given = a.given; text = a.text; told = a.fault }
+
+-- an order has one verdict at most
+one_judged : (capture : List ℕ) (tree : Option (List ℕ)) (order : List ℕ) (a b : Verdict) → IsJudged capture tree order a → IsJudged capture tree order b → a ≡ b
+one_judged capture tree order a b x y =
+    let messages : x.c ≡ y.c = one_good_capture one_reading capture x.c y.c x.good y.good in
+    let first : x.first ≡ y.first = one_given tree x.first y.first x.given y.given in
+    let entries : x.entries ≡ y.entries = one_order_text order x.entries y.entries x.text y.text in
+    let moved : IsVerdict y.c y.first y.entries a =
+    subst (λ (es : List Entry). IsVerdict y.c y.first es a) entries
+    (subst (λ (t : TreeState). IsVerdict y.c t x.entries a) first
+    (subst (λ (c : List Message). IsVerdict c x.first x.entries a) messages x.told)) in
+    verdict_is_one y.c y.first y.entries a b moved y.told
 
 -- ---- answers
-
--- the answer with the same numbers
-legal_same : (messages placed left others entries rest : ℕ) → (messages ≡ others) × (placed ≡ entries) × (left ≡ rest)
-    → ◌≡◌ {A = Result Verdict AuditError} (Ok (Legal messages placed left)) (Ok (Legal others entries rest))
-legal_same messages placed left others entries rest same =
-    let first : messages ≡ others = same.0 in
-    let second : placed ≡ entries = same.1 in
-    let third : left ≡ rest = same.2 in
-    cc
 
 -- the same fault of the capture
 fault_same : (at code place told : ℕ) → (at ≡ place) × (code ≡ told) → ◌≡◌ {A = Result Verdict AuditError} (Ok (Fault at code)) (Ok (Fault place told))
@@ -155,51 +150,65 @@ fault_same at code place told same =
     let second : code ≡ told = same.1 in
     cc
 
--- the same fault of the order
-not_shown_same : (entry at code other place told : ℕ) → (entry ≡ other) × (at ≡ place) × (code ≡ told)
-    → ◌≡◌ {A = Result Verdict AuditError} (Ok (NotShown entry at code)) (Ok (NotShown other place told))
-not_shown_same entry at code other place told same =
-    let first : entry ≡ other = same.0 in
-    let second : at ≡ place = same.1 in
-    let third : code ≡ told = same.2 in
-    cc
+-- the same verdict
+verdict_same : (a b : Verdict) → a ≡ b → ◌≡◌ {A = Result Verdict AuditError} (Ok a) (Ok b)
+verdict_same a b same = ap (λ (v : Verdict). Ok v) same
 
--- A capture and an order have one answer at most. It takes the laws that bytes have one reading as a capture and as an order text, and that an answered request has one reply.
-one_answer_lem : OneReading → RepliedOnce → OneOrderText → OneOrderFault → OrderTextHasNoFault → OneAnswer
-one_answer_lem one once one_text one_fault or_fault capture order (Ok (Legal messages placed left)) (Ok (Legal others entries rest)) a b =
-    legal_same messages placed left others entries rest (one_legal one one_text capture order messages placed left others entries rest a b)
-one_answer_lem one once one_text one_fault or_fault capture order (Ok (Legal messages placed left)) (Ok (Fault at code)) a b =
-    absurd (good_no_fault one capture a.c at code a.good b)
-one_answer_lem one once one_text one_fault or_fault capture order (Ok (Legal messages placed left)) (Ok (NotShown entry at code)) a b =
-    absurd (legal_no_fault one once one_text capture order messages placed left entry at code a b)
-one_answer_lem one once one_text one_fault or_fault capture order (Ok (Legal messages placed left)) (Err (OrderText line)) a b =
-    absurd (or_fault order a.entries line a.text b.text)
-one_answer_lem one once one_text one_fault or_fault capture order (Ok (Fault at code)) (Ok (Legal messages placed left)) a b =
-    absurd (good_no_fault one capture b.c at code b.good a)
-one_answer_lem one once one_text one_fault or_fault capture order (Ok (Fault at code)) (Ok (Fault place told)) a b =
-    fault_same at code place told (one_first_fault one capture at code place told a b)
-one_answer_lem one once one_text one_fault or_fault capture order (Ok (Fault at code)) (Ok (NotShown entry place told)) a b =
-    absurd (good_no_fault one capture b.c at code b.good a)
-one_answer_lem one once one_text one_fault or_fault capture order (Ok (Fault at code)) (Err (OrderText line)) a b =
-    absurd (good_no_fault one capture b.c at code b.good a)
-one_answer_lem one once one_text one_fault or_fault capture order (Ok (NotShown entry at code)) (Ok (Legal messages placed left)) a b =
-    absurd (legal_no_fault one once one_text capture order messages placed left entry at code b a)
-one_answer_lem one once one_text one_fault or_fault capture order (Ok (NotShown entry at code)) (Ok (Fault place told)) a b =
-    absurd (good_no_fault one capture a.c place told a.good b)
-one_answer_lem one once one_text one_fault or_fault capture order (Ok (NotShown entry at code)) (Ok (NotShown other place told)) a b =
-    not_shown_same entry at code other place told (one_not_shown one once one_text capture order entry at code other place told a b)
-one_answer_lem one once one_text one_fault or_fault capture order (Ok (NotShown entry at code)) (Err (OrderText line)) a b =
-    absurd (or_fault order a.entries line a.text b.text)
-one_answer_lem one once one_text one_fault or_fault capture order (Err (OrderText line)) (Ok (Legal messages placed left)) a b =
-    absurd (or_fault order b.entries line b.text a.text)
-one_answer_lem one once one_text one_fault or_fault capture order (Err (OrderText line)) (Ok (Fault at code)) a b =
-    absurd (good_no_fault one capture a.c at code a.good b)
-one_answer_lem one once one_text one_fault or_fault capture order (Err (OrderText line)) (Ok (NotShown entry at code)) a b =
-    absurd (or_fault order b.entries line b.text a.text)
-one_answer_lem one once one_text one_fault or_fault capture order (Err (OrderText line)) (Err (OrderText other)) a b =
-    ap (λ (n : ℕ). Err (OrderText n)) (one_fault order line other a.text b.text)
-one_answer_lem one once one_text one_fault or_fault capture order (Err Memory) b a _ = absurd a
-one_answer_lem one once one_text one_fault or_fault capture order a (Err Memory) _ b = absurd b
+tree_fault_same : (capture : List ℕ) (tree : Option (List ℕ)) (line other : ℕ) → IsTreeTextAtFault capture tree line → IsTreeTextAtFault capture tree other → line ≡ other
+tree_fault_same capture tree line other a b =
+    let same : a.text ≡ b.text = same_Some a.text b.text (sym a.handed_in ∙ b.handed_in) in
+    one_tree_fault b.text line other (subst (λ (x : List ℕ). IsTreeFault x line) same a.fault) b.fault
 
 pub one_answer : OneAnswer
-one_answer = one_answer_lem one_reading (replied_once request_is_one reply_is_one answered_once) one_order_text one_order_fault order_text_has_no_fault
+one_answer capture tree order (Ok (Legal messages placed left)) (Ok (Legal others entries rest)) a b =
+    verdict_same (Legal messages placed left) (Legal others entries rest) (one_judged capture tree order (Legal messages placed left) (Legal others entries rest) (judged_legal capture tree order messages placed left a) (judged_legal capture tree order others entries rest b))
+one_answer capture tree order (Ok (Legal messages placed left)) (Ok (Fault place told)) a b =
+    absurd (good_no_fault one_reading capture a.c place told a.good b)
+one_answer capture tree order (Ok (Legal messages placed left)) (Ok (NotShown nth place told)) a b =
+    verdict_same (Legal messages placed left) (NotShown nth place told) (one_judged capture tree order (Legal messages placed left) (NotShown nth place told) (judged_legal capture tree order messages placed left a) (judged_not_shown capture tree order nth place told b))
+one_answer capture tree order (Ok (Legal messages placed left)) (Err (TreeText other)) a b =
+    absurd (given_no_fault tree a.first capture other a.given b)
+one_answer capture tree order (Ok (Legal messages placed left)) (Err (OrderText other)) a b =
+    absurd (order_text_has_no_fault order a.entries other a.text b.fault)
+one_answer capture tree order (Ok (Fault at code)) (Ok (Legal others entries rest)) a b =
+    absurd (good_no_fault one_reading capture b.c at code b.good a)
+one_answer capture tree order (Ok (Fault at code)) (Ok (Fault place told)) a b =
+    fault_same at code place told (one_first_fault one_reading capture at code place told a b)
+one_answer capture tree order (Ok (Fault at code)) (Ok (NotShown nth place told)) a b =
+    absurd (good_no_fault one_reading capture b.c at code b.good a)
+one_answer capture tree order (Ok (Fault at code)) (Err (TreeText other)) a b =
+    absurd (good_no_fault one_reading capture b.c at code b.good a)
+one_answer capture tree order (Ok (Fault at code)) (Err (OrderText other)) a b =
+    absurd (good_no_fault one_reading capture b.c at code b.good a)
+one_answer capture tree order (Ok (NotShown entry at code)) (Ok (Legal others entries rest)) a b =
+    verdict_same (NotShown entry at code) (Legal others entries rest) (one_judged capture tree order (NotShown entry at code) (Legal others entries rest) (judged_not_shown capture tree order entry at code a) (judged_legal capture tree order others entries rest b))
+one_answer capture tree order (Ok (NotShown entry at code)) (Ok (Fault place told)) a b =
+    absurd (good_no_fault one_reading capture a.c place told a.good b)
+one_answer capture tree order (Ok (NotShown entry at code)) (Ok (NotShown nth place told)) a b =
+    verdict_same (NotShown entry at code) (NotShown nth place told) (one_judged capture tree order (NotShown entry at code) (NotShown nth place told) (judged_not_shown capture tree order entry at code a) (judged_not_shown capture tree order nth place told b))
+one_answer capture tree order (Ok (NotShown entry at code)) (Err (TreeText other)) a b =
+    absurd (given_no_fault tree a.first capture other a.given b)
+one_answer capture tree order (Ok (NotShown entry at code)) (Err (OrderText other)) a b =
+    absurd (order_text_has_no_fault order a.entries other a.text b.fault)
+one_answer capture tree order (Err (TreeText line)) (Ok (Legal others entries rest)) a b =
+    absurd (given_no_fault tree b.first capture line b.given a)
+one_answer capture tree order (Err (TreeText line)) (Ok (Fault place told)) a b =
+    absurd (good_no_fault one_reading capture a.c place told a.good b)
+one_answer capture tree order (Err (TreeText line)) (Ok (NotShown nth place told)) a b =
+    absurd (given_no_fault tree b.first capture line b.given a)
+one_answer capture tree order (Err (TreeText line)) (Err (TreeText other)) a b =
+    ap (λ (n : ℕ). Err (TreeText n)) (tree_fault_same capture tree line other a b)
+one_answer capture tree order (Err (TreeText line)) (Err (OrderText other)) a b =
+    absurd (given_no_fault tree b.first capture line b.given a)
+one_answer capture tree order (Err (OrderText line)) (Ok (Legal others entries rest)) a b =
+    absurd (order_text_has_no_fault order b.entries line b.text a.fault)
+one_answer capture tree order (Err (OrderText line)) (Ok (Fault place told)) a b =
+    absurd (good_no_fault one_reading capture a.c place told a.good b)
+one_answer capture tree order (Err (OrderText line)) (Ok (NotShown nth place told)) a b =
+    absurd (order_text_has_no_fault order b.entries line b.text a.fault)
+one_answer capture tree order (Err (OrderText line)) (Err (TreeText other)) a b =
+    absurd (given_no_fault tree a.first capture other a.given b)
+one_answer capture tree order (Err (OrderText line)) (Err (OrderText other)) a b =
+    ap (λ (n : ℕ). Err (OrderText n)) (one_order_fault order line other a.fault b.fault)
+one_answer capture tree order (Err Memory) b a _ = absurd a
+one_answer capture tree order a (Err Memory) _ b = absurd b

@@ -1,11 +1,11 @@
 -- The line that tells an answer, and the status with which the program ends.
 use Rattle.std.specs.Prelude.{ℕ, List, [], ◌++◌, IsSome, unwrap_or, codes, decimal, Result, Ok, Err}
-use Rattle.fa_capture.specs.declared.codes.TheConstants.{NOT_AN_ORDER_TEXT}
+use Rattle.fa_capture.specs.declared.codes.TheConstants.{NOT_AN_ORDER_TEXT, NOT_A_TREE_TEXT}
 use Rattle.fa_capture.specs.Codes.{text_of}
-use Rattle.fa_audit.specs.declared.verdict.Verdict.{Verdict}
-use Rattle.fa_audit.specs.declared.verdict.Verdict.TheVariants.{Legal, Fault, NotShown}
+use Rattle.fa_check.specs.declared.verdict.Verdict.{Verdict}
+use Rattle.fa_check.specs.declared.verdict.Verdict.TheVariants.{Legal, Fault, NotShown}
 use Rattle.fa_audit.specs.declared.verdict.AuditError.{AuditError}
-use Rattle.fa_audit.specs.declared.verdict.AuditError.TheVariants.{OrderText, Memory}
+use Rattle.fa_audit.specs.declared.verdict.AuditError.TheVariants.{OrderText, TreeText, Memory}
 use Rattle.fa_audit.specs.declared.status.Status.TheVariants as status
 use Rattle.fa_audit.specs.Status.{status_number}
 
@@ -38,9 +38,14 @@ verdict_line (NotShown entry at code) = codes "not shown: entry " ++ (decimal en
 abbrev pub order_line : ℕ → List ℕ
 order_line line = codes "order: line " ++ (decimal line ++ code_part NOT_AN_ORDER_TEXT)
 
+-- the line of a tree text that is not in its grammar, by its first line that does not fit
+abbrev pub tree_line : ℕ → List ℕ
+tree_line line = codes "tree: line " ++ (decimal line ++ code_part NOT_A_TREE_TEXT)
+
 -- The line of each answer; that memory was refused is no answer.
 abbrev pub answer_line : Result Verdict AuditError → List ℕ
 answer_line (Ok verdict) = verdict_line verdict
+answer_line (Err (TreeText line)) = tree_line line
 answer_line (Err (OrderText line)) = order_line line
 answer_line (Err Memory) = []
 
@@ -49,5 +54,6 @@ abbrev pub answer_status : Result Verdict AuditError → ℕ
 answer_status (Ok (Legal messages placed left)) = status_number status.Legal
 answer_status (Ok (Fault at code)) = status_number status.Fault
 answer_status (Ok (NotShown entry at code)) = status_number status.NotShown
+answer_status (Err (TreeText line)) = status_number status.Text
 answer_status (Err (OrderText line)) = status_number status.Text
 answer_status (Err Memory) = status_number status.Failed

@@ -1,9 +1,11 @@
 -- What a run of the audit reads and writes.
-use Rattle.std.specs.Prelude.{◌≡◌, ℕ, ◌<◌, ◌≤◌, ◌⊎◌, Bool, true, List, [], ◌∷◌, ◌++◌, length, Option, IfSome, Result}
+use Rattle.std.specs.Prelude.{◌≡◌, ℕ, ◌<◌, ◌≤◌, ◌⊎◌, Bool, true, List, [], ◌∷◌, ◌++◌, length, Option, None, Some, IfSome, Result}
+use Rattle.std.proofs.Common.{inl, inr}
+use Rattle.std.specs.Borrow.{MutBor}
 use Rattle.std.specs.Io.KnownBytes.{Appends}
 use Rattle.fa_capture.specs.declared.input.ReadError.{ReadError}
 use Rattle.fa_capture.specs.declared.input.ReadError.TheVariants.{Failed, TooLong, Turns, Memory}
-use Rattle.fa_audit.specs.declared.verdict.Verdict.{Verdict}
+use Rattle.fa_check.specs.declared.verdict.Verdict.{Verdict}
 use Rattle.fa_audit.specs.declared.verdict.AuditError.{AuditError}
 use Rattle.fa_audit.specs.declared.run.RunFault.{RunFault}
 use Rattle.fa_audit.specs.declared.run.RunFault.TheVariants as faults
@@ -20,17 +22,42 @@ pub record IsTold (answer : Result Verdict AuditError) (old new : Option (List �
   pub written : Appends old new (answer_line answer ++ line_feed)
   pub ended : status ≡ answer_status answer
 
--- These bytes of the inputs were read, all that are left where an input tells that; the audit answers this of them,
--- and the answer was told.
-pub record IsAudited (capture order old new : Option (List ℕ)) (status : ℕ) : Type 0 where
+-- If an input is handed in, this holds of it as the call begins and as the call leaves it.
+abbrev pub IfHandedIn : {R : Type 0} → Option (MutBor R) → Unit {0} ⊎ ((MutBor R × Unit {0}) ⊎ ⊥) → (R → R → Type 0) → Type 0
+IfHandedIn None left Such = Unit {0}
+IfHandedIn (Some input) (inr (inl left)) Such = Such input.now left.0.now
+IfHandedIn (Some input) other Such = ⊥
+
+-- An input is handed in, and this holds of it as the call begins and as the call leaves it.
+abbrev pub IsHandedIn : {R : Type 0} → Option (MutBor R) → Unit {0} ⊎ ((MutBor R × Unit {0}) ⊎ ⊥) → (R → R → Type 0) → Type 0
+IsHandedIn None left Such = ⊥
+IsHandedIn (Some input) (inr (inl left)) Such = Such input.now left.0.now
+IsHandedIn (Some input) other Such = ⊥
+
+-- These are the bytes of an input, at most so many as an input may have: all that are left, where it tells that.
+pub record IsRead (remaining : Option (List ℕ)) (bytes : List ℕ) : Type 0 where
+  pub whole : IfSome remaining (λ left. bytes ≡ left)
+  pub within : length bytes ≤ MAX_INPUT_BYTES
+
+-- Some bytes were read, those of an input.
+abbrev pub IsSomeRead : (remaining : Option (List ℕ)) → (read : Option (List ℕ)) → Type 0
+IsSomeRead remaining read = (bytes : List ℕ) × (read ≡ Some bytes) × IsRead remaining bytes
+
+-- What was read of an input that may be handed in, which tells this of what is left: nothing where it is not.
+abbrev pub IsReadIfAny : {R : Type 0} → (R → Option (List ℕ)) → Option (MutBor R) → (read : Option (List ℕ)) → Type 0
+IsReadIfAny remaining None read = read ≡ None
+IsReadIfAny remaining (Some input) read = IsSomeRead (remaining input.now) read
+
+-- These bytes of the inputs were read, of the tree's as is said of it; the audit answers this of them, and the answer was told.
+pub record IsAudited (capture : Option (List ℕ)) (Tree : Option (List ℕ) → Type 0) (order old new : Option (List ℕ)) (status : ℕ) : Type 0 where
   pub capture_bytes : List ℕ
+  pub tree_bytes : Option (List ℕ)
   pub order_bytes : List ℕ
   pub answer : Result Verdict AuditError
-  pub capture_read : IfSome capture (λ bytes. capture_bytes ≡ bytes)
-  pub order_read : IfSome order (λ bytes. order_bytes ≡ bytes)
-  pub capture_within : length capture_bytes ≤ MAX_INPUT_BYTES
-  pub order_within : length order_bytes ≤ MAX_INPUT_BYTES
-  pub is_answer : IsAnswer capture_bytes order_bytes answer
+  pub capture_read : IsRead capture capture_bytes
+  pub tree_read : Tree tree_bytes
+  pub order_read : IsRead order order_bytes
+  pub is_answer : IsAnswer capture_bytes tree_bytes order_bytes answer
   pub told : IsTold answer old new status
 
 -- The input failed or was interrupted, or has more bytes than an input may have, where it tells its bytes.

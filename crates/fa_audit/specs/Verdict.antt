@@ -1,58 +1,75 @@
--- The answers of the audit, each by what it says of the capture and the order.
-use Rattle.std.specs.Prelude.{◌≡◌, ℕ, ◌⊎◌, List, length, Result, Ok, Err}
+-- The answers of the audit, each by what it says of the capture, of the tree text if one is handed in, and of the order text. It
+-- is the page to read first: each of its words stands one step away.
+use Rattle.std.specs.Prelude.{◌≡◌, ℕ, ◌⊎◌, List, Option, None, Some, Result, Ok, Err}
 use Rattle.fa_capture.specs.Message.{Message}
+use Rattle.fa_ledger.specs.Passing.{IsGoodCapture, IsFirstFault}
+use Rattle.fa_tree.specs.State.{TreeState}
+use Rattle.fa_tree.specs.Building.{empty_tree}
 use Rattle.fa_order.specs.declared.entry.Entry.{Entry}
-use Rattle.fa_audit.specs.declared.verdict.Verdict.{Verdict}
-use Rattle.fa_audit.specs.declared.verdict.Verdict.TheVariants.{Legal, Fault, NotShown}
-use Rattle.fa_audit.specs.declared.verdict.AuditError.{AuditError}
-use Rattle.fa_audit.specs.declared.verdict.AuditError.TheVariants.{OrderText, Memory}
-use Rattle.fa_audit.specs.Faults.{IsGoodCapture, IsFirstFault}
 use Rattle.fa_order.specs.Order.{IsOrderText, IsOrderFault}
-use Rattle.fa_audit.specs.Tree.{Tree, empty_root}
-use Rattle.fa_audit.specs.Replay.{IsValidOrder, Run, IsUnansweredUnplaced, Counts, IsOrderAtFault}
+use Rattle.fa_order.specs.TreeText.{IsTreeText, IsTreeFault}
+use Rattle.fa_check.specs.declared.verdict.Verdict.{Verdict}
+use Rattle.fa_check.specs.declared.verdict.Verdict.TheVariants.{Legal, Fault, NotShown}
+use Rattle.fa_check.specs.Faults.{IsOrderAtFault}
+use Rattle.fa_check.specs.Verdicts.{IsLegalWith}
+use Rattle.fa_audit.specs.declared.judge.TheConstants.{ROOT_BITS}
+use Rattle.fa_audit.specs.declared.verdict.AuditError.{AuditError}
+use Rattle.fa_audit.specs.declared.verdict.AuditError.TheVariants.{OrderText, TreeText, Memory}
 
--- The capture is good, the order text is in its grammar, and its entries are a valid order and a run from an empty
--- root; with the numbers of the messages, of the entries and of the unanswered tree requests that are in no entry.
-pub record IsLegal (capture order : List ℕ) (messages placed left : ℕ) : Type 0 where
-  pub c : List Message
-  pub entries : List Entry
-  pub last : Tree
-  pub good : IsGoodCapture capture c
-  pub text : IsOrderText order entries
-  pub valid : IsValidOrder c entries
-  pub run : Run c empty_root entries last
-  pub messages_are : messages ≡ length c
-  pub placed_are : placed ≡ length entries
-  pub left_are : Counts (IsUnansweredUnplaced c entries) left
+-- The tree that the server began with: that of the tree text where one is handed in; else an empty root with the permission bits
+-- 755 (octal).
+abbrev pub IsGivenTree : (tree : Option (List ℕ)) → TreeState → Type 0
+IsGivenTree None first = first ≡ empty_tree ROOT_BITS
+IsGivenTree (Some text) first = IsTreeText text first
 
--- the capture is good, and the order text is at fault in this line
-pub record IsTextAtFault (capture order : List ℕ) (line : ℕ) : Type 0 where
+-- The capture is good (every message is in the grammar, each reply answers one outstanding request, no node that was forgotten and
+-- no file handle that was closed is used), and the order, with all answered tree requests and some of the others, each placed after
+-- those that were answered before it was sent, is a run of the tree machine from the given tree which gives every recorded reply.
+-- With the numbers of the messages, of the entries, and of the unanswered tree requests that are in no entry.
+pub record IsLegal (capture : List ℕ) (tree : Option (List ℕ)) (order : List ℕ) (messages placed left : ℕ) : Type 0 where
   pub c : List Message
-  pub good : IsGoodCapture capture c
-  pub text : IsOrderFault order line
-
--- the capture is good, the order text is in its grammar, and this is the first entry at fault, or the number of the
--- entries and the least answered request that they leave out
-pub record IsNotShown (capture order : List ℕ) (entry at code : ℕ) : Type 0 where
-  pub c : List Message
+  pub first : TreeState
   pub entries : List Entry
   pub good : IsGoodCapture capture c
+  pub given : IsGivenTree tree first
   pub text : IsOrderText order entries
-  pub fault : IsOrderAtFault c empty_root entries entry at code
+  pub legal : IsLegalWith c first entries messages placed left
 
--- what each answer says of the capture and the order; that memory was refused is no answer
-abbrev pub IsAnswer : List ℕ → List ℕ → Result Verdict AuditError → Type 0
-IsAnswer capture order (Ok (Legal messages placed left)) = IsLegal capture order messages placed left
-IsAnswer capture order (Ok (Fault at code)) = IsFirstFault capture at code
-IsAnswer capture order (Ok (NotShown entry at code)) = IsNotShown capture order entry at code
-IsAnswer capture order (Err (OrderText line)) = IsTextAtFault capture order line
-IsAnswer capture order (Err Memory) = ⊥
+-- the capture is good, and the tree text that is handed in is at fault in this line
+pub record IsTreeTextAtFault (capture : List ℕ) (tree : Option (List ℕ)) (line : ℕ) : Type 0 where
+  pub c : List Message
+  pub text : List ℕ
+  pub good : IsGoodCapture capture c
+  pub handed_in : tree ≡ Some text
+  pub fault : IsTreeFault text line
 
--- the answer of a call that may be refused memory
-abbrev pub Tells : List ℕ → List ℕ → Result Verdict AuditError → Type 0
-Tells capture order (Ok verdict) = IsAnswer capture order (Ok verdict)
-Tells capture order (Err (OrderText line)) = IsTextAtFault capture order line
-Tells capture order (Err Memory) = Unit {0}
+-- the capture is good, a tree text that is handed in is in its grammar, and the order text is at fault in this line
+pub record IsOrderTextAtFault (capture : List ℕ) (tree : Option (List ℕ)) (order : List ℕ) (line : ℕ) : Type 0 where
+  pub c : List Message
+  pub first : TreeState
+  pub good : IsGoodCapture capture c
+  pub given : IsGivenTree tree first
+  pub fault : IsOrderFault order line
+
+-- The capture is good, the texts are in their grammar, and this is the first entry at fault; or the number of the entries and the
+-- least answered request that they leave out.
+pub record IsNotShown (capture : List ℕ) (tree : Option (List ℕ)) (order : List ℕ) (entry at code : ℕ) : Type 0 where
+  pub c : List Message
+  pub first : TreeState
+  pub entries : List Entry
+  pub good : IsGoodCapture capture c
+  pub given : IsGivenTree tree first
+  pub text : IsOrderText order entries
+  pub fault : IsOrderAtFault c first entries entry at code
+
+-- what each answer says; that memory was refused is no answer
+abbrev pub IsAnswer : (capture : List ℕ) → (tree : Option (List ℕ)) → (order : List ℕ) → Result Verdict AuditError → Type 0
+IsAnswer capture tree order (Ok (Legal messages placed left)) = IsLegal capture tree order messages placed left
+IsAnswer capture tree order (Ok (Fault at code)) = IsFirstFault capture at code
+IsAnswer capture tree order (Ok (NotShown entry at code)) = IsNotShown capture tree order entry at code
+IsAnswer capture tree order (Err (TreeText line)) = IsTreeTextAtFault capture tree line
+IsAnswer capture tree order (Err (OrderText line)) = IsOrderTextAtFault capture tree order line
+IsAnswer capture tree order (Err Memory) = ⊥
 
 -- The call answers this exactly where the fact holds, unless memory was refused. That memory is not refused where
 -- there is some, no clause can say.
@@ -60,6 +77,8 @@ pub record Exactly (result : Result Verdict AuditError) (answer : Result Verdict
   pub only : result ≡ answer → Fact
   pub always : Fact → (result ≡ answer) ⊎ (result ≡ Err Memory)
 
--- a capture and an order have one answer at most
+-- a capture, a tree text or none and an order text have one answer at most
 abbrev pub OneAnswer : Type 0
-OneAnswer = (capture order : List ℕ) (a b : Result Verdict AuditError) → IsAnswer capture order a → IsAnswer capture order b → a ≡ b
+OneAnswer =
+    (capture : List ℕ) (tree : Option (List ℕ)) (order : List ℕ) (a b : Result Verdict AuditError)
+    → IsAnswer capture tree order a → IsAnswer capture tree order b → a ≡ b

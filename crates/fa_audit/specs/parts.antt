@@ -1,7 +1,9 @@
 -- The vocabulary of the crate's private contracts.
 
--- what the fault of an order text is among the errors of the audit
-pub mod Errors
+-- messages that keep the protocol
+pub mod Protocol
+-- answers of calls that may be refused memory
+pub mod Answers
 -- how a program ends that has no answer
 pub mod Failure
 -- what a parsed command line says

@@ -1,83 +1,124 @@
-//! The audit: what a capture and an order are.
+//! The audit: what a capture, a tree and an order are.
 
-ghost use Rattle.std.specs.Prelude.{◌≡◌, ◌≤◌, ℕ, length, Ok, Err, None, IfOk};
-ghost use Rattle.fa_audit.specs.Verdict.{IsLegal, IsTextAtFault, IsNotShown, Tells, Exactly};
-ghost use Rattle.fa_audit.specs.Faults.{IsFirstFault};
-ghost use Rattle.fa_audit.specs.Line.{IsCoded};
+ghost use Rattle.std.specs.Prelude.{◌≡◌, ◌≤◌, ℕ, length, Ok, Err, IfOk, IfErr, IfSome};
+ghost use Rattle.std.specs.Option.{option_copied};
+ghost use Rattle.fa_ledger.specs.Passing.{IsFirstFault};
 ghost use Rattle.fa_order.specs.declared.lines.TheConstants.{MAX_TEXT_BYTES};
+ghost use Rattle.fa_order.specs.Order.{IsOrderText};
+ghost use Rattle.fa_audit.specs.Verdict.{IsGivenTree, IsLegal, IsTreeTextAtFault, IsOrderTextAtFault, IsNotShown, Exactly};
+ghost use Rattle.fa_audit.specs.Line.{IsCoded};
+ghost use Rattle.fa_audit.specs.parts.Answers.{Tells, IsTreeRefused, IsOrderRefused};
 
-use crate::calls::{Refusal, calls_of};
-use crate::replay::{EntryFault, ReplayError, replay};
-use crate::verdict::{AuditError, Verdict};
+use crate::protocol::{Broken, calls_of};
+use crate::verdict::AuditError;
 use fa_capture::read_capture;
-use fa_order::read_order;
+use fa_check::{Verdict, check};
+use fa_order::{Entry, TextError, read_order, read_tree};
+use fa_tree::Tree;
 use std::alloc::Global;
 
-/// Judges a capture and an order.
+/// The permission bits of the root where no tree text is handed in.
+pub const ROOT_BITS: u16 = 0o755;
+
+/// Judges a capture and an order of its requests, from the tree that the server began with.
 ///
-/// The capture is judged message by message, by the message grammar of fuse.h 7.31, the operations that are judged so
-/// far, and this profile's rules of a session and of node ids. Then the order text is read, in this profile's format,
-/// and its entries are replayed on a tree that is an empty root with the permission bits 755 (octal), by steps
-/// modelled on POSIX.1-2017. No tree text can be handed in yet: `tree` is None. The order text has at most
-/// 268,435,456 bytes.
+/// The capture is judged message by message, by the message grammar of fuse.h 7.31 and this profile's rules of a session, of
+/// nodes and of file handles. Then the tree text is read, if one is handed in, and the order text, both in this profile's formats;
+/// without a tree text the tree is an empty root with the permission bits 755 (octal). Then each entry is placed and carried out
+/// on the tree, by steps modelled on POSIX.1-2017. Each text has at most 268,435,456 bytes.
 ///
 /// - [`Verdict::Fault`] exactly where the capture is not good: at the least number of a message that does not pass or
 ///   of the framing fault, with the first check that it fails, as one of [`codes`](fa_capture::codes).
-/// - [`Verdict::NotShown`] exactly where the capture is good and the order text is in its grammar, at the first entry
+/// - [`Verdict::NotShown`] exactly where the capture is good and the texts are in their grammar, at the first entry
 ///   that fails a check, with the first such check, or after all entries at the least answered request that they
 ///   leave out.
-/// - [`Verdict::Legal`] exactly where the capture is good, the order text is in its grammar and its entries are a valid
-///   order and a run of the tree machine that gives each recorded reply.
+/// - [`Verdict::Legal`] exactly where the capture is good, the texts are in their grammar and the entries are a valid
+///   order and a run of the tree machine from that tree that gives each recorded reply.
 ///
 /// # Errors
 ///
-/// - [`AuditError::OrderText`] exactly where the capture is good and the order text is not in its grammar.
-/// - [`AuditError::Memory`] where memory was refused: for the lists of messages, of tree requests or of entries, for
-///   the requests that wait, or for which calls are placed.
+/// - [`AuditError::TreeText`] exactly where the capture is good and the tree text that is handed in is not in its grammar.
+/// - [`AuditError::OrderText`] exactly where the capture is good, no tree text that is handed in is at fault, and the order text
+///   is not in its grammar.
+/// - [`AuditError::Memory`] where memory was refused.
 ///
 /// # Cost
 ///
-/// Expected time, as of [`Session::accept`](fa_session::Session::accept), linear in the bytes of the capture and of
-/// the order, and in two sums: of the tree requests that wait at each answer, and of the answers that come while each
-/// entry's request waits. Where many requests wait at once these are quadratic at most. Memory for a packet a
-/// message, for each outstanding request, for a call and a byte an answered tree request, for a number an unanswered
-/// one and for an entry a line; message bytes are not copied.
+/// Expected time, as of hash tables, linear in the bytes of the capture and of the texts, but for a logarithm for each entry and
+/// for what the steps and the lines of the tree text take ([`Tree::step`], [`Tree::add`]). Memory for a packet and two bytes a
+/// message, for what the session and the ledger keep, for a call a tree request, for an entry a line and for the tree; message
+/// bytes are not copied but where files hold them.
 pub fn audit(
     alloc: Global,
     capture: &[u8],
     tree: Option<&[u8]>,
     order: &[u8],
 ) -> Result<Verdict, AuditError>
-    requires text { length order.now ≤ MAX_TEXT_BYTES }
-    requires no_tree { tree ≡ None }
+    requires tree_text { IfSome (option_copied tree) (λ text. length text ≤ MAX_TEXT_BYTES) }
+    requires order_text { length order.now ≤ MAX_TEXT_BYTES }
 
     ensures legal { (messages placed left : ℕ) → Exactly result
-        (Ok (Verdict.Legal messages placed left)) (IsLegal capture.now order.now messages placed left) }
+        (Ok (Verdict.Legal messages placed left)) (IsLegal capture.now (option_copied tree.entry) order.now messages placed left) }
     ensures fault { (at code : ℕ) → Exactly result
         (Ok (Verdict.Fault at code)) (IsFirstFault capture.now at code) }
+    ensures tree_text { (line : ℕ) → Exactly result
+        (Err (AuditError.TreeText line)) (IsTreeTextAtFault capture.now (option_copied tree.entry) line) }
     ensures order_text { (line : ℕ) → Exactly result
-        (Err (AuditError.OrderText line)) (IsTextAtFault capture.now order.now line) }
+        (Err (AuditError.OrderText line)) (IsOrderTextAtFault capture.now (option_copied tree.entry) order.now line) }
     ensures not_shown { (entry at code : ℕ) → Exactly result
-        (Ok (Verdict.NotShown entry at code)) (IsNotShown capture.now order.now entry at code) }
+        (Ok (Verdict.NotShown entry at code)) (IsNotShown capture.now (option_copied tree.entry) order.now entry at code) }
 
     // A code that is told has a text.
     ensures codes { IfOk result IsCoded }
 {
-    // Tree texts can't be read yet.
-    prove!(tree.is_none());
-    answer(alloc, capture, order)
+    answer(alloc, capture, tree, order)
 }
 
-/// An answer for the capture and the order.
-fn answer(alloc: Global, capture: &[u8], order: &[u8]) -> Result<Verdict, AuditError>
+/// The tree that the server began with.
+fn given_tree(alloc: Global, tree: Option<&[u8]>) -> Result<Tree, AuditError>
+    requires { IfSome (option_copied tree) (λ text. length text ≤ MAX_TEXT_BYTES) }
+    ensures given { IfOk result (IsGivenTree (option_copied tree.entry)) }
+    ensures refused { IfErr result (IsTreeRefused (option_copied tree.entry)) }
+{
+    let Some(text) = tree else {
+        return Ok(Tree::empty(alloc, ROOT_BITS)?);
+    };
+    match read_tree(alloc, text) {
+        Ok(tree) => Ok(tree),
+        Err(TextError::Line(line)) => Err(AuditError::TreeText { line }),
+        Err(TextError::Memory) => Err(AuditError::Memory),
+    }
+}
+
+/// The entries of an order text.
+fn entries_of(alloc: Global, order: &[u8]) -> Result<Vec<Entry>, AuditError>
     requires { length order.now ≤ MAX_TEXT_BYTES }
-    ensures { Tells capture.now order.now result }
+    ensures text { IfOk result (λ entries. IsOrderText order.now entries.items) }
+    ensures refused { IfErr result (IsOrderRefused order.now) }
+{
+    match read_order(alloc, order) {
+        Ok(entries) => Ok(entries),
+        Err(TextError::Line(line)) => Err(AuditError::OrderText { line }),
+        Err(TextError::Memory) => Err(AuditError::Memory),
+    }
+}
+
+/// An answer for the capture, the tree and the order.
+fn answer(
+    alloc: Global,
+    capture: &[u8],
+    tree: Option<&[u8]>,
+    order: &[u8],
+) -> Result<Verdict, AuditError>
+    requires tree_text { IfSome (option_copied tree) (λ text. length text ≤ MAX_TEXT_BYTES) }
+    requires order_text { length order.now ≤ MAX_TEXT_BYTES }
+    ensures { Tells capture.now (option_copied tree.entry) order.now result }
 {
     let capture = read_capture(alloc, capture)?;
     let calls = match calls_of(alloc, &capture.packets) {
         Ok(calls) => calls,
-        Err(Refusal::Fault { at, code }) => return Ok(Verdict::Fault { at, code }),
-        Err(Refusal::Memory) => return Err(AuditError::Memory),
+        Err(Broken::Fault { at, code }) => return Ok(Verdict::Fault { at, code }),
+        Err(Broken::Memory) => return Err(AuditError::Memory),
     };
     if let Some(fault) = capture.fault {
         return Ok(Verdict::Fault {
@@ -85,16 +126,7 @@ fn answer(alloc: Global, capture: &[u8], order: &[u8]) -> Result<Verdict, AuditE
             code: fault.code,
         });
     }
-    let entries = read_order(alloc, order)?;
-    match replay(alloc, &calls, &entries) {
-        Ok(left) => Ok(Verdict::Legal {
-            messages: capture.packets.len() as u32,
-            placed: entries.len() as u32,
-            left,
-        }),
-        Err(ReplayError::AtFault(EntryFault { entry, at, code })) => {
-            Ok(Verdict::NotShown { entry, at, code })
-        }
-        Err(ReplayError::Memory) => Err(AuditError::Memory),
-    }
+    let first = given_tree(alloc, tree)?;
+    let entries = entries_of(alloc, order)?;
+    Ok(check(alloc, &calls, first, &entries)?)
 }

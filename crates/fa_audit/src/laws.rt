@@ -4,7 +4,7 @@ ghost use Rattle.std.specs.Prelude.{◌≡◌};
 ghost use Rattle.fa_audit.specs.declared.run.TheConstants.{MAX_INPUT_BYTES};
 ghost use Rattle.fa_audit.specs.Verdict.{OneAnswer};
 
-/// A capture and an order have one answer at most.
+/// A capture, a tree text or none and an order text have one answer at most.
 pub fn one_answer()
     ensures { OneAnswer }
 {}

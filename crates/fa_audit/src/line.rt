@@ -2,10 +2,10 @@
 
 ghost use Rattle.std.specs.Prelude.{◌≡◌, IsSome, IfOk, string_bytes};
 ghost use Rattle.fa_capture.specs.Codes.{text_of};
-ghost use Rattle.fa_audit.specs.Line.{IsCoded, verdict_line, order_line, code_text};
+ghost use Rattle.fa_audit.specs.Line.{IsCoded, verdict_line, order_line, tree_line, code_text};
 
-use crate::verdict::Verdict;
 use fa_capture::codes;
+use fa_check::Verdict;
 use std::alloc::{AllocError, Global};
 
 /// The line of a verdict, without a line feed. The code that the verdict tells, if any, is one of [`codes`].
@@ -58,6 +58,24 @@ pub fn order_fault_text(alloc: Global, line: u32) -> Result<String, AllocError>
     let code = codes::NOT_AN_ORDER_TEXT;
     let text = text_of_code(code);
     format!(in alloc; "order: line {line}: code {code}: {text}")
+}
+
+/// The line of a tree text that is not in its grammar, without a line feed: `tree: line L: code 61: TEXT`, with its
+/// first line that does not fit, counted from 1.
+///
+/// # Errors
+///
+/// `AllocError` where memory for the line was refused.
+///
+/// # Cost
+///
+/// Constant time and memory.
+pub fn tree_fault_text(alloc: Global, line: u32) -> Result<String, AllocError>
+    ensures { IfOk result (λ text. string_bytes text ≡ tree_line line) }
+{
+    let code = codes::NOT_A_TREE_TEXT;
+    let text = text_of_code(code);
+    format!(in alloc; "tree: line {line}: code {code}: {text}")
 }
 
 /// The text of a code.

@@ -1,22 +1,20 @@
 //! The audit of recorded /dev/fuse traffic, as a program.
 //!
-//! `fa_audit check --capture FILE --order FILE` tells in one line on standard output whether the order explains the
+//! `fa_audit check --capture FILE [--tree FILE] --order FILE` tells in one line on standard output whether the order explains the
 //! capture. It ends with the status 0 where the verdict is legal, 1 at a fault of the capture, 2 where the order is not
-//! shown to explain the capture, 3 where the order text is not in its grammar, 4 where the command line is no call, and
+//! shown to explain the capture, 3 where the tree text or the order text is not in its grammar, 4 where the command line is no call, and
 //! 5 where reading, writing or memory failed. What stands behind a status 4 or 5 is told on standard error.
 #![tactic(auto)]
 
 ghost use Rattle.std.specs.Prelude.{◌≡◌, false, IfOk};
 ghost use Rattle.fa_capture.specs.Device.{device_failed, device_interrupted};
 
-mod calls;
 mod command_line;
 mod failure;
 mod judge;
 pub mod laws;
 mod line;
-mod messages;
-mod replay;
+mod protocol;
 mod run;
 mod status;
 mod verdict;
@@ -49,9 +47,19 @@ fn check<R: AllocGlobal + Env + Files + Print>(rt: &R) -> Result<u8, Failure> {
     let matches = command_line::command(rt.alloc())?.try_get_matches_from(words.as_slice())?;
     let paths = CheckPaths::new(&matches).ok_or(Failure::NoPaths)?;
     let mut capture = open(rt, paths.capture)?;
+    let mut tree = match paths.tree {
+        Some(path) => Some(open(rt, path)?),
+        None => None,
+    };
     let mut order = open(rt, paths.order)?;
     let mut out = Device::new(io::writer(rt));
-    Ok(run::run(rt.alloc(), &mut capture, &mut order, &mut out)?)
+    Ok(run::run(
+        rt.alloc(),
+        &mut capture,
+        tree.as_mut(),
+        &mut order,
+        &mut out,
+    )?)
 }
 
 /// The words of the command line, with the program's name first.

@@ -12,7 +12,7 @@ pub enum Status {
     Fault = 1,
     /// The order is not shown to explain the capture.
     NotShown = 2,
-    /// The order text is not in its grammar.
+    /// The tree text or the order text is not in its grammar.
     Text = 3,
     /// The command line is no call, or is a call for help.
     CommandLine = 4,

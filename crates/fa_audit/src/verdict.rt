@@ -1,43 +1,14 @@
-//! What the audit answers.
+//! Why the audit has no verdict.
 
-use fa_order::TextError;
 use std::alloc::AllocError;
 use thiserror::Error;
-
-/// The answer of the audit.
-#[derive(Clone, Copy, Debug, PartialEq, Eq, Hash)]
-pub enum Verdict {
-    /// The capture is good, and the order explains each recorded reply.
-    Legal {
-        /// The messages in the capture.
-        messages: u32,
-        /// The entries of the order.
-        placed: u32,
-        /// The unanswered tree requests that the order leaves out.
-        left: u32,
-    },
-    /// The first fault of the capture.
-    Fault {
-        /// The number of the message that does not pass, counted from 0, or the number of whole messages where the
-        /// bytes behind them are no record.
-        at: u32,
-        /// The first check that fails there, one of [`codes`](fa_capture::codes).
-        code: u16,
-    },
-    /// The capture is good, but this order is not valid or no run of the tree machine that gives the recorded replies.
-    NotShown {
-        /// The first entry at fault, counted from 0, or the number of entries where an answered request is left out.
-        entry: u32,
-        /// The message number in that entry, or the least one of an answered request that is left out.
-        at: u32,
-        /// The first check that the entry fails, one of [`codes`](fa_capture::codes).
-        code: u16,
-    },
-}
 
 /// Why there is no verdict.
 #[derive(Clone, Copy, Debug, PartialEq, Eq, Hash, Error)]
 pub enum AuditError {
+    /// The tree text is not in its grammar: the first line that does not fit, counted from 1.
+    #[error("not a tree text, at line {line}")]
+    TreeText { line: u32 },
     /// The order text is not in its grammar: the first line that does not fit, counted from 1.
     #[error("not an order text, at line {line}")]
     OrderText { line: u32 },
@@ -54,19 +25,5 @@ impl From<AllocError> for AuditError {
 
     fn from(_: AllocError) -> AuditError {
         AuditError::Memory
-    }
-}
-
-impl From<TextError> for AuditError {
-    ghost use Rattle.fa_audit.specs.parts.Errors.{audit_error};
-    ghost use Rattle.std.specs.Prelude.{◌≡◌};
-
-    ghost from_gives = { λ text e. e ≡ audit_error text };
-
-    fn from(text: TextError) -> AuditError {
-        match text {
-            TextError::Line(line) => AuditError::OrderText { line },
-            TextError::Memory => AuditError::Memory,
-        }
     }
 }

@@ -1,12 +1,16 @@
-use Rattle.std.proofs.Common.{rules}
-use Rattle.fa_audit.proofs.AnswerLemmas.{answer_or_memory}
-use Rattle.fa_audit.proofs.RunLemmas.{audited}
 use Rattle.fa_audit.proofs.run.run.Goals as goal
 
-pub returns-clause-told : goal.returns-clause-told
-returns-clause-told g c =
-    audited c.tell.result _ _ _ _ c.in_ok-capture.capture.items c.in_ok-order.order.items c.audit.result
-    c.in_ok-capture.ensures.bytes c.in_ok-order.ensures.bytes (search rules) (search rules)
-    (rw (← c.deref.ensures.value, ← c.deref-2.ensures.value)
-    (answer_or_memory _ _ c.audit.result c.audit.ensures.legal c.audit.ensures.fault c.audit.ensures.not_shown c.audit.ensures.order_text))
-    c.tell.ensures.told c.tell.ensures.answered
+pub returns-in-Some-clause-end : goal.returns-in-Some-clause-end
+returns-in-Some-clause-end g c = rw c.in-Some.is c.run_on_tree.ensures.end
+
+pub returns-in-Some-clause-capture_first : goal.returns-in-Some-clause-capture_first
+returns-in-Some-clause-capture_first g c = rw c.in-Some.is c.run_on_tree.ensures.capture_first
+
+pub returns-in-Some-clause-tree_first : goal.returns-in-Some-clause-tree_first
+returns-in-Some-clause-tree_first g c = rw c.in-Some.is c.run_on_tree.ensures.tree_first
+
+pub returns-in-Some-clause-read : goal.returns-in-Some-clause-read
+returns-in-Some-clause-read g c = rw c.in-Some.is c.run_on_tree.ensures.read
+
+pub returns-in-Some-clause-failed : goal.returns-in-Some-clause-failed
+returns-in-Some-clause-failed g c = rw c.in-Some.is c.run_on_tree.ensures.failed

@@ -17,3 +17,7 @@ returns-clause-capture c =
 pub returns-clause-order : goal.returns-clause-order
 returns-clause-order c =
     value_of-given _ c.in_ok-options.options.now (codes "order") _ c.in_ok-options.ensures.rows c.in_ok-get_str-2.ensures
+
+pub returns-clause-tree : goal.returns-clause-tree
+returns-clause-tree c =
+    value_of-given _ c.in_ok-options.options.now (codes "tree") _ c.in_ok-options.ensures.rows c.get_str-2.ensures

@@ -1,0 +1,108 @@
+//! The messages of a capture, one after the other: whether they keep the protocol, and their calls.
+
+ghost use Rattle.std.specs.Prelude.{◌≡◌, ◌<◌, ◌≤◌, ◌∷◌, ◌++◌, [], List, length, map, IfOk, IfErr, OnOk};
+ghost use Rattle.fa_capture.specs.Message.{Message, message, messages};
+ghost use Rattle.fa_capture.specs.declared.limits.TheConstants.{MAX_MESSAGES};
+ghost use Rattle.fa_ledger.specs.Calls.{call_shown, AreCalls};
+ghost use Rattle.fa_ledger.specs.Passing.{AreGood, Passes};
+ghost use Rattle.fa_audit.specs.parts.Protocol.{ShowBoth, IsRefusal, IsBroken};
+
+use fa_capture::Packet;
+use fa_ledger::{Calls, Ledger, LedgerError};
+use fa_session::{Session, SessionError};
+use std::alloc::Global;
+
+/// Why a message is not taken.
+#[derive(Clone, Copy, Debug, PartialEq, Eq)]
+pub(crate) enum MessageError {
+    /// It does not keep the protocol: the code of the first check that it fails.
+    Refused(u16),
+    /// Memory was refused.
+    Memory,
+}
+
+impl From<SessionError> for MessageError {
+    ghost use Rattle.fa_audit.specs.parts.Protocol.{session_refusal};
+    ghost use Rattle.std.specs.Prelude.{◌≡◌};
+
+    ghost from_gives = { λ s e. e ≡ session_refusal s };
+
+    fn from(error: SessionError) -> MessageError {
+        match error {
+            SessionError::Refused(code) => MessageError::Refused(code),
+            SessionError::Memory => MessageError::Memory,
+        }
+    }
+}
+
+impl From<LedgerError> for MessageError {
+    ghost use Rattle.fa_audit.specs.parts.Protocol.{ledger_refusal};
+    ghost use Rattle.std.specs.Prelude.{◌≡◌};
+
+    ghost from_gives = { λ l e. e ≡ ledger_refusal l };
+
+    fn from(error: LedgerError) -> MessageError {
+        match error {
+            LedgerError::Refused(code) => MessageError::Refused(code),
+            LedgerError::Memory => MessageError::Memory,
+        }
+    }
+}
+
+/// Why messages have no calls.
+#[derive(Clone, Copy, Debug, PartialEq, Eq)]
+pub(crate) enum Broken {
+    /// The number of the first message that does not keep the protocol, and the code of the first check that it fails.
+    Fault { at: u32, code: u16 },
+    /// Memory was refused.
+    Memory,
+}
+
+/// Takes the next message into the session and into the ledger. After an error the session may have taken it, and both are of
+/// no use any more.
+fn accept<'a>(
+    session: &mut Session<'a>,
+    ledger: &mut Ledger<'a>,
+    packet: &Packet<'a>,
+) -> Result<(), MessageError>
+    requires { (c : List Message) × ShowBoth c session.old ledger.old × (length c < MAX_MESSAGES) }
+    ensures passes { OnOk result ((c : List Message) → ShowBoth c session.old ledger.old → length c < MAX_MESSAGES → Passes c (message packet.now)) }
+    ensures shows { OnOk result ((c : List Message) → ShowBoth c session.old ledger.old → length c < MAX_MESSAGES → ShowBoth (c ++ message packet.now ∷ []) session.new ledger.new) }
+    ensures refused { IfErr result (λ error. (c : List Message) → ShowBoth c session.old ledger.old → length c < MAX_MESSAGES → IsRefusal c (message packet.now) error) }
+{
+    let event = session.accept(packet)?;
+    ledger.accept(event)?;
+    Ok(())
+}
+
+/// The calls of messages that all keep the protocol.
+///
+/// # Errors
+///
+/// - [`Broken::Fault`] at the first message that does not.
+/// - [`Broken::Memory`] where memory was refused.
+///
+/// # Cost
+///
+/// One pass, at each message that of [`Session::accept`] and [`Ledger::accept`].
+pub(crate) fn calls_of<'a>(alloc: Global, packets: &[Packet<'a>]) -> Result<Calls<'a>, Broken>
+    requires { length packets.now ≤ MAX_MESSAGES }
+    ensures good { OnOk result (AreGood (messages packets.now)) }
+    ensures counted { IfOk result (λ calls. calls.messages ≡ length packets.now) }
+    ensures calls { IfOk result (λ calls. AreCalls (messages packets.now) (map call_shown calls.list.items)) }
+    ensures fault { IfErr result (IsBroken (messages packets.now)) }
+{
+    let mut session = Session::new(alloc);
+    let mut ledger = Ledger::new(alloc);
+    for (at, packet) in packets.iter().enumerate() {
+        match accept(&mut session, &mut ledger, packet) {
+            Ok(()) => {}
+            Err(MessageError::Refused(code)) => {
+                let at = at as u32;
+                return Err(Broken::Fault { at, code });
+            }
+            Err(MessageError::Memory) => return Err(Broken::Memory),
+        }
+    }
+    Ok(ledger.into_calls())
+}
