@@ -51,7 +51,7 @@ fn decode_body(
             decode_bytes(alloc, spelled)
         }
         Kind::Symlink => decode_bytes(alloc, spelled),
-        _ => {
+        Kind::Directory | Kind::Fifo | Kind::CharDevice | Kind::BlockDevice | Kind::Socket => {
             if spelled.is_some() {
                 return Ok(None);
             }

@@ -1,11 +1,10 @@
 //! The fields of a tree text's lines, as they are spelled.
 
-ghost use Rattle.std.specs.Prelude.{◌≡◌, ◌≤◌, ◌<◌, ◌+◌, ℕ, List, Option, [], ◌∷◌, ◌++◌, IfSome, IfNone};
-ghost use Rattle.std.specs.Option.{option_copied};
+ghost use Rattle.std.specs.Prelude.{◌≡◌, ◌≤◌, ◌<◌, ◌+◌, ℕ, [], ◌∷◌, ◌++◌, IfSome, IfNone};
 ghost use Rattle.fa_bodies.specs.declared.mode.Kind.{Kind};
 ghost use Rattle.fa_tree.specs.Attributes.{all_bits};
 ghost use Rattle.fa_order.specs.Lines.{LacksLine};
-ghost use Rattle.fa_order.specs.TreeLines.{letter, octal, body_text};
+ghost use Rattle.fa_order.specs.TreeLines.{letter, octal};
 ghost use Rattle.fa_order.specs.parts.Fields.{HasFields, LacksFile, LacksName};
 
 use crate::lines::split_at_byte;

@@ -1,6 +1,6 @@
 //! Paths in a tree text: which directory they lead to, and their last name.
 
-ghost use Rattle.std.specs.Prelude.{◌≡◌, ◌↔◌, ◌<◌, ◌+◌, ℕ, List, length, All, IsTrue, slice_index, IfOk, IfSome, IfNone, OnOk};
+ghost use Rattle.std.specs.Prelude.{◌≡◌, ◌↔◌, ◌<◌, ◌+◌, ℕ, List, length, All, IsTrue, IfOk, IfSome, IfNone, OnOk};
 ghost use Rattle.percent_encoding.specs.Percent.{percent_decode};
 ghost use Rattle.fa_tree.specs.State as state;
 ghost use Rattle.fa_order.specs.Paths.{IsSpelledByte, HasHexDigit, HasWholeEscapes, IsSpelledName};

@@ -39,7 +39,7 @@ const TEXTS: [(&[u8], &[Entry]); 5] = [
 ];
 
 /// Bytes that are no order text, and the line of their fault.
-const FAULTS: [(&[u8], u32); 33] = [
+const FAULTS: [(&[u8], u32); 40] = [
     (b"", 1),
     (b"\n", 1),
     (b"fuse-order 1", 1),
@@ -66,6 +66,13 @@ const FAULTS: [(&[u8], u32); 33] = [
     (b"fuse-order 1\n2 w\nend\n", 2),
     (b"fuse-order 1\n2 w \nend\n", 2),
     (b"fuse-order 1\n2  w 3\nend\n", 2),
+    (b"fuse-order 1\n2 w  3\nend\n", 2),
+    (b"fuse-order 1\n2\tw 3\nend\n", 2),
+    (b"fuse-order 1\n2 w\t3\nend\n", 2),
+    (b"fuse-order 1\n2 W 3\nend\n", 2),
+    (b"fuse-order 1\n2 w 3 4\nend\n", 2),
+    (b"fuse-order 1\n2 w -3\nend\n", 2),
+    (b"fuse-order 1\n2 3\nend\n", 2),
     (b"fuse-order 1\n2 w 03\nend\n", 2),
     (b"fuse-order 1\n2 w 4294967296\nend\n", 2),
     (b"fuse-order 1\n2 r 3\nend\n", 2),

@@ -20,7 +20,7 @@ enum Told {
 }
 
 /// Lines that may stand behind `root 755`, before `end`, and what comes of the text.
-const LINES: [(&[u8], Told); 92] = [
+const LINES: [(&[u8], Told); 144] = [
     (b"", Read),
     (b"\n", Line(3)),
     // Each type.
@@ -35,6 +35,7 @@ const LINES: [(&[u8], Told); 92] = [
     (b"k 600 a\n", Read),
     (b"x 600 a\n", Line(3)),
     (b"D 755 a\n", Line(3)),
+    (b"F 644 a -\n", Line(3)),
     (b"dd 755 a\n", Line(3)),
     (b" 755 a\n", Line(3)),
     // Permission bits.
@@ -43,6 +44,10 @@ const LINES: [(&[u8], Told); 92] = [
     (b"d 778 a\n", Line(3)),
     (b"d 75 a\n", Line(3)),
     (b"d 0755 a\n", Line(3)),
+    (b"d 7555 a\n", Line(3)),
+    (b"d 75a a\n", Line(3)),
+    (b"s 778 a 78\n", Line(3)),
+    (b"s a 78\n", Line(3)),
     (b"d a\n", Line(3)),
     // Fields and the spaces between them.
     (b"d  755 a\n", Line(3)),
@@ -60,6 +65,10 @@ const LINES: [(&[u8], Told); 92] = [
     (b"f 644 a \n", Line(3)),
     (b"f 644 a 78 \n", Line(3)),
     (b"f 644 a 78 78\n", Line(3)),
+    (b"f 644 a  78\n", Line(3)),
+    (b"f 644 a\t78\n", Line(3)),
+    (b"f 644 a 78\r\n", Line(3)),
+    (b"f 644 a b -\n", Line(3)),
     // Hexadecimal digits.
     (b"f 644 a 0aBcDeF9\n", Read),
     (b"f 644 a 7\n", Line(3)),
@@ -67,13 +76,20 @@ const LINES: [(&[u8], Told); 92] = [
     (b"f 644 a 7g\n", Line(3)),
     (b"f 644 a 0x78\n", Line(3)),
     (b"f 644 a --\n", Line(3)),
+    (b"f 644 a -78\n", Line(3)),
+    (b"f 644 a 78-\n", Line(3)),
+    (b"s 777 a 7\n", Line(3)),
+    (b"s 777 a 787\n", Line(3)),
+    (b"s 777 a 7G\n", Line(3)),
     (b"s 777 a -\n", Line(3)),
     (b"s 777 a\n", Line(3)),
     (b"s 777 a 610062\n", Line(3)),
+    (b"s 777 a 00\n", Line(3)),
     (b"f 644 a 610062\n", Read),
     // Names and how they are spelled.
     (b"f 644 !~ -\n", Read),
     (b"f 644 %61 -\nf 644 b -\n", Read),
+    (b"f 644 a -\nf 644 A -\n", Read),
     (b"f 644 a -\nf 644 %61 -\n", Line(4)),
     (b"f 644 %4a -\nf 644 %4A -\n", Line(4)),
     (b"f 644 %4a -\nf 644 J -\n", Line(4)),
@@ -83,14 +99,22 @@ const LINES: [(&[u8], Told); 92] = [
     (b"f 644 %6 -\n", Line(3)),
     (b"f 644 %6g -\n", Line(3)),
     (b"f 644 %%61 -\n", Line(3)),
+    (b"f 644 a% -\n", Line(3)),
+    (b"f 644 a%6 -\n", Line(3)),
+    (b"f 644 %-1 -\n", Line(3)),
+    (b"d 755 %6\nf 644 %6/1 -\n", Line(3)),
     (b"f 644 a%00b -\n", Line(3)),
     (b"f 644 a%2fb -\n", Line(3)),
     (b"f 644 . -\n", Line(3)),
     (b"f 644 %2e -\n", Line(3)),
     (b"f 644 .%2E -\n", Line(3)),
+    (b"f 644 .. -\n", Line(3)),
+    (b"f 644 ..\n", Line(3)),
+    (b"f 644 %2e%2e -\n", Line(3)),
     (b"f 644 ... -\n", Read),
     (b"f 644 a\x7f -\n", Line(3)),
     (b"f 644 a\x80 -\n", Line(3)),
+    (b"f 644 a\xff -\n", Line(3)),
     (b"f 644 \xc3\xa4 -\n", Line(3)),
     (b"f 644 a\x1f -\n", Line(3)),
     // Paths.
@@ -98,11 +122,15 @@ const LINES: [(&[u8], Told); 92] = [
     (b"d 755 a\nd 755 %61/b\nd 755 a/%62/c\n", Read),
     (b"f 644 x/y -\n", Line(3)),
     (b"f 644 x -\nf 644 x/y -\n", Line(4)),
+    (b"f 644 x -\nh z x\nf 644 z/y -\n", Line(5)),
+    (b"p 600 x\nd 755 x/y\n", Line(4)),
     (b"s 777 x 2e\nf 644 x/y -\n", Line(4)),
     (b"f 644 a/b -\nd 755 a\n", Line(3)),
     (b"d 755 a\nf 644 a/ -\n", Line(4)),
     (b"d 755 a\nf 644 /a -\n", Line(4)),
     (b"d 755 a\nf 644 a//b -\n", Line(4)),
+    (b"d 755 a\nf 644 a%2fb -\n", Line(4)),
+    (b"d 755 a\nd 755 a/b\nf 644 a/%62 -\n", Line(5)),
     (b"d 755 a\nf 644 a/./b -\n", Line(4)),
     (b"d 755 a\nf 644 a/../b -\n", Line(4)),
     (b"d 755 a\nd 755 a\n", Line(4)),
@@ -112,18 +140,45 @@ const LINES: [(&[u8], Told); 92] = [
     (b"f 644 a 78\nh b a\n", Read),
     (b"f 644 a -\nh b a\nh c b\n", Read),
     (b"s 777 a 78\nh b %61\n", Read),
+    (
+        b"p 600 a\nc 600 b\nb 600 c\nk 600 d\nh e a\nh f b\nh g c\nh h d\n",
+        Read,
+    ),
+    (b"d 755 d\nf 644 d/a -\nh a d/%61\n", Read),
     (b"d 755 a\nh b a\n", Line(4)),
+    (b"d 755 a\nd 755 a/b\nh c a/b\n", Line(5)),
+    (b"f 644 a -\nf 644 b -\nh b a\n", Line(5)),
+    (b"f 644 a -\nh %61 a\n", Line(4)),
+    (b"f 644 a -\nh x/b a\n", Line(4)),
+    (b"f 644 a -\nh a/b a\n", Line(4)),
+    (b"f 644 a -\nh b x/a\n", Line(4)),
+    (b"f 644 a -\nh b a/a\n", Line(4)),
+    (b"f 644 a -\nh . a\n", Line(4)),
+    (b"f 644 a -\nh .. a\n", Line(4)),
+    (b"f 644 a -\nh b .\n", Line(4)),
+    (b"f 644 a -\nh b/ a\n", Line(4)),
+    (b"f 644 a -\nh /b a\n", Line(4)),
+    (b"f 644 a -\nh b a/\n", Line(4)),
+    (b"f 644 a -\nh b /a\n", Line(4)),
+    (b"f 644 a -\nh b %6\n", Line(4)),
+    (b"f 644 a -\nh %6 a\n", Line(4)),
     (b"f 644 a -\nh a a\n", Line(4)),
     (b"f 644 a -\nh b c\n", Line(4)),
     (b"h b a\nf 644 a -\n", Line(3)),
     (b"f 644 a -\nd 755 d\nh d/b a\nh c d/b\nh e c/b\n", Line(7)),
     (b"f 644 a -\nh b a \n", Line(4)),
+    (b"f 644 a -\nh  b a\n", Line(4)),
+    (b"f 644 a -\nh b  a\n", Line(4)),
+    (b"f 644 a -\nh b a a\n", Line(4)),
+    (b"f 644 a -\nh\tb a\n", Line(4)),
+    (b"f 644 a -\nH b a\n", Line(4)),
     (b"f 644 a -\nh b\n", Line(4)),
+    (b"f 644 a -\nh b \n", Line(4)),
     (b"f 644 a -\nh 644 b a\n", Line(4)),
 ];
 
 /// Whole texts, and what comes of them.
-const TEXTS: [(&[u8], Told); 27] = [
+const TEXTS: [(&[u8], Told); 33] = [
     (b"fuse-tree 1\nroot 755\nend\n", Read),
     (b"fuse-tree 1\nroot 000\nend\n", Read),
     (b"fuse-tree 1\nroot 755\nf 644 x/y -\nend\n", Line(3)),
@@ -140,6 +195,8 @@ const TEXTS: [(&[u8], Told); 27] = [
     (b"fuse-tree 1\nroot755\nend\n", Line(2)),
     (b"fuse-tree 1\nroot 75\nend\n", Line(2)),
     (b"fuse-tree 1\nroot 7555\nend\n", Line(2)),
+    (b"fuse-tree 1\nroot 0755\nend\n", Line(2)),
+    (b"fuse-tree 1\nroot 755\r\nend\n", Line(2)),
     (b"fuse-tree 1\nroot 758\nend\n", Line(2)),
     (b"fuse-tree 1\nroot  755\nend\n", Line(2)),
     (b"fuse-tree 1\nroot 755 \nend\n", Line(2)),
@@ -147,10 +204,34 @@ const TEXTS: [(&[u8], Told); 27] = [
     (b"fuse-tree 1\nroot 755\nend", Line(3)),
     (b"fuse-tree 1\nroot 755\nroot 755\nend\n", Line(3)),
     (b"fuse-tree 1\nroot 755\nf 644 a -", Line(3)),
+    (b"fuse-tree 1\nroot 755\nf 644 a -\nh b a", Line(4)),
+    (b"fuse-tree 1\nroot 755\nend\r\n", Line(3)),
+    (b"fuse-tree 1\nroot 755\nEND\n", Line(3)),
     (b"fuse-tree 1\nroot 755\nf 644 a -\n", Line(4)),
     (b"fuse-tree 1\nroot 755\nend\n\n", Line(4)),
+    (b"fuse-tree 1\nroot 755\nend\nf 644 a -\n", Line(4)),
     (b"fuse-tree 1\nroot 755\nf 644 a -\nend\nend\n", Line(5)),
     (b"fuse-tree 1\nroot 755\nf 644 a -\nend\nx", Line(5)),
+];
+
+/// Lines in which a part stands many times: what stands before it, the part, how often, and what stands behind.
+type Repeated = (&'static [u8], &'static [u8], u32, &'static [u8]);
+
+/// Lines at the limit of a name, and what comes of the text. A name has at most 1,024 bytes as it is decoded, and a path any number.
+/// The limit of a file, 16,777,216 bytes, is not tried: a row takes a minute under `rt try`.
+const LIMITS: [(Repeated, Told); 12] = [
+    ((b"f 644 ", b"a", 1_024, b" -\n"), Read),
+    ((b"f 644 ", b"a", 1_025, b" -\n"), Line(3)),
+    ((b"f 644 ", b"%61", 1_024, b" -\n"), Read),
+    ((b"f 644 ", b"%61", 1_025, b" -\n"), Line(3)),
+    ((b"f 644 ", b"%61", 1_023, b"b -\n"), Read),
+    ((b"f 644 ", b"%61", 1_024, b"b -\n"), Line(3)),
+    ((b"d 755 a\nf 644 a/", b"b", 1_024, b" -\n"), Read),
+    ((b"d 755 a\nf 644 a/", b"b", 1_025, b" -\n"), Line(4)),
+    ((b"f 644 ", b"b", 1_025, b"/a -\n"), Line(3)),
+    ((b"f 644 a -\nh ", b"b", 1_024, b" a\n"), Read),
+    ((b"f 644 a -\nh ", b"b", 1_025, b" a\n"), Line(4)),
+    ((b"f 644 a -\nh b ", b"a", 1_025, b"\n"), Line(4)),
 ];
 
 /// What comes of a text.
@@ -174,6 +255,24 @@ fn text_with(alloc: Global, lines: &[u8]) -> Option<Vec<u8>> {
     Some(text)
 }
 
+/// What comes of the text with these lines.
+fn outcome_with(alloc: Global, lines: &[u8]) -> Told {
+    match text_with(alloc, lines) {
+        Some(text) => outcome_of(alloc, &text),
+        None => Nothing,
+    }
+}
+
+/// The lines with their part as often as it stands there. None where memory was refused.
+fn repeated_lines(alloc: Global, (front, part, times, behind): Repeated) -> Option<Vec<u8>> {
+    let mut lines = Vec::from_slice(alloc, front).ok()?;
+    for _ in 0..times {
+        lines.extend_from_slice(part).ok()?;
+    }
+    lines.extend_from_slice(behind).ok()?;
+    Some(lines)
+}
+
 /// The number of the first text of which something else comes.
 fn first_wrong_text(alloc: Global, rows: &[(&[u8], Told)]) -> Option<usize> {
     rows.iter()
@@ -182,9 +281,14 @@ fn first_wrong_text(alloc: Global, rows: &[(&[u8], Told)]) -> Option<usize> {
 
 /// The number of the first lines of which something else comes.
 fn first_wrong_lines(alloc: Global, rows: &[(&[u8], Told)]) -> Option<usize> {
-    for (number, (lines, expected)) in rows.iter().enumerate() {
-        match text_with(alloc, lines) {
-            Some(text) if outcome_of(alloc, &text) == *expected => {}
+    rows.iter().position(|(lines, expected)| outcome_with(alloc, lines) != *expected)
+}
+
+/// The number of the first repeated lines of which something else comes.
+fn first_wrong_limit(alloc: Global, rows: &[(Repeated, Told)]) -> Option<usize> {
+    for (number, (row, expected)) in rows.iter().enumerate() {
+        match repeated_lines(alloc, *row) {
+            Some(lines) if outcome_with(alloc, &lines) == *expected => {}
             _ => return Some(number),
         }
     }
@@ -194,6 +298,11 @@ fn first_wrong_lines(alloc: Global, rows: &[(&[u8], Told)]) -> Option<usize> {
 #[test]
 fn lines_that_add(rt: HostRuntime) {
     assert_eq!(rt; first_wrong_lines(rt.alloc(), &LINES), None);
+}
+
+#[test]
+fn limits_of_names(rt: HostRuntime) {
+    assert_eq!(rt; first_wrong_limit(rt.alloc(), &LIMITS), None);
 }
 
 #[test]
@@ -224,31 +333,59 @@ fn line_of(text: &[u8], place: usize) -> usize {
         .count()
 }
 
-/// Whether of the text of ten lines with another byte in this line this may come. A line that is broken in two may be at fault in
-/// its second part. Lines 4 and 10 name the directory of line 3, and line 10 the file of line 4.
-fn may_come(line: usize, byte: u8, told: Told) -> bool {
-    match told {
-        Read => true,
-        Line(at) => {
-            let at = at as usize;
-            at == line
-                || (byte == b'\n' && at > line && at - line == 1)
-                || (line == 3 && at == 4)
-                || (line == 4 && at == 10)
-        }
-        Nothing => false,
-    }
+/// The same text, but for a `*` where a byte may be a `7` instead: each permission digit, each hexadecimal digit of a body, each
+/// name that no other line names, and in the path of line 10 each byte behind `a`. There `a7hello world` is a name in the root, and
+/// `%70` and `%27` are escapes. What else becomes a `7` breaks its line, or a path that a later line names.
+static SEVENS: [u8; 121] = *b"fuse-tree 1
+root ***
+d *** a
+f *** a/%66 ****
+s *** * ********
+p *** *
+c *** *
+b *** *
+k *** *
+h a************** a/f
+end
+";
+
+/// Whether the text of ten lines with another byte in this line may be at fault here. A line that is broken in two may be at fault
+/// in its second part. Lines 4 and 10 name the directory of line 3, and line 10 the file of line 4.
+fn may_be_at_fault(line: usize, byte: u8, at: usize) -> bool {
+    at == line
+        || (byte == b'\n' && at > line && at - line == 1)
+        || (line == 3 && at == 4)
+        || (line == 4 && at == 10)
 }
 
-/// The first place of the text, and the byte there, with which something else comes than may.
-fn first_wrong_byte(alloc: Global, text: &[u8], bytes: &[u8]) -> Option<(usize, u8)> {
-    for place in 0..text.len() {
+/// What comes of the text with another byte at this place.
+fn outcome_changed(alloc: Global, text: &[u8], place: usize, byte: u8) -> Told {
+    let Ok(mut changed) = Vec::from_slice(alloc, text) else {
+        return Nothing;
+    };
+    match changed.get_mut(place) {
+        Some(old) => *old = byte,
+        None => return Nothing,
+    }
+    outcome_of(alloc, &changed)
+}
+
+/// The first place of the text, and the byte there, with which something else comes than has to. The text has to be read where the
+/// byte stood there before, or the mask has a `*`, and nowhere else.
+fn first_wrong_byte(alloc: Global, text: &[u8], mask: &[u8], bytes: &[u8]) -> Option<(usize, u8)> {
+    for (place, old) in text.iter().enumerate() {
+        let is_free = mask.get(place) == Some(&b'*');
         for byte in bytes {
-            let Ok(mut changed) = Vec::from_slice(alloc, text) else {
-                return Some((place, *byte));
+            let is_expected = match outcome_changed(alloc, text, place, *byte) {
+                Read => is_free || *byte == *old,
+                Line(at) => {
+                    !is_free
+                        && *byte != *old
+                        && may_be_at_fault(line_of(text, place), *byte, at as usize)
+                }
+                Nothing => false,
             };
-            changed[place] = *byte;
-            if !may_come(line_of(text, place), *byte, outcome_of(alloc, &changed)) {
+            if !is_expected {
                 return Some((place, *byte));
             }
         }
@@ -258,8 +395,12 @@ fn first_wrong_byte(alloc: Global, text: &[u8], bytes: &[u8]) -> Option<(usize, 
 
 #[test]
 fn one_byte_changed(rt: HostRuntime) {
-    assert_eq!(rt; outcome_of(rt.alloc(), &TEN), Read);
-    assert_eq!(rt; first_wrong_byte(rt.alloc(), &TEN, b"\n /%\x7f\xff"), None);
+    // No byte of the text may be one of these instead: they part lines, fields and names, begin an escape, or stand nowhere.
+    assert_eq!(rt;
+        first_wrong_byte(rt.alloc(), &TEN, b"", b"\n /%\x7f\xff"),
+        None
+    );
+    assert_eq!(rt; first_wrong_byte(rt.alloc(), &TEN, &SEVENS, b"7"), None);
 }
 
 /// The file to which these names lead from the root.
