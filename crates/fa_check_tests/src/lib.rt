@@ -1,0 +1,9 @@
+//! Tests of the verdicts on orders by what `fa_check` offers, as tables.
+//!
+//! The expected values come from the formats (docs/formats.md) and from `errno.h`.
+#![tactic(auto)]
+
+#[cfg(test)]
+mod memory;
+#[cfg(test)]
+mod verdicts;
