@@ -100,7 +100,20 @@ messages_of packets given calls same good counted are = record {
 pub verdict_told : (capture : List ℕ) (tree : Option (List ℕ)) (order : List ℕ) (c : List Message) (first : TreeState) (es : List Entry) (verdict : Verdict)
     → IsGoodCapture capture c → IsGivenTree tree first → IsOrderText order es → IsVerdict c first es verdict → IsAnswer capture tree order (Ok verdict)
 verdict_told capture tree order c first es (Legal messages placed left) good given text is =
-    record { c = c; first = first; entries = es; good = good; given = given; text = text; legal = is }
+    record {
+      c = c;
+      first = first;
+      last = is.legal.last;
+      entries = es;
+      good = good;
+      given = given;
+      text = text;
+      valid = is.legal.valid;
+      run = is.legal.run;
+      messages_are = is.messages_are;
+      placed_are = is.placed_are;
+      left_are = is.left_are;
+    }
 verdict_told capture tree order c first es (Fault at code) good given text is = absurd is
 verdict_told capture tree order c first es (NotShown entry at code) good given text is =
     record { c = c; first = first; entries = es; good = good; given = given; text = text; fault = is }

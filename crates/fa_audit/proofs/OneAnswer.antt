@@ -123,7 +123,20 @@ record IsJudged (capture : List ℕ) (tree : Option (List ℕ)) (order : List �
 
 judged_legal : (capture : List ℕ) (tree : Option (List ℕ)) (order : List ℕ) (messages placed left : ℕ) → IsLegal capture tree order messages placed left → IsJudged capture tree order (Legal messages placed left)
 judged_legal capture tree order messages placed left a =
-    record { c = a.c; first = a.first; entries = a.entries; good = a.good; given = a.given; text = a.text; told = a.legal }
+    record {
+      c = a.c;
+      first = a.first;
+      entries = a.entries;
+      good = a.good;
+      given = a.given;
+      text = a.text;
+      told = record {
+        legal = record { good = a.good.good; valid = a.valid; last = a.last; run = a.run };
+        messages_are = a.messages_are;
+        placed_are = a.placed_are;
+        left_are = a.left_are;
+      };
+    }
 
 judged_not_shown : (capture : List ℕ) (tree : Option (List ℕ)) (order : List ℕ) (entry at code : ℕ) → IsNotShown capture tree order entry at code → IsJudged capture tree order (NotShown entry at code)
 judged_not_shown capture tree order entry at code a =

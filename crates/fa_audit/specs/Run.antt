@@ -22,14 +22,18 @@ pub record IsTold (answer : Result Verdict AuditError) (old new : Option (List �
   pub written : Appends old new (answer_line answer ++ line_feed)
   pub ended : status ≡ answer_status answer
 
+-- What a call leaves of an input that may be handed in: nothing, or the input as it is then.
+abbrev pub LeftOf : Type 0 → Type 0
+LeftOf R = Unit {0} ⊎ ((MutBor R × Unit {0}) ⊎ ⊥)
+
 -- If an input is handed in, this holds of it as the call begins and as the call leaves it.
-abbrev pub IfHandedIn : {R : Type 0} → Option (MutBor R) → Unit {0} ⊎ ((MutBor R × Unit {0}) ⊎ ⊥) → (R → R → Type 0) → Type 0
+abbrev pub IfHandedIn : {R : Type 0} → Option (MutBor R) → LeftOf R → (R → R → Type 0) → Type 0
 IfHandedIn None left Such = Unit {0}
 IfHandedIn (Some input) (inr (inl left)) Such = Such input.now left.0.now
 IfHandedIn (Some input) other Such = ⊥
 
 -- An input is handed in, and this holds of it as the call begins and as the call leaves it.
-abbrev pub IsHandedIn : {R : Type 0} → Option (MutBor R) → Unit {0} ⊎ ((MutBor R × Unit {0}) ⊎ ⊥) → (R → R → Type 0) → Type 0
+abbrev pub IsHandedIn : {R : Type 0} → Option (MutBor R) → LeftOf R → (R → R → Type 0) → Type 0
 IsHandedIn None left Such = ⊥
 IsHandedIn (Some input) (inr (inl left)) Such = Such input.now left.0.now
 IsHandedIn (Some input) other Such = ⊥
@@ -43,12 +47,13 @@ pub record IsRead (remaining : Option (List ℕ)) (bytes : List ℕ) : Type 0 wh
 abbrev pub IsSomeRead : (remaining : Option (List ℕ)) → (read : Option (List ℕ)) → Type 0
 IsSomeRead remaining read = (bytes : List ℕ) × (read ≡ Some bytes) × IsRead remaining bytes
 
--- What was read of an input that may be handed in, which tells this of what is left: nothing where it is not.
+-- This was read of an input that may be handed in: nothing where there is none, and else its bytes, as far as it tells them.
 abbrev pub IsReadIfAny : {R : Type 0} → (R → Option (List ℕ)) → Option (MutBor R) → (read : Option (List ℕ)) → Type 0
 IsReadIfAny remaining None read = read ≡ None
 IsReadIfAny remaining (Some input) read = IsSomeRead (remaining input.now) read
 
--- These bytes of the inputs were read, of the tree's as is said of it; the audit answers this of them, and the answer was told.
+-- Some bytes were read of the capture and of the order, and of the tree what `Tree` says; the audit answers this of them, and the
+-- answer was told.
 pub record IsAudited (capture : Option (List ℕ)) (Tree : Option (List ℕ) → Type 0) (order old new : Option (List ℕ)) (status : ℕ) : Type 0 where
   pub capture_bytes : List ℕ
   pub tree_bytes : Option (List ℕ)

@@ -1,6 +1,6 @@
 -- The answers of the audit, each by what it says of the capture, of the tree text if one is handed in, and of the order text. It
 -- is the page to read first: each of its words stands one step away.
-use Rattle.std.specs.Prelude.{◌≡◌, ℕ, ◌⊎◌, List, Option, None, Some, Result, Ok, Err}
+use Rattle.std.specs.Prelude.{◌≡◌, ℕ, ◌⊎◌, List, length, Option, None, Some, Result, Ok, Err}
 use Rattle.fa_capture.specs.Message.{Message}
 use Rattle.fa_ledger.specs.Passing.{IsGoodCapture, IsFirstFault}
 use Rattle.fa_tree.specs.State.{TreeState}
@@ -10,8 +10,10 @@ use Rattle.fa_order.specs.Order.{IsOrderText, IsOrderFault}
 use Rattle.fa_order.specs.TreeText.{IsTreeText, IsTreeFault}
 use Rattle.fa_check.specs.declared.verdict.Verdict.{Verdict}
 use Rattle.fa_check.specs.declared.verdict.Verdict.TheVariants.{Legal, Fault, NotShown}
+use Rattle.fa_check.specs.Orders.{IsValidOrder}
+use Rattle.fa_check.specs.Runs.{Runs}
 use Rattle.fa_check.specs.Faults.{IsOrderAtFault}
-use Rattle.fa_check.specs.Verdicts.{IsLegalWith}
+use Rattle.fa_check.specs.Verdicts.{Counts, IsUnansweredUnplaced}
 use Rattle.fa_audit.specs.declared.judge.TheConstants.{ROOT_BITS}
 use Rattle.fa_audit.specs.declared.verdict.AuditError.{AuditError}
 use Rattle.fa_audit.specs.declared.verdict.AuditError.TheVariants.{OrderText, TreeText, Memory}
@@ -29,11 +31,16 @@ IsGivenTree (Some text) first = IsTreeText text first
 pub record IsLegal (capture : List ℕ) (tree : Option (List ℕ)) (order : List ℕ) (messages placed left : ℕ) : Type 0 where
   pub c : List Message
   pub first : TreeState
+  pub last : TreeState
   pub entries : List Entry
   pub good : IsGoodCapture capture c
   pub given : IsGivenTree tree first
   pub text : IsOrderText order entries
-  pub legal : IsLegalWith c first entries messages placed left
+  pub valid : IsValidOrder c entries
+  pub run : Runs first last c entries
+  pub messages_are : messages ≡ length c
+  pub placed_are : placed ≡ length entries
+  pub left_are : Counts (IsUnansweredUnplaced c entries) left
 
 -- the capture is good, and the tree text that is handed in is at fault in this line
 pub record IsTreeTextAtFault (capture : List ℕ) (tree : Option (List ℕ)) (line : ℕ) : Type 0 where
@@ -51,8 +58,8 @@ pub record IsOrderTextAtFault (capture : List ℕ) (tree : Option (List ℕ)) (o
   pub given : IsGivenTree tree first
   pub fault : IsOrderFault order line
 
--- The capture is good, the texts are in their grammar, and this is the first entry at fault; or the number of the entries and the
--- least answered request that they leave out.
+-- The capture is good, the texts are in their grammar, and this is the first entry at fault with the first check that it fails; or
+-- the number of the entries and, with the code ANSWERED_LEFT_OUT, the least answered request that they leave out.
 pub record IsNotShown (capture : List ℕ) (tree : Option (List ℕ)) (order : List ℕ) (entry at code : ℕ) : Type 0 where
   pub c : List Message
   pub first : TreeState
@@ -62,7 +69,8 @@ pub record IsNotShown (capture : List ℕ) (tree : Option (List ℕ)) (order : L
   pub text : IsOrderText order entries
   pub fault : IsOrderAtFault c first entries entry at code
 
--- what each answer says; that memory was refused is no answer
+-- What each answer says. The fault of a capture is at the least number of a message that does not keep the protocol, with the
+-- first check that it fails, or where the framing ends. That memory was refused is no answer.
 abbrev pub IsAnswer : (capture : List ℕ) → (tree : Option (List ℕ)) → (order : List ℕ) → Result Verdict AuditError → Type 0
 IsAnswer capture tree order (Ok (Legal messages placed left)) = IsLegal capture tree order messages placed left
 IsAnswer capture tree order (Ok (Fault at code)) = IsFirstFault capture at code

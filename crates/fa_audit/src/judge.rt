@@ -29,9 +29,9 @@ pub const ROOT_BITS: u16 = 0o755;
 ///
 /// - [`Verdict::Fault`] exactly where the capture is not good: at the least number of a message that does not pass or
 ///   of the framing fault, with the first check that it fails, as one of [`codes`](fa_capture::codes).
-/// - [`Verdict::NotShown`] exactly where the capture is good and the texts are in their grammar, at the first entry
-///   that fails a check, with the first such check, or after all entries at the least answered request that they
-///   leave out.
+/// - [`Verdict::NotShown`] exactly where the capture is good, the texts are in their grammar, and an entry fails a check or an
+///   answered request is in no entry: at the first such entry, with the first check that it fails, or after all entries at the
+///   least such request.
 /// - [`Verdict::Legal`] exactly where the capture is good, the texts are in their grammar and the entries are a valid
 ///   order and a run of the tree machine from that tree that gives each recorded reply.
 ///

@@ -15,6 +15,8 @@ mod judge;
 pub mod laws;
 mod line;
 mod protocol;
+#[cfg(test)]
+mod rows;
 mod run;
 mod status;
 mod verdict;

@@ -217,8 +217,8 @@ fn run_on_tree<R: Input, W: Output>(
 /// the capture, and 3 where the tree text or the order text is not in its grammar. All inputs are read to their end before
 /// anything is judged. No mark of an input or of the output is set at the call.
 ///
-/// Which bytes were read and written is said where the inputs and the output tell their bytes, as those over memory
-/// do. Files do not: of them it is said that the line and the status are those of one answer on some bytes.
+/// Which bytes were read and written is said where the inputs and the output tell their bytes, as those over memory do. Files and
+/// standard output do not: of a call on them it is said alone that the status is that of an answer on some bytes.
 ///
 /// # Errors
 ///
@@ -226,7 +226,7 @@ fn run_on_tree<R: Input, W: Output>(
 /// - [`RunFault::Write`] where the output did not take the whole line.
 /// - [`RunFault::Memory`] where memory was refused.
 ///
-/// Nothing was written at `Read` and `Memory`. At `Write` nothing is said of what went out.
+/// Nothing was written at `Read` and `Memory`, where the output tells its bytes. At `Write` nothing is said of what went out.
 ///
 /// # Cost
 ///
