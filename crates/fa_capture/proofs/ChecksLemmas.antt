@@ -1,5 +1,5 @@
 -- Ordered checks: lists of them one after the other, and rules that are checked in two ways.
-use Rattle.std.proofs.Common.{◌≡◌, ℕ, List, [], ◌∷◌, ◌++◌, inl, inr, sym, ◌∙◌}
+use Rattle.std.proofs.Common.{◌≡◌, ◌⊎◌, ℕ, List, [], ◌∷◌, ◌++◌, inl, inr, refl, sym, ◌∙◌}
 use Rattle.fa_capture.specs.Checks.{FirstFailure, AllHold, checks_of}
 
 -- ---- the code that is told
@@ -18,6 +18,30 @@ one_failure (c ∷ later) a b fails others =
       | inl here ↦ elim others [ inl too ↦ here.1 ∙ sym too.1 | inr past ↦ absurd (here.0 past.0) ]
       | inr past ↦ elim others [ inl here ↦ absurd (here.0 past.0) | inr too ↦ one_failure later a b past.1 too.1 ]
     ]
+
+-- each check holds or does not
+abbrev pub AreDecided : List (ℕ × Type 0) → Type 0
+AreDecided [] = Unit {0}
+AreDecided (c ∷ later) = (c.1 ⊎ ¬ c.1) × AreDecided later
+
+-- then all hold, or one is the first that fails
+pub decided_either : (checks : List (ℕ × Type 0)) → AreDecided checks → AllHold checks ⊎ ((code : ℕ) × FirstFailure checks code)
+decided_either [] decided = inl tt
+decided_either (check ∷ later) decided =
+    elim decided.0 [
+      | inr fails ↦ inr (check.0, inl (fails, refl))
+      | inl holds ↦ elim (decided_either later decided.1) [ inl all ↦ inl (holds, all) | inr first ↦ inr (first.0, inr (holds, first.1)) ]
+    ]
+
+-- checks never neither hold nor have one that is the first to fail
+pub checks_either : (checks : List (ℕ × Type 0)) → ((AllHold checks ⊎ ((code : ℕ) × FirstFailure checks code)) → ⊥) → ⊥
+checks_either [] neither = neither (inl tt)
+checks_either (check ∷ later) neither =
+    let fails : ¬ check.1 = λ holds. checks_either later (λ rest. elim rest [
+      | inl all ↦ neither (inl (holds, all))
+      | inr first ↦ neither (inr (first.0, inr (holds, first.1)))
+    ]) in
+    neither (inr (check.0, inl (fails, refl)))
 
 -- ---- checks one after the other
 

@@ -2,4 +2,5 @@ pub mod CallerLemmas
 pub mod ChecksLemmas
 pub mod FramingLemmas
 pub mod ReadingLemmas
+pub mod ReadingThereLemmas
 pub mod PullLemmas

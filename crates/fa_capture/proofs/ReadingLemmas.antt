@@ -41,7 +41,7 @@ stated_is m y fits =
     let four : take 4 (drop 1 (record_spelling m ++ y)) ≡ to_le_bytes w32 (length m.bytes) = refl in
     ap (from_le_bytes w32) four ∙ from_le_bytes-to_le_bytes_4 (length m.bytes) fits
 
-record_length : (m : Message) → length (record_spelling m) ≡ 5 + length m.bytes
+pub record_length : (m : Message) → length (record_spelling m) ≡ 5 + length m.bytes
 record_length m = omega (arith, length-append (to_le_bytes w32 (length m.bytes)) m.bytes)
 
 -- the messages, and one more: their spelling
@@ -187,7 +187,7 @@ whole_or_not bytes ms fault whole f =
     let a = f.2 (has_magic bytes ms [] ended) in
     a.1 (append_cancel_left (capture_spelling ms) a.0 [] (sym a.2 ∙ ended))
 
-magic_or_not : (bytes : List ℕ) → HasMagic bytes ⊎ (HasMagic bytes → ⊥)
+pub magic_or_not : (bytes : List ℕ) → HasMagic bytes ⊎ (HasMagic bytes → ⊥)
 magic_or_not bytes = magic_of_test bytes (bytes_eq (take 8 bytes) magic) refl
 
 same_packets : (bytes : List ℕ) (ms others : List Message) → ArePackets bytes ms → ArePackets bytes others → ms ≡ others

@@ -1,5 +1,5 @@
 -- What a capture's bytes hold: its packets, and the fault that ends them. The order of the checks is this profile's.
-use Rattle.std.specs.Prelude.{◌≡◌, ◌≢◌, ℕ, ◌+◌, ◌<◌, ◌≤◌, List, [], ◌∷◌, ◌++◌, length, take, drop, slice_index, Option, None, Some}
+use Rattle.std.specs.Prelude.{◌≡◌, ◌≢◌, ℕ, ◌+◌, ◌<◌, ◌≤◌, List, [], ◌∷◌, ◌++◌, length, take, drop, slice_index, All, Option, None, Some}
 use Rattle.std.specs.Int.{w32, from_le_bytes}
 use Rattle.fa_capture.specs.declared.codes.TheConstants.{NO_MAGIC, CUT_OFF, DIRECTION, MESSAGE_TOO_LONG, CAPTURE_TOO_LARGE}
 use Rattle.fa_capture.specs.declared.limits.TheConstants.{MAX_MESSAGES, MAX_MESSAGE_BYTES, MAX_CAPTURE_BYTES}
@@ -62,3 +62,7 @@ pub record IsReading (bytes : List ℕ) (ms : List Message) (fault : Option Capt
 -- two readings of the same bytes agree
 abbrev pub OneReading : Type 0
 OneReading = (bytes : List ℕ) (ms others : List Message) (fault other : Option CaptureFault) → IsReading bytes ms fault → IsReading bytes others other → (ms ≡ others) × (fault ≡ other)
+
+-- Bytes have a reading: a list with a number above 255 is none of bytes.
+abbrev pub ReadingIsThere : Type 0
+ReadingIsThere = (bytes : List ℕ) → All (λ b. b < 256) bytes → (ms : List Message) × (fault : Option CaptureFault) × IsReading bytes ms fault
