@@ -28,6 +28,9 @@ pub use Rattle.fa_ledger.proofs.ListedLemmas.{uses_is_one, listed_is_one, listin
 -- calls, and one event more
 pub use Rattle.fa_ledger.proofs.CallLemmas.{call_at, call_with, call_is_one, calls_of_are_one, calls_are_one}
 pub use Rattle.fa_ledger.proofs.CallStepLemmas.{call_kept, calls_kept, calls_asked, calls_answered}
+-- messages that are allowed have events, and good ones have never no calls
+pub use Rattle.fa_ledger.proofs.EventThereLemmas.{events_are_there}
+pub use Rattle.fa_ledger.proofs.ThereLemmas.{calls_are_there}
 -- items one after the other
 pub use Rattle.fa_ledger.proofs.TakingLemmas.{moved_on}
 pub use Rattle.fa_ledger.proofs.GivingLemmas.{all_at}

@@ -82,8 +82,8 @@ since_counted es node g since =
 
 -- ---- names
 
--- the first events, and one more of them
-pub take_more : (es : List PlainEvent) (n : ℕ) (e : PlainEvent) → slice_get es n ≡ Some e → take (suc n) es ≡ take n es ++ e ∷ []
+-- the first of a list, and one more of them
+pub take_more : {X : Type 0} (es : List X) (n : ℕ) (e : X) → slice_get es n ≡ Some e → take (suc n) es ≡ take n es ++ e ∷ []
 take_more [] n e there = absurd cc
 take_more (x ∷ es) zero e there = let same : x ≡ e = cc in cc
 take_more (x ∷ es) (suc n) e there = let later = take_more es n e there in cc

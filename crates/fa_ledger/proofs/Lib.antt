@@ -12,6 +12,10 @@ pub mod NodeLemmas
 pub mod CallStepLemmas
 pub mod SoFarLemmas
 pub mod ListedThereLemmas
+pub mod EventThereLemmas
+pub mod BalanceLemmas
+pub mod AskedThereLemmas
+pub mod ThereLemmas
 pub mod CountLemmas
 pub mod CallListLemmas
 pub mod ListingLemmas

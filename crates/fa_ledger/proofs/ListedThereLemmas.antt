@@ -18,7 +18,7 @@ use Rattle.fa_ledger.proofs.CallStepLemmas.{asked_later}
 use Rattle.fa_ledger.proofs.SoFarLemmas.{answered_offset}
 
 -- where a part reaches the offset, and at most so many events stand from its reply on, there is a last one
-last_there : (es : List PlainEvent) (handle offset k : ℕ) (part : Part) → ReachesOffset es handle offset part → length es ≤ part.at + k
+pub last_there : (es : List PlainEvent) (handle offset k : ℕ) (part : Part) → ReachesOffset es handle offset part → length es ≤ part.at + k
     → ((last : Part) → IsLastPart es handle offset last → ⊥) → ⊥
 last_there es handle offset zero part reaches long none =
     omega (arith, long, slice_get_within es part.at (Answered part.at part.asked part.request (Listed part.entries)) reaches.there)

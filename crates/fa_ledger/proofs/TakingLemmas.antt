@@ -20,7 +20,7 @@ pub record AreLowered (front : List (ℕ × ℕ)) (old now : List (ℕ × Lookup
 
 -- ---- sums
 
-total_both : (node : ℕ) (xs ys : List (ℕ × ℕ)) → total_taken node (xs ++ ys) ≡ total_taken node xs + total_taken node ys
+pub total_both : (node : ℕ) (xs ys : List (ℕ × ℕ)) → total_taken node (xs ++ ys) ≡ total_taken node xs + total_taken node ys
 total_both node [] ys = omega arith
 total_both node (x ∷ xs) ys = let later = total_both node xs ys in omega (arith, later)
 

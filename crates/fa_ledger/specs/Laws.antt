@@ -5,6 +5,7 @@ use Rattle.fa_capture.specs.Message.{Message}
 use Rattle.fa_bodies.specs.Dirents.{PlainDirent}
 use Rattle.fa_bodies.specs.Requests.{PlainRequest}
 use Rattle.fa_bodies.specs.Replies.{PlainReply}
+use Rattle.fa_session.specs.Allowed.{EachAllowed}
 use Rattle.fa_session.specs.Events.{PlainEvent}
 use Rattle.fa_session.specs.Events.PlainEvent.{Answered}
 use Rattle.fa_ledger.specs.declared.call.Listing.{Listing}
@@ -15,6 +16,7 @@ use Rattle.fa_ledger.specs.Names.{name_at, IsNamedBy}
 use Rattle.fa_ledger.specs.Handles.{IsHandle}
 use Rattle.fa_ledger.specs.Listings.{UsesHandle, IsListedSoFar, IsListingIfAny, IsFirstWith, offset_asked, count_to}
 use Rattle.fa_ledger.specs.Calls.{PlainCall, IsCall, AreCalls, AreCallsOf}
+use Rattle.fa_ledger.specs.Passing.{AreGood}
 use Rattle.fa_ledger.specs.SoFar.{listing_so_far}
 
 -- A node other than the root has the name of the least event since which it is counted, and has one where there is one.
@@ -26,9 +28,17 @@ NameIsLeast =
 abbrev pub EventsAreOne : Type 0
 EventsAreOne = (c : List Message) (es others : List PlainEvent) → AreEvents c es → AreEvents c others → es ≡ others
 
+-- Messages that the session allows have a list of events.
+abbrev pub EventsAreThere : Type 0
+EventsAreThere = (c : List Message) → EachAllowed c → (es : List PlainEvent) × AreEvents c es
+
 -- Messages have one list of calls at most.
 abbrev pub CallsAreOne : Type 0
 CallsAreOne = (c : List Message) (calls others : List PlainCall) → AreCalls c calls → AreCalls c others → calls ≡ others
+
+-- Good messages have never no calls.
+abbrev pub CallsAreThere : Type 0
+CallsAreThere = (c : List Message) → AreGood c → ((calls : List PlainCall) → AreCalls c calls → ⊥) → ⊥
 
 -- The name of a node, the name of a file handle and the listing of a request as of a message depend on the messages before
 -- it alone: where two lists of messages have the same first ones, they have the same events there, and so the same names and

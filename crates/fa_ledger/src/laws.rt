@@ -1,6 +1,6 @@
 //! What holds of names, events, listings and calls. Each function does nothing: its contract is the law.
 
-ghost use Rattle.fa_ledger.specs.Laws.{NameIsLeast, EventsAreOne, CallsAreOne, NamesLookBack, CallsStay, ListedIsOne, ListedIsThere, CountIsFirst, CallsListSoFar};
+ghost use Rattle.fa_ledger.specs.Laws.{NameIsLeast, EventsAreOne, EventsAreThere, CallsAreOne, CallsAreThere, NamesLookBack, CallsStay, ListedIsOne, ListedIsThere, CountIsFirst, CallsListSoFar};
 
 /// A node other than the root has the name of the least event since which it is counted.
 pub fn name_is_least()
@@ -12,9 +12,19 @@ pub fn events_are_one()
     ensures { EventsAreOne }
 {}
 
+/// Messages that the session allows have a list of events.
+pub fn events_are_there()
+    ensures { EventsAreThere }
+{}
+
 /// Messages have one list of calls at most.
 pub fn calls_are_one()
     ensures { CallsAreOne }
+{}
+
+/// Good messages have never no calls.
+pub fn calls_are_there()
+    ensures { CallsAreThere }
 {}
 
 /// The names of nodes, the names of file handles and the listings of requests, as of a message, depend on the messages
