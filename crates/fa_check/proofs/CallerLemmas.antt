@@ -10,6 +10,8 @@ use Rattle.fa_check.specs.Faults.{IsOrderAtFault}
 use Rattle.fa_check.specs.Verdicts.{IsLegalWith, IsVerdict, Exactly}
 -- an order has one verdict
 pub use Rattle.fa_check.proofs.VerdictLemmas.{verdict_is_one}
+-- and never none, where the messages are good
+pub use Rattle.fa_check.proofs.ThereLemmas.{verdict_is_there}
 
 -- what `check` answers is the verdict
 pub verdict_told : (c : List Message) (first : TreeState) (es : List Entry) (result : Result Verdict AllocError) (verdict : Verdict) → result ≡ Ok verdict

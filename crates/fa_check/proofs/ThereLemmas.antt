@@ -1,17 +1,18 @@
 -- There is never no verdict.
-use Rattle.std.proofs.Common.{◌≡◌, ℕ, zero, suc, ◌<◌, ◌⊎◌, List, [], ◌∷◌, ◌++◌, length, refl, sym, ap, subst, ◌∙◌, inl, inr, append_assoc, append-nil, arith}
+use Rattle.std.proofs.Common.{◌≡◌, ℕ, zero, suc, ◌<◌, List, [], ◌∷◌, ◌++◌, length, refl, sym, ap, subst, ◌∙◌, inl, inr, append_assoc, append-nil, arith}
 use Rattle.std.specs.Prelude.{map, AllPairs, Contains}
 use Rattle.std.specs.List.Sorted.{IsStrictlyIncreasing}
 use Rattle.std.proofs.lemmas.Bool.{cases_lt}
 use Rattle.std.proofs.lemmas.List.{length-append}
 use Rattle.std.proofs.lemmas.List.Kept.{AllPairs-from_increasing}
 use Rattle.fa_capture.specs.declared.codes.TheConstants.{ANSWERED_LEFT_OUT}
-use Rattle.fa_capture.specs.Checks.{FirstFailure, AllHold}
 use Rattle.fa_capture.specs.Message.{Message}
+use Rattle.fa_capture.proofs.CallerLemmas.{checks_either}
 use Rattle.fa_ledger.specs.Passing.{AreGood}
 use Rattle.fa_ledger.specs.Calls.{PlainCall, AreCalls}
 use Rattle.fa_ledger.specs.SoFar.{listing_so_far}
 use Rattle.fa_ledger.proofs.CallStepLemmas.{request_event}
+use Rattle.fa_ledger.proofs.CallerLemmas.{calls_are_there}
 use Rattle.fa_tree.specs.State.{TreeState}
 use Rattle.fa_tree.specs.Steps.{Steps, step_checks}
 use Rattle.fa_tree.proofs.LawLemmas.{steps_where_all_hold}
@@ -30,16 +31,6 @@ use Rattle.fa_check.proofs.EntryLemmas.{each_more}
 use Rattle.fa_check.proofs.EndLemmas.{cons_rises}
 
 -- ---- what can't be refused
-
--- Checks hold, or one is the first that fails.
-checks_either : (checks : List (ℕ × Type 0)) → ((AllHold checks ⊎ ((code : ℕ) × FirstFailure checks code)) → ⊥) → ⊥
-checks_either [] neither = neither (inl tt)
-checks_either (check ∷ later) neither =
-    let fails : ¬ check.1 = λ holds. checks_either later (λ rest. elim rest [
-      | inl all ↦ neither (inl (holds, all))
-      | inr first ↦ neither (inr (first.0, inr (holds, first.1)))
-    ]) in
-    neither (inr (check.0, inl (fails, refl)))
 
 -- Of numbers that rise those that are such can be picked.
 picked : (Such : ℕ → Type 0) (xs : List ℕ) → AllPairs (λ a b. a < b) xs
@@ -149,5 +140,6 @@ module _ (c : List Message) (calls : List PlainCall) (first : TreeState) (good :
       ])
 
 pub verdict_is_there : VerdictIsThere
-verdict_is_there c calls first es good are none =
-    goes_on c calls first good are es none es [] first refl (λ earlier later e same. absurd (let long = ap length same in omega (arith, long, length-append earlier (e ∷ later)))) refl
+verdict_is_there c first es good none =
+    calls_are_there c good (λ calls are.
+    goes_on c calls first good are es none es [] first refl (λ earlier later e same. absurd (let long = ap length same in omega (arith, long, length-append earlier (e ∷ later)))) refl)

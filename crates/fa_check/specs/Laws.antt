@@ -3,7 +3,6 @@ use Rattle.std.specs.Prelude.{◌≡◌, ◌↔◌, ℕ, List}
 use Rattle.fa_capture.specs.declared.codes.TheConstants.{UNKNOWN_HERE}
 use Rattle.fa_capture.specs.Message.{Message}
 use Rattle.fa_ledger.specs.Passing.{AreGood}
-use Rattle.fa_ledger.specs.Calls.{PlainCall, AreCalls}
 use Rattle.fa_tree.specs.State.{TreeState}
 use Rattle.fa_order.specs.declared.entry.Entry.{Entry}
 use Rattle.fa_check.specs.declared.verdict.Verdict.{Verdict}
@@ -36,10 +35,10 @@ VerdictIsOne =
     (c : List Message) (first : TreeState) (es : List Entry) (verdict other : Verdict)
     → IsVerdict c first es verdict → IsVerdict c first es other → verdict ≡ other
 
--- Good messages that have calls, a first tree and an order have never no verdict.
+-- Good messages, a first tree and an order have never no verdict.
 abbrev pub VerdictIsThere : Type 0
 VerdictIsThere =
-    (c : List Message) (calls : List PlainCall) (first : TreeState) (es : List Entry) → AreGood c → AreCalls c calls
+    (c : List Message) (first : TreeState) (es : List Entry) → AreGood c
     → ((verdict : Verdict) → IsVerdict c first es verdict → ⊥) → ⊥
 
 -- The tree knows what the call of an entry names, where the entry's place is right: a file for each node, and the open directory
