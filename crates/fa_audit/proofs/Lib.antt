@@ -1,5 +1,6 @@
 pub mod ProtocolLemmas
 pub mod OneAnswer
+pub mod AnswerThere
 pub mod AuditLemmas
 pub mod CodedLemmas
 pub mod CommandLineLemmas

@@ -1,6 +1,6 @@
 -- The answers of the audit, each by what it says of the capture, of the tree text if one is handed in, and of the order text. It
 -- is the page to read first: each of its words stands one step away.
-use Rattle.std.specs.Prelude.{◌≡◌, ℕ, ◌⊎◌, List, length, Option, None, Some, Result, Ok, Err}
+use Rattle.std.specs.Prelude.{◌≡◌, ℕ, ◌<◌, ◌⊎◌, List, All, length, Option, None, Some, Result, Ok, Err}
 use Rattle.fa_capture.specs.Message.{Message}
 use Rattle.fa_ledger.specs.Passing.{IsGoodCapture, IsFirstFault}
 use Rattle.fa_tree.specs.State.{TreeState}
@@ -90,3 +90,9 @@ abbrev pub OneAnswer : Type 0
 OneAnswer =
     (capture : List ℕ) (tree : Option (List ℕ)) (order : List ℕ) (a b : Result Verdict AuditError)
     → IsAnswer capture tree order a → IsAnswer capture tree order b → a ≡ b
+
+-- A capture of bytes, a tree text or none and an order text have never no answer. A list with a number above 255 is none of bytes.
+abbrev pub AnswerIsThere : Type 0
+AnswerIsThere =
+    (capture : List ℕ) (tree : Option (List ℕ)) (order : List ℕ) → All (λ b. b < 256) capture
+    → ((answer : Result Verdict AuditError) → IsAnswer capture tree order answer → ⊥) → ⊥
