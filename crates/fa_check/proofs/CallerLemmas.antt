@@ -12,6 +12,10 @@ use Rattle.fa_check.specs.Verdicts.{IsLegalWith, IsVerdict, Exactly}
 pub use Rattle.fa_check.proofs.VerdictLemmas.{verdict_is_one}
 -- and never none, where the messages are good
 pub use Rattle.fa_check.proofs.ThereLemmas.{verdict_is_there}
+-- a run leads to one tree
+pub use Rattle.fa_check.proofs.RunLemmas.{run_is_one, run_more, run_at}
+-- what may come next, and what a replay says of it
+pub use Rattle.fa_check.proofs.FrontLemmas.{may_come_next, comes_before_front, replayed_step, refused_no_step, entries_within, all_before_front, left_at_front}
 
 -- what `check` answers is the verdict
 pub verdict_told : (c : List Message) (first : TreeState) (es : List Entry) (result : Result Verdict AllocError) (verdict : Verdict) → result ≡ Ok verdict

@@ -17,8 +17,9 @@ use Rattle.fa_check.specs.declared.placing.Placing.{Placing}
 use Rattle.fa_check.specs.Orders.{IsTreeRequestAt, numbers}
 use Rattle.fa_check.specs.Faults.{IsAnsweredUnplaced, IsOrderAtFault}
 use Rattle.fa_check.specs.Verdicts.{AreMessagesOf, IsUnansweredUnplaced, Counts, IsLegalWith}
-use Rattle.fa_check.specs.parts.Marks.{IsUnset, count_set}
-use Rattle.fa_check.specs.parts.Placing.{IsCallOf, IsAnswerAt, IsReplayed, IsLeastLeft}
+use Rattle.fa_check.specs.Marks.{IsUnset, count_set}
+use Rattle.fa_check.specs.Replays.{IsCallOf, IsAnswerAt, IsReplayed}
+use Rattle.fa_check.specs.parts.Placing.{IsLeastLeft}
 use Rattle.fa_check.proofs.ListLemmas.{contains_cases, contains_first, contains_behind}
 use Rattle.fa_check.proofs.OrderLemmas.{valid_where_each_is_placed}
 use Rattle.fa_check.proofs.MarkLemmas.{set_or_unset, not_both}

@@ -23,13 +23,50 @@ use Rattle.fa_check.specs.declared.placing.Placing.{Placing}
 use Rattle.fa_check.specs.Orders.{IsTreeRequestAt, numbers, IsChoice}
 use Rattle.fa_check.specs.Runs.{EntrySteps}
 use Rattle.fa_check.specs.Faults.{order_checks, EachPlaced}
-use Rattle.fa_check.specs.parts.Marks.{IsSet, IsUnset}
-use Rattle.fa_check.specs.parts.Placing.{IsCallOf, IsAnswerAt, AnswersUnplaced, IsPlacing, place_checks, ArePlaced, IsReplayed, NextFails}
+use Rattle.fa_check.specs.Marks.{IsSet, IsUnset}
+use Rattle.fa_check.specs.Replays.{IsCallOf, IsAnswerAt, AnswersUnplaced, IsPlacing, ArePlaced, IsReplayed, NextFails}
+use Rattle.fa_check.specs.parts.Placing.{place_checks}
 use Rattle.fa_check.proofs.ListLemmas.{get_set_same, get_set_other, get_set_back, snoc_cases}
 use Rattle.fa_check.proofs.OrderLemmas.{number_more, number_still, number_now}
 use Rattle.fa_check.proofs.RunLemmas.{run_more}
 use Rattle.fa_check.proofs.MarkLemmas.{set_or_unset, not_both}
 use Rattle.fa_check.proofs.MessageLemmas.{call_is_tree, tree_is_call, call_request, call_answered, call_unanswered, answered_call, call_of_message}
+
+-- ---- the choice of an entry
+
+module _ (c : List Message) (calls : List PlainCall) (are : AreCalls c calls) (e : Entry) where
+  -- its choice is allowed
+  pub allowed_choice : (place : ℕ) (call : PlainCall) → slice_get calls place ≡ Some call → call.asked ≡ e.at → Allows call e.wrote → IsChoice c e
+  allowed_choice place call there asked allowed = by call.answer refl
+    where
+      by : (answer : Option PlainAnswer) → call.answer ≡ answer → IsChoice c e
+      by None is =
+          let free : IsUnanswered c e.at = subst (IsUnanswered c) asked (call_unanswered c calls are place call there is) in
+          let may : MayBePlaced call.request.body e.wrote = subst (λ a. AllowsBy a call.request.body e.wrote) is allowed in
+          record {
+            answered = λ q answered. absurd (free q answered);
+            unanswered = λ _ r sent.
+                let same : r ≡ call.request = call_request c calls are place call r there (subst (λ n. IsRequestAt c n r) (sym asked) sent) in
+                subst (λ (x : PlainRequest). MayBePlaced x.body e.wrote) (sym same) may;
+          }
+      by (Some answer) is =
+          let none : e.wrote ≡ None = subst (λ a. AllowsBy a call.request.body e.wrote) is allowed in
+          let by_answer : IsAnsweredBy c e.at answer.at = subst (λ n. IsAnsweredBy c n answer.at) asked (call_answered c calls are place call answer there is) in
+          record { answered = λ q answered. none; unanswered = λ free r sent. absurd (free answer.at by_answer) }
+
+  pub choice_allowed : IsChoice c e → (place : ℕ) (call : PlainCall) → slice_get calls place ≡ Some call → call.asked ≡ e.at → Allows call e.wrote
+  choice_allowed choice place call there asked = by call.answer refl
+    where
+      by : (answer : Option PlainAnswer) → call.answer ≡ answer → AllowsBy call.answer call.request.body e.wrote
+      by None is =
+          let free : IsUnanswered c e.at = subst (IsUnanswered c) asked (call_unanswered c calls are place call there is) in
+          let tree = call_is_tree c calls are place call there in
+          let same : tree.0 ≡ call.request = call_request c calls are place call tree.0 there tree.1 in
+          let sent : IsRequestAt c e.at call.request = subst (λ n. IsRequestAt c n call.request) asked (subst (IsRequestAt c call.asked) same tree.1) in
+          subst (λ a. AllowsBy a call.request.body e.wrote) (sym is) (choice.unanswered free call.request sent)
+      by (Some answer) is =
+          let by_answer : IsAnsweredBy c e.at answer.at = subst (λ n. IsAnsweredBy c n answer.at) asked (call_answered c calls are place call answer there is) in
+          subst (λ a. AllowsBy a call.request.body e.wrote) (sym is) (choice.answered answer.at by_answer)
 
 -- ---- the checks of an entry's place
 
@@ -53,7 +90,7 @@ module _ (c : List Message) (calls : List PlainCall) (are : AreCalls c calls) (e
       ]
 
   -- each that was answered before its request was sent is placed
-  waits_placed : ((q : ℕ) → AnswersUnplaced calls marks q → e.at ≤ q) → (p q : ℕ) → IsTreeRequestAt c p → IsAnsweredBy c p q → q < e.at → Contains (numbers es) p
+  pub waits_placed : ((q : ℕ) → AnswersUnplaced calls marks q → e.at ≤ q) → (p q : ℕ) → IsTreeRequestAt c p → IsAnsweredBy c p q → q < e.at → Contains (numbers es) p
   waits_placed late p q tree answered before =
       let found = tree_is_call c calls are p tree in
       let within : found.0 < length calls = slice_get_within calls found.0 found.1.0 found.1.1 in
@@ -74,45 +111,12 @@ module _ (c : List Message) (calls : List PlainCall) (are : AreCalls c calls) (e
         | inr behind ↦ behind
       ]
 
-  -- its choice is allowed
-  allowed_choice : (place : ℕ) (call : PlainCall) → slice_get calls place ≡ Some call → call.asked ≡ e.at → Allows call e.wrote → IsChoice c e
-  allowed_choice place call there asked allowed = by call.answer refl
-    where
-      by : (answer : Option PlainAnswer) → call.answer ≡ answer → IsChoice c e
-      by None is =
-          let free : IsUnanswered c e.at = subst (IsUnanswered c) asked (call_unanswered c calls are place call there is) in
-          let may : MayBePlaced call.request.body e.wrote = subst (λ a. AllowsBy a call.request.body e.wrote) is allowed in
-          record {
-            answered = λ q answered. absurd (free q answered);
-            unanswered = λ _ r sent.
-                let same : r ≡ call.request = call_request c calls are place call r there (subst (λ n. IsRequestAt c n r) (sym asked) sent) in
-                subst (λ (x : PlainRequest). MayBePlaced x.body e.wrote) (sym same) may;
-          }
-      by (Some answer) is =
-          let none : e.wrote ≡ None = subst (λ a. AllowsBy a call.request.body e.wrote) is allowed in
-          let by_answer : IsAnsweredBy c e.at answer.at = subst (λ n. IsAnsweredBy c n answer.at) asked (call_answered c calls are place call answer there is) in
-          record { answered = λ q answered. none; unanswered = λ free r sent. absurd (free answer.at by_answer) }
-
-  choice_allowed : IsChoice c e → (place : ℕ) (call : PlainCall) → slice_get calls place ≡ Some call → call.asked ≡ e.at → Allows call e.wrote
-  choice_allowed choice place call there asked = by call.answer refl
-    where
-      by : (answer : Option PlainAnswer) → call.answer ≡ answer → AllowsBy call.answer call.request.body e.wrote
-      by None is =
-          let free : IsUnanswered c e.at = subst (IsUnanswered c) asked (call_unanswered c calls are place call there is) in
-          let tree = call_is_tree c calls are place call there in
-          let same : tree.0 ≡ call.request = call_request c calls are place call tree.0 there tree.1 in
-          let sent : IsRequestAt c e.at call.request = subst (λ n. IsRequestAt c n call.request) asked (subst (IsRequestAt c call.asked) same tree.1) in
-          subst (λ a. AllowsBy a call.request.body e.wrote) (sym is) (choice.unanswered free call.request sent)
-      by (Some answer) is =
-          let by_answer : IsAnsweredBy c e.at answer.at = subst (λ n. IsAnsweredBy c n answer.at) asked (call_answered c calls are place call answer there is) in
-          subst (λ a. AllowsBy a call.request.body e.wrote) (sym is) (choice.answered answer.at by_answer)
-
   -- all checks hold by messages where they hold by calls
   pub hold_order : AllHold (place_checks calls marks e) → AllHold (order_checks c es e)
   hold_order hold =
       let found = hold.0 in (
         asked_tree found,
-        (unplaced_apart hold.1.0, (waits_placed hold.1.1.0, (allowed_choice found.0 found.1.0 found.1.1 found.1.2 (hold.1.1.1.0 found.0 found.1.0 found.1.1 found.1.2), tt))),
+        (unplaced_apart hold.1.0, (waits_placed hold.1.1.0, (allowed_choice c calls are e found.0 found.1.0 found.1.1 found.1.2 (hold.1.1.1.0 found.0 found.1.0 found.1.1 found.1.2), tt))),
       )
 
   -- and the first that fails is the same
@@ -121,7 +125,7 @@ module _ (c : List Message) (calls : List PlainCall) (are : AreCalls c calls) (e
       → FirstFailure ((CHOICE_NOT_ALLOWED, IsChoice c e) ∷ []) code
   fail_choice found code fails =
       elim fails [
-        | inl here ↦ inl ((λ choice. here.0 (choice_allowed choice)), here.1)
+        | inl here ↦ inl ((λ choice. here.0 (choice_allowed c calls are e choice)), here.1)
         | inr later ↦ absurd later.1
       ]
 

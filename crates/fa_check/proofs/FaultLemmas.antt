@@ -33,7 +33,7 @@ one_step_failure c tree e a b is too =
     one_failure (step_checks tree too.call e.wrote too.so_far) a b moved too.fails
 
 -- an entry that is placed and has its step is at no fault
-no_entry_failure : (c : List Message) (tree new : TreeState) (earlier : List Entry) (e : Entry) (code : ℕ) → AllHold (order_checks c earlier e) → EntrySteps tree new c e → EntryFails tree c earlier e code → ⊥
+pub no_entry_failure : (c : List Message) (tree new : TreeState) (earlier : List Entry) (e : Entry) (code : ℕ) → AllHold (order_checks c earlier e) → EntrySteps tree new c e → EntryFails tree c earlier e code → ⊥
 no_entry_failure c tree new earlier e code placed stepped fails =
     elim fails [
       | inl here ↦ no_failure (order_checks c earlier e) code placed here
@@ -57,7 +57,7 @@ one_entry_failure c tree earlier e a b fails others =
 -- ---- the first entry at fault
 
 -- entries that are all placed and are a run have none at fault
-placed_no_fault : (c : List Message) (first last : TreeState) (es : List Entry) (entry at code : ℕ) → EachPlaced c es → Runs first last c es → IsEntryAtFault c first es entry at code → ⊥
+pub placed_no_fault : (c : List Message) (first last : TreeState) (es : List Entry) (entry at code : ℕ) → EachPlaced c es → Runs first last c es → IsEntryAtFault c first es entry at code → ⊥
 placed_no_fault c first last es entry at code placed run f =
     let stepped = run_at c first last f.earlier f.later f.e (subst (λ xs. Runs first last c xs) f.parts run) in
     let same : f.tree ≡ stepped.0 = run_is_one c first f.tree stepped.0 f.earlier f.run stepped.2 in

@@ -6,7 +6,7 @@ use Rattle.std.proofs.lemmas.Bool.{cases_lt, cases_eq}
 use Rattle.fa_capture.specs.Message.{Message}
 use Rattle.fa_ledger.specs.Passing.{AreGood}
 use Rattle.fa_ledger.specs.Calls.{PlainCall, AreCalls}
-use Rattle.fa_check.specs.parts.Placing.{IsAnswerAt}
+use Rattle.fa_check.specs.Replays.{IsAnswerAt}
 use Rattle.fa_check.proofs.MessageLemmas as messages_say
 
 module _ (calls : List PlainCall) (messages : ℕ) (good : ∥ ((c : List Message) × AreGood c × (messages ≡ length c) × AreCalls c calls) ∥₁) where

@@ -8,6 +8,7 @@ pub mod GoodLemmas
 pub mod PlacingLemmas
 pub mod EntryLemmas
 pub mod EndLemmas
+pub mod FrontLemmas
 pub mod VerdictLemmas
 pub mod ThereLemmas
 pub mod KnownLemmas

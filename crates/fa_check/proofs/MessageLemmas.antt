@@ -26,7 +26,7 @@ use Rattle.fa_ledger.proofs.EventLemmas.{notice_no_reply}
 use Rattle.fa_ledger.proofs.SoFarLemmas.{calls_list_so_far}
 use Rattle.fa_check.specs.Orders.{IsTreeRequestAt}
 use Rattle.fa_check.specs.Runs.{IsListedFrom, IsCallAt}
-use Rattle.fa_check.specs.parts.Placing.{IsCallOf, IsAnswerAt}
+use Rattle.fa_check.specs.Replays.{IsCallOf, IsAnswerAt}
 use Rattle.fa_check.proofs.ListLemmas.{rising_within}
 
 -- ---- events of messages

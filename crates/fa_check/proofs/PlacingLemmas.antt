@@ -13,8 +13,9 @@ use Rattle.fa_ledger.specs.Choices.{Allows}
 use Rattle.fa_order.specs.declared.entry.Entry.{Entry}
 use Rattle.fa_check.specs.declared.placing.Placing.{Placing}
 use Rattle.fa_check.specs.declared.waiting.Waiting.{Waiting}
-use Rattle.fa_check.specs.parts.Marks.{IsSet, IsUnset, AreUnset, IsFirstSet, count_set}
-use Rattle.fa_check.specs.parts.Placing.{IsCallOf, IsAnswerAt, AreAnswers, AnswersUnplaced, IsPlacing, place_checks}
+use Rattle.fa_check.specs.Marks.{IsSet, IsUnset, AreUnset, IsFirstSet, count_set}
+use Rattle.fa_check.specs.Replays.{IsCallOf, IsAnswerAt, AnswersUnplaced, IsPlacing}
+use Rattle.fa_check.specs.parts.Placing.{AreAnswers, place_checks}
 use Rattle.fa_check.proofs.ListLemmas.{get_set_same, get_set_other, get_set_back}
 use Rattle.fa_check.proofs.MarkLemmas.{set_or_unset, not_both, count_below, count_more, count_none}
 use Rattle.fa_check.proofs.GoodLemmas as good_says
@@ -229,7 +230,7 @@ module _ (calls : List PlainCall) (messages : ℕ) (good : ∥ ((c : List Messag
       inr ((place, found), inr (unplaced s.marks.items place e.at found left, inl ((λ hold. let above = hold s.waiting.front ((shape.waiting s.waiting.front).0 first) in omega (arith, above, early)), refl)))
 
   -- no answer before the request waits
-  none_early : (s : Placing) (at : ℕ) → IsPlacing calls messages s → at ≤ s.waiting.front → (q : ℕ) → AnswersUnplaced calls s.marks.items q → at ≤ q
+  pub none_early : (s : Placing) (at : ℕ) → IsPlacing calls messages s → at ≤ s.waiting.front → (q : ℕ) → AnswersUnplaced calls s.marks.items q → at ≤ q
   none_early s at shape late q waits =
       elim (cases_lt q s.waiting.front) [
         | inl before ↦ absurd (not_both s.waiting.answers.items q ((shape.waiting q).1 waits) (shape.front.before q before))

@@ -19,8 +19,8 @@ use Rattle.fa_check.specs.declared.verdict.Verdict.TheVariants.{Legal, Fault, No
 use Rattle.fa_check.specs.Faults.{IsOrderAtFault}
 use Rattle.fa_check.specs.Verdicts.{AreMessagesOf, Counts, IsLegalWith, IsVerdict, Exactly}
 use Rattle.fa_check.specs.Laws.{VerdictIsOne}
-use Rattle.fa_check.specs.parts.Marks.{AreUnset}
-use Rattle.fa_check.specs.parts.Placing.{IsPlacing, IsReplayed, NextFails}
+use Rattle.fa_check.specs.Marks.{AreUnset}
+use Rattle.fa_check.specs.Replays.{IsPlacing, IsReplayed, NextFails}
 use Rattle.fa_check.specs.parts.Answers.{answer_to}
 use Rattle.fa_check.proofs.ListLemmas.{rising_same, take_one_more, parts_at}
 use Rattle.fa_check.proofs.MarkLemmas.{count_none}

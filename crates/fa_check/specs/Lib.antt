@@ -8,6 +8,10 @@ pub mod Runs
 pub mod Faults
 -- what is answered
 pub mod Verdicts
+-- which marks of a list are set
+pub mod Marks
+-- how far an order is placed, entry by entry
+pub mod Replays
 -- what follows from the definitions alone
 pub mod Laws
 -- the vocabulary of private contracts

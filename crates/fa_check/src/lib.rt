@@ -8,4 +8,5 @@ mod verdict;
 mod waiting;
 
 pub use checking::check;
+pub use placing::Placing;
 pub use verdict::Verdict;

@@ -4,11 +4,13 @@ ghost use Rattle.std.specs.Prelude.{◌≡◌, ◌+◌, ◌++◌, ◌∷◌, [],
 ghost use Rattle.fa_capture.specs.Checks.{AllHold, FirstFailure};
 ghost use Rattle.fa_capture.specs.Message.{Message};
 ghost use Rattle.fa_ledger.specs.Calls.{call_shown};
+ghost use Rattle.fa_ledger.specs.declared.calls.Calls.{Calls as TheCalls};
 ghost use Rattle.fa_tree.specs.State.{TreeState};
 ghost use Rattle.fa_order.specs.declared.entry.Entry.{Entry as TheEntry};
 ghost use Rattle.fa_check.specs.Verdicts.{AreMessagesOf, IsVerdict};
-ghost use Rattle.fa_check.specs.parts.Marks.{IsUnset, AreUnset};
-ghost use Rattle.fa_check.specs.parts.Placing.{IsPlacing, IsCallOf, place_checks, IsLeastLeft, IsReplayed, NextFails};
+ghost use Rattle.fa_check.specs.Marks.{IsUnset};
+ghost use Rattle.fa_check.specs.Replays.{IsPlacing, IsCallOf, IsReplayed, NextFails, IsFront};
+ghost use Rattle.fa_check.specs.parts.Placing.{place_checks, IsLeastLeft};
 
 use crate::verdict::Verdict;
 use crate::waiting::{Waiting, unset};
@@ -18,22 +20,23 @@ use fa_order::Entry;
 use fa_tree::{StepError, Tree};
 use std::alloc::{AllocError, Global};
 
-/// Which calls are placed by the entries of an order so far.
+/// Which calls are placed by the entries of an order so far, one entry after the other.
 #[derive(Debug, Drop)]
-pub(crate) struct Placing {
+pub struct Placing {
     /// For each call, by its place in the list, whether it is placed.
     marks: Vec<bool>,
     /// The answers of those that are not.
     waiting: Waiting,
     /// How many are placed, which is how many entries there were.
-    pub count: u32,
+    pub(crate) count: u32,
 }
 
 impl Placing {
     /// None of these calls.
+    ///
+    /// `AllocError` where memory was refused. A byte for each message and each call, in linear time.
     pub fn new(alloc: Global, calls: &Calls<'_>) -> Result<Self, AllocError>
-        ensures shape { IfOk result (IsPlacing (map call_shown calls.now.list.items) calls.now.messages) }
-        ensures none { IfOk result (λ placing. AreUnset (length calls.now.list.items) placing.marks.items) }
+        ensures { IfOk result (λ placing. (first : TreeState) → IsReplayed calls.now first first [] placing) }
     {
         Ok(Placing {
             marks: unset(alloc, calls.list.len())?,
@@ -80,9 +83,31 @@ impl Placing {
         }
     }
 
-    /// Places the next entry, and takes the step of its call.
+    /// The number of the first message that answers a tree request which is not placed, or that of all messages where none
+    /// does. No request that was sent behind it may come next.
     ///
-    /// `Refused` tells the code of the first check that the entry fails, of its place or else of its step.
+    /// Takes no memory, in constant time.
+    pub fn front(&self) -> usize
+        ensures { (calls : TheCalls) (first tree : TreeState) (es : List TheEntry) → IsReplayed calls first tree es self.now → (c : List Message) → AreMessagesOf calls c → IsFront c es result }
+    {
+        self.waiting.front
+    }
+
+    /// Places the next entry of an order, and takes the step of its call from the tree that the entries before it left. The calls
+    /// are those of [`new`](Placing::new).
+    ///
+    /// # Errors
+    ///
+    /// Nothing is placed then, and the tree is as it was.
+    ///
+    /// - `Refused` with the code of the first check that the entry fails, of its place or else of its step
+    ///   ([`check`](crate::check) has them in order).
+    /// - `Memory` where memory was refused.
+    ///
+    /// # Cost
+    ///
+    /// Time logarithmic in the calls, beside that of the step. To find the next answer that waits, all entries of an order
+    /// together look at each message once.
     pub fn place(
         &mut self,
         calls: &Calls<'_>,
@@ -91,8 +116,8 @@ impl Placing {
     ) -> Result<(), StepError>
         requires { IsPlacing (map call_shown calls.now.list.items) calls.now.messages self.old }
         ensures placed { OnOk result ((first : TreeState) (es : List TheEntry) → IsReplayed calls.now first tree.old es self.old → IsReplayed calls.now first tree.new (es ++ entry ∷ []) self.new) }
-        ensures fault { IfErr result (NextFails calls.now tree.old entry self.old) }
-        ensures counted { OnErr result (self.new.count ≡ self.old.count) }
+        ensures refused { IfErr result (NextFails calls.now tree.old entry self.old) }
+        ensures unchanged { OnErr result ((self.new ≡ self.old) × (tree.new ≡ tree.old)) }
     {
         let place = self.check(calls, entry)?;
         tree.step(calls, place, entry.wrote)?;
@@ -114,7 +139,7 @@ impl Placing {
     }
 
     /// What is answered after all entries.
-    pub fn verdict(&self, calls: &Calls<'_>) -> Verdict
+    pub(crate) fn verdict(&self, calls: &Calls<'_>) -> Verdict
         requires { IsPlacing (map call_shown calls.now.list.items) calls.now.messages self.now }
         ensures { (first last : TreeState) (es : List TheEntry) → IsReplayed calls.now first last es self.now → (c : List Message) → AreMessagesOf calls.now c → IsVerdict c first es result }
     {

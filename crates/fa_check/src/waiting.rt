@@ -2,7 +2,7 @@
 
 ghost use Rattle.std.specs.Prelude.{◌≡◌, ◌<◌, ◌^◌, false, length, map, set, position, IfOk};
 ghost use Rattle.fa_ledger.specs.Calls.{call_shown};
-ghost use Rattle.fa_check.specs.parts.Marks.{AreUnset, IsFirstSet};
+ghost use Rattle.fa_check.specs.Marks.{AreUnset, IsFirstSet};
 ghost use Rattle.fa_check.specs.parts.Placing.{AreAnswers};
 
 use fa_ledger::Calls;

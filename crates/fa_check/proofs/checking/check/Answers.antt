@@ -1,7 +1,8 @@
-use Rattle.std.proofs.Common.{◌≡◌, take, Result, Ok, Err, refl, sym, subst}
+use Rattle.std.proofs.Common.{◌≡◌, take, Result, Ok, Err, refl, sym, ap, subst}
 use Rattle.std.specs.Prelude.{OnOk, IfOk}
+use Rattle.fa_check.specs.declared.placing.Placing.{Placing}
 use Rattle.fa_check.specs.Verdicts.{IsVerdict}
-use Rattle.fa_check.proofs.VerdictLemmas.{legal_exactly, not_shown_exactly, never_fault, none_replayed, replayed_next, all_replayed, failed_at}
+use Rattle.fa_check.proofs.VerdictLemmas.{legal_exactly, not_shown_exactly, never_fault, replayed_next, all_replayed, failed_at}
 use Rattle.fa_check.proofs.UnknownLemmas.{never_unknown}
 use Rattle.fa_check.proofs.checking.check.Goals as goal
 
@@ -11,28 +12,28 @@ on_ok (Ok a) P holds other = holds
 on_ok (Err e) P holds other = absurd (other e refl)
 
 pub loop-entry-init : goal.loop-entry-init
-loop-entry-init c = none_replayed c.args.calls.now c.args.tree c.in_ok-placing.placing c.in_ok-placing.ensures.shape c.in_ok-placing.ensures.none
+loop-entry-init c = c.in_ok-placing.ensures c.args.tree
 
 pub returns-in-Err-clause-legal : goal.returns-in-Err-clause-legal
 returns-in-Err-clause-legal c = λ messages is.
     legal_exactly messages c.args.tree c.args.order.now c.told.result
     (subst (λ r. IfOk r (IsVerdict messages c.args.tree c.args.order.now)) (sym c.told.ensures)
     (failed_at c.args.calls.now c.args.tree c.loop-entry.tree c.args.order.now c.loop-entry.entry-index _ c.loop-entry.placing c.place.new.self.count c.in-Err.error c.loop-entry-test.true c.loop-entry.invariant
-    c.in-Err.ensures.fault c.in-Err.ensures.counted messages is))
+    c.in-Err.ensures.refused (ap (λ (s : Placing). s.count) c.in-Err.ensures.unchanged.0) messages is))
 
 pub returns-in-Err-clause-not_shown : goal.returns-in-Err-clause-not_shown
 returns-in-Err-clause-not_shown c = λ messages is.
     not_shown_exactly messages c.args.tree c.args.order.now c.told.result
     (subst (λ r. IfOk r (IsVerdict messages c.args.tree c.args.order.now)) (sym c.told.ensures)
     (failed_at c.args.calls.now c.args.tree c.loop-entry.tree c.args.order.now c.loop-entry.entry-index _ c.loop-entry.placing c.place.new.self.count c.in-Err.error c.loop-entry-test.true c.loop-entry.invariant
-    c.in-Err.ensures.fault c.in-Err.ensures.counted messages is))
+    c.in-Err.ensures.refused (ap (λ (s : Placing). s.count) c.in-Err.ensures.unchanged.0) messages is))
 
 pub returns-in-Err-clause-never_unknown : goal.returns-in-Err-clause-never_unknown
 returns-in-Err-clause-never_unknown c =
     never_unknown c.args.calls.now c.args.tree c.args.order.now c.told.result (λ messages is.
     subst (λ r. IfOk r (IsVerdict messages c.args.tree c.args.order.now)) (sym c.told.ensures)
     (failed_at c.args.calls.now c.args.tree c.loop-entry.tree c.args.order.now c.loop-entry.entry-index _ c.loop-entry.placing c.place.new.self.count c.in-Err.error c.loop-entry-test.true c.loop-entry.invariant
-    c.in-Err.ensures.fault c.in-Err.ensures.counted messages is))
+    c.in-Err.ensures.refused (ap (λ (s : Placing). s.count) c.in-Err.ensures.unchanged.0) messages is))
 
 pub loop-entry-preserved : goal.loop-entry-preserved
 loop-entry-preserved c =

@@ -1,5 +1,5 @@
 use Rattle.std.proofs.Common.{take}
-use Rattle.fa_check.specs.parts.Placing.{IsReplayed}
+use Rattle.fa_check.specs.Replays.{IsReplayed}
 use Rattle.fa_check.proofs.checking.check.Given as goal
 
 abbrev pub invariant-loop-entry : goal.invariant-loop-entry

@@ -4,8 +4,8 @@ use Rattle.std.proofs.lemmas.List.{length-map}
 use Rattle.std.proofs.lemmas.Option.{slice_get_within, same_Some}
 use Rattle.fa_ledger.specs.Calls.{PlainCall, call_shown, answer_shown}
 use Rattle.fa_tree.proofs.StepLemmas.{shown_at}
-use Rattle.fa_check.specs.parts.Marks.{IsUnset}
-use Rattle.fa_check.specs.parts.Placing.{IsAnswerAt}
+use Rattle.fa_check.specs.Marks.{IsUnset}
+use Rattle.fa_check.specs.Replays.{IsAnswerAt}
 use Rattle.fa_check.proofs.GoodLemmas.{asked_rise}
 use Rattle.fa_check.proofs.MarkLemmas.{mark_at, not_both}
 use Rattle.fa_check.proofs.PlacingLemmas.{some_of, not_some}

@@ -8,8 +8,8 @@ use Rattle.fa_check.proofs.GoodLemmas.{one_place}
 use Rattle.fa_check.proofs.EntryLemmas.{place_fails, step_fails, replayed_more}
 use Rattle.fa_check.proofs.placing.Placing.place.Goals as goal
 
-pub returns-in_err-place-clause-fault : goal.returns-in_err-place-clause-fault
-returns-in_err-place-clause-fault c =
+pub returns-in_err-place-clause-refused : goal.returns-in_err-place-clause-refused
+returns-in_err-place-clause-refused c =
     let p = err_from_is_err_and c.from_residual.result c.from_residual.ensures.1 in
     rw (p.1, p.2) (place_fails c.args.calls.now c.args.tree.now c.args.entry c.args.self.now c.in_err-place.field-0.0 c.in_err-place.ensures.fault)
 
@@ -20,8 +20,8 @@ step-requires-clause-there c =
     let within = slice_get_within (map call_shown list) c.in_ok-place.place found.0 found.1 in
     omega (arith, within, length-map list call_shown)
 
-pub returns-in_err-step-clause-fault : goal.returns-in_err-step-clause-fault
-returns-in_err-step-clause-fault c =
+pub returns-in_err-step-clause-refused : goal.returns-in_err-step-clause-refused
+returns-in_err-step-clause-refused c =
     let p = err_from_is_err_and c.from_residual-in_err-step.result c.from_residual-in_err-step.ensures.1 in
     rw (p.1, p.2) (step_fails c.args.calls.now c.args.tree.now c.args.entry c.args.self.now c.in_ok-place.place c.in_err-step.field-0.0 c.in_ok-place.ensures.found c.in_ok-place.ensures.holds c.in_err-step.ensures.refused)
 
