@@ -1,0 +1,15 @@
+pub mod RankOrderLemmas
+pub mod RankLemmas
+pub mod MapLemmas
+pub mod OfferLemmas
+pub mod MatchLemmas
+pub mod ReadyLemmas
+pub mod NextLemmas
+pub mod TryLemmas
+pub mod ProposeLemmas
+pub mod CandidateLemmas
+pub mod OneLemmas
+pub mod ExistLemmas
+pub mod PlacedLemmas
+pub mod SerialLemmas
+pub mod CallerLemmas

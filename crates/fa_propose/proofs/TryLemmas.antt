@@ -1,0 +1,79 @@
+-- The entries that are tried one after the other: those before have no step.
+use Rattle.std.proofs.Common.{◌≡◌, ℕ, zero, suc, ◌+◌, ◌<◌, List, [], ◌∷◌, ◌++◌, take, Some, None, refl, sym, ap, subst, ◌∙◌, arith}
+use Rattle.std.specs.Prelude.{All}
+use Rattle.std.proofs.lemmas.List.{append_assoc, append-nil}
+use Rattle.std.proofs.lemmas.List.Elements.{All-nil, All-push}
+use Rattle.fa_capture.specs.Message.{Message}
+use Rattle.fa_ledger.specs.declared.calls.Calls.{Calls}
+use Rattle.fa_tree.specs.State.{TreeState}
+use Rattle.fa_tree.specs.declared.error.StepError.TheVariants.{Refused}
+use Rattle.fa_order.specs.declared.entry.Entry.{Entry}
+use Rattle.fa_check.specs.declared.placing.Placing.{Placing}
+use Rattle.fa_check.specs.Verdicts.{AreMessagesOf}
+use Rattle.fa_check.specs.Replays.{IsReplayed, NextFails}
+use Rattle.fa_check.proofs.CallerLemmas.{replayed_step, refused_no_step}
+use Rattle.fa_propose.specs.declared.rank.Rank.{Rank}
+use Rattle.fa_propose.specs.declared.proposing.TheConstants.{MAX_TRIED}
+use Rattle.fa_propose.specs.parts.Ready.{MayEachComeNext, HasNoEntryStep, IsTriedSo}
+use Rattle.fa_propose.proofs.NextLemmas.{found_there}
+
+-- These were tried, and have no step; those are not tried yet.
+pub record AreTriedSoFar (calls : Calls) (tree : TreeState) (placing : Placing) (ready tried rest : List (Rank × Entry)) : Type 0 where
+  pub parts : take MAX_TRIED ready ≡ tried ++ rest
+  pub none : (c : List Message) (first : TreeState) (es : List Entry) → AreMessagesOf calls c → IsReplayed calls first tree es placing → MayEachComeNext c es ready
+      → All (HasNoEntryStep c tree) tried
+
+-- ---- as many as are tried
+
+-- the first of them
+pub one_taken : {X : Type 0} (n m : ℕ) (xs ys : List X) (x : X) → xs ≡ x ∷ ys → m + 1 ≡ n → take n xs ≡ x ∷ take m ys
+one_taken n m xs ys x parts count =
+    let number : suc m ≡ n = omega (arith, count) in
+    subst (λ (k : ℕ). take k xs ≡ x ∷ take m ys) number (ap (take (suc m)) parts)
+
+-- there is none
+pub none_left : {X : Type 0} (n : ℕ) (xs : List X) → (0 < n → xs ≡ []) → take n xs ≡ []
+none_left zero xs empty = refl
+none_left (suc n) xs empty = ap (take (suc n)) (empty (omega arith))
+
+-- ---- what was tried
+
+-- what is replayed up to the same tree and placing
+pub from_here : (calls : Calls) (tree now : TreeState) (placing s : Placing) → now ≡ tree → s ≡ placing → (first : TreeState) (es : List Entry)
+    → IsReplayed calls first tree es placing → IsReplayed calls first now es s
+from_here calls tree now placing s same_tree same_placing first es so_far =
+    subst (λ (p : Placing). IsReplayed calls first now es p) (sym same_placing) (subst (λ (t : TreeState). IsReplayed calls first t es placing) (sym same_tree) so_far)
+
+module _ (calls : Calls) (tree : TreeState) (placing : Placing) (ready : List (Rank × Entry)) where
+  -- before the first
+  pub none_tried : AreTriedSoFar calls tree placing ready [] (take MAX_TRIED ready)
+  none_tried = record { parts = refl; none = λ c first es is so_far may. All-nil (HasNoEntryStep c tree) }
+
+  -- one more is refused
+  pub one_refused : (tried rest : List (Rank × Entry)) (p : Rank × Entry) (code : ℕ) → AreTriedSoFar calls tree placing ready tried (p ∷ rest)
+      → NextFails calls tree p.1 placing (Refused code) → AreTriedSoFar calls tree placing ready (tried ++ p ∷ []) rest
+  one_refused tried rest p code so_far fails = record {
+    parts = so_far.parts ∙ sym (append_assoc tried (p ∷ []) rest);
+    none = λ c first es is replayed may.
+        All-push (HasNoEntryStep c tree) tried p (so_far.none c first es is replayed may)
+        (λ new. refused_no_step calls first tree es p.1 placing code replayed fails c is (may p.0 p.1 (found_there ready tried rest p so_far.parts)) new);
+  }
+
+  -- one is placed
+  pub one_placed : (tried rest : List (Rank × Entry)) (p : Rank × Entry) (new : TreeState) (behind : Placing) → AreTriedSoFar calls tree placing ready tried (p ∷ rest)
+      → ((first : TreeState) (es : List Entry) → IsReplayed calls first tree es placing → IsReplayed calls first new (es ++ p.1 ∷ []) behind)
+      → (c : List Message) (first : TreeState) (es : List Entry) → AreMessagesOf calls c → IsReplayed calls first tree es placing → MayEachComeNext c es ready
+      → IsTriedSo c tree new ready (Some p)
+  one_placed tried rest p new behind so_far places c first es is replayed may = record {
+    earlier = tried;
+    later = rest;
+    tried = so_far.parts;
+    none_before = so_far.none c first es is replayed may;
+    steps = replayed_step calls first tree new es p.1 placing behind replayed (places first es replayed) c is;
+  }
+
+  -- all are refused
+  pub all_tried : (tried : List (Rank × Entry)) → AreTriedSoFar calls tree placing ready tried [] → (new : TreeState) (c : List Message) (first : TreeState) (es : List Entry)
+      → AreMessagesOf calls c → IsReplayed calls first tree es placing → MayEachComeNext c es ready → IsTriedSo c tree new ready None
+  all_tried tried so_far new c first es is replayed may =
+      subst (All (HasNoEntryStep c tree)) (sym (so_far.parts ∙ append-nil tried)) (so_far.none c first es is replayed may)

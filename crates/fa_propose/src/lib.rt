@@ -1,0 +1,9 @@
+//! Guesses an order of the tree requests of a capture.
+#![tactic(auto)]
+
+pub mod laws;
+mod proposing;
+mod rank;
+mod ready;
+
+pub use proposing::{MAX_TRIED, propose};

@@ -1,0 +1,140 @@
+//! Which calls may come next, in the order in which they are tried.
+
+ghost use Rattle.std.specs.Prelude.{◌≡◌, ◌∷◌, ◌++◌, [], List, map, AllPairs, IfOk, IfSome, OnOk};
+ghost use Rattle.fa_capture.specs.Message.{Message};
+ghost use Rattle.fa_ledger.specs.Calls.{call_shown};
+ghost use Rattle.fa_ledger.specs.declared.calls.Calls.{Calls as TheCalls};
+ghost use Rattle.fa_tree.specs.State.{TreeState};
+ghost use Rattle.fa_order.specs.declared.entry.Entry.{Entry as TheEntry};
+ghost use Rattle.fa_check.specs.Verdicts.{AreMessagesOf};
+ghost use Rattle.fa_check.specs.Replays.{IsPlacing, IsReplayed, IsFront};
+ghost use Rattle.fa_propose.specs.Proposals as proposals;
+ghost use Rattle.fa_propose.specs.parts.Ready.{IsReady, AreAllSeen, IsOffered, MayEachComeNext, IsTriedSo, IsGoneOnSo, IsRankedBefore};
+
+use crate::proposing::MAX_TRIED;
+use crate::rank::Rank;
+use fa_bodies::RequestBody;
+use fa_check::Placing;
+use fa_ledger::{Call, Calls};
+use fa_order::Entry;
+use fa_tree::{StepError, Tree};
+use std::alloc::{AllocError, Global};
+use std::collections::BTreeMap;
+
+/// The entries that may come next.
+#[derive(Drop)]
+pub(crate) struct Ready {
+    /// Each by the rank of its call.
+    entries: BTreeMap<Rank, Entry>,
+    /// How many calls of the list were looked at.
+    seen: usize,
+}
+
+impl Ready {
+    /// None, before the first call is looked at.
+    pub fn new(alloc: Global) -> Self
+        ensures { (c : List Message) (calls : TheCalls) → IsReady c (map call_shown calls.list.items) [] result.seen result.entries.entries }
+    {
+        Ready {
+            entries: BTreeMap::new(alloc),
+            seen: 0,
+        }
+    }
+
+    /// Takes in the calls that were sent up to the front of the order so far.
+    pub fn admit(&mut self, calls: &Calls<'_>, front: usize) -> Result<(), AllocError>
+        ensures { OnOk result ((c : List Message) (es : List TheEntry) → AreMessagesOf calls.now c → IsFront c es front
+            → IsReady c (map call_shown calls.now.list.items) es self.old.seen self.old.entries.entries
+            → IsReady c (map call_shown calls.now.list.items) es self.new.seen self.new.entries.entries
+            × AreAllSeen c (map call_shown calls.now.list.items) es self.new.seen) }
+    {
+        while let Some(call) = calls.list.get(self.seen) {
+            if front < call.asked as usize {
+                break;
+            }
+            self.offer(call)?;
+            self.seen += 1;
+        }
+        Ok(())
+    }
+
+    /// Takes in a call, if an order may name it.
+    fn offer(&mut self, call: &Call<'_>) -> Result<(), AllocError>
+        ensures offered { OnOk result (IsOffered (call_shown call.now) self.old.entries.entries self.new.entries.entries) }
+        ensures seen { self.new.seen ≡ self.old.seen }
+    {
+        let entry = entry_of(call);
+        if call.allows(entry.wrote) {
+            self.entries.insert(Rank::of(call), entry)?;
+        }
+        Ok(())
+    }
+
+    /// Places the first entry that has a step, of those that are tried: the entry, or none where none has one.
+    pub fn place_next(
+        &mut self,
+        calls: &Calls<'_>,
+        tree: &mut Tree,
+        placing: &mut Placing,
+    ) -> Result<Option<Entry>, AllocError>
+        requires { IsPlacing (map call_shown calls.now.list.items) calls.now.messages placing.old }
+        ensures replayed { IfOk result (λ next. (first : TreeState) (es : List TheEntry) → IsReplayed calls.now first tree.old es placing.old
+            → IfSome next (λ entry. IsReplayed calls.now first tree.new (es ++ entry ∷ []) placing.new)) }
+        ensures next { IfOk result (λ next. (c : List Message) (first : TreeState) (es : List TheEntry) → AreMessagesOf calls.now c
+            → IsReplayed calls.now first tree.old es placing.old
+            → IsReady c (map call_shown calls.now.list.items) es self.old.seen self.old.entries.entries
+            → AreAllSeen c (map call_shown calls.now.list.items) es self.old.seen
+            → IsGoneOnSo c (map call_shown calls.now.list.items) tree.old tree.new es self.new.seen self.new.entries.entries next) }
+    {
+        let Some((rank, entry)) = place_first(&self.entries, calls, tree, placing)? else {
+            return Ok(None);
+        };
+        self.entries.remove(&rank);
+        Ok(Some(entry))
+    }
+}
+
+/// Places the first of these entries that has a step, of as many as are tried, with its rank.
+fn place_first(
+    entries: &BTreeMap<Rank, Entry>,
+    calls: &Calls<'_>,
+    tree: &mut Tree,
+    placing: &mut Placing,
+) -> Result<Option<(Rank, Entry)>, AllocError>
+    requires { IsPlacing (map call_shown calls.now.list.items) calls.now.messages placing.old }
+    ensures replayed { IfOk result (λ found. (first : TreeState) (es : List TheEntry) → IsReplayed calls.now first tree.old es placing.old
+        → IfSome found (λ found. IsReplayed calls.now first tree.new (es ++ found.1 ∷ []) placing.new)) }
+    ensures tried { IfOk result (λ found. (c : List Message) (first : TreeState) (es : List TheEntry) → AreMessagesOf calls.now c
+        → IsReplayed calls.now first tree.old es placing.old → MayEachComeNext c es entries.now.entries
+        → IsTriedSo c tree.old tree.new entries.now.entries found) }
+    ensures ordered { AllPairs IsRankedBefore entries.now.entries }
+{
+    for (rank, entry) in entries.iter().take(MAX_TRIED) {
+        match placing.place(calls, tree, *entry) {
+            Ok(()) => return Ok(Some((*rank, *entry))),
+            Err(StepError::Refused(_)) => {}
+            Err(StepError::Memory) => return Err(AllocError),
+        }
+    }
+    Ok(None)
+}
+
+/// The entry that proposes a call.
+fn entry_of(call: &Call<'_>) -> Entry
+    ensures { result ≡ proposals.entry_of (call_shown call.now) }
+{
+    Entry {
+        at: call.asked,
+        wrote: count_proposed(call),
+    }
+}
+
+/// The count of bytes that is proposed for a call: all of a WRITE without an answer.
+fn count_proposed(call: &Call<'_>) -> Option<u32>
+    ensures { result ≡ proposals.count_proposed (call_shown call.now).answer (call_shown call.now).request.body }
+{
+    match (&call.answer, &call.request.body) {
+        (None, RequestBody::Write { size, .. }) => Some(*size),
+        _ => None,
+    }
+}
