@@ -16,8 +16,11 @@ use Rattle.fa_check.specs.declared.verdict.Verdict.TheVariants.{Legal, Fault, No
 use Rattle.fa_check.specs.Verdicts.{AreMessagesOf, IsVerdict}
 use Rattle.fa_audit.specs.declared.verdict.AuditError.{AuditError}
 use Rattle.fa_audit.specs.declared.verdict.AuditError.TheVariants.{OrderText, TreeText, Memory}
+use Rattle.fa_audit.specs.declared.verdict.StartError.{StartError}
+use Rattle.fa_audit.specs.declared.verdict.StartError.TheVariants as starts
 use Rattle.fa_audit.specs.Verdict.{IsGivenTree, IsAnswer, Exactly, OneAnswer}
-use Rattle.fa_audit.specs.parts.Answers.{Tells, IsOrderRefused}
+use Rattle.fa_audit.specs.Proposed.{answer_of}
+use Rattle.fa_audit.specs.parts.Answers.{Tells, IsStartOf, IsNoStart, IsTreeRefused, IsOrderRefused}
 
 pub messages_length : (packets : List Packet) → length (messages packets) ≡ length packets
 messages_length packets = length-map packets message
@@ -124,3 +127,28 @@ pub order_told : (capture : List ℕ) (tree : Option (List ℕ)) (order : List �
 order_told capture tree order c first (OrderText line) good given fault = record { c = c; first = first; good = good; given = given; fault = fault }
 order_told capture tree order c first (TreeText line) good given fault = absurd fault
 order_told capture tree order c first Memory good given fault = tt
+
+-- ---- what an order starts with
+
+-- the calls of a good capture, and the given tree
+pub start_of : (bytes : List ℕ) (tree : Option (List ℕ)) (packets given : List Packet) (framing : Option CaptureFault) (calls : Calls) (first : TreeState)
+    → IsReading bytes (messages packets) framing → given ≡ packets → AreGood (messages given) → calls.messages ≡ length given → AreCalls (messages given) (map call_shown calls.list.items)
+    → framing ≡ None → IsGivenTree tree first → IsStartOf bytes tree calls first
+start_of bytes tree packets given framing calls first read same good counted are none is_given = record {
+  c = messages packets;
+  good = good_capture bytes packets given framing read same good none;
+  are = messages_of packets given calls same good counted are;
+  given = is_given;
+}
+
+-- a fault of the tree text behind a good capture
+pub tree_no_start : (capture : List ℕ) (tree : Option (List ℕ)) (c : List Message) (error : StartError) → IsGoodCapture capture c → IsTreeRefused tree error → IsNoStart capture tree error
+tree_no_start capture tree c (starts.Fault at code) good refused = absurd refused
+tree_no_start capture tree c (starts.TreeText line) good refused = record { c = c; text = refused.0; good = good; handed_in = refused.1; fault = refused.2 }
+tree_no_start capture tree c starts.Memory good refused = tt
+
+-- where there is no start, the audit tells it
+pub no_start_told : (capture : List ℕ) (tree : Option (List ℕ)) (order : List ℕ) (error : StartError) → IsNoStart capture tree error → Tells capture tree order (answer_of error)
+no_start_told capture tree order (starts.Fault at code) fault = fault
+no_start_told capture tree order (starts.TreeText line) fault = fault
+no_start_told capture tree order starts.Memory fault = tt

@@ -23,7 +23,10 @@ use Rattle.fa_tree.specs.Steps.{step_checks, checks_of_files}
 use Rattle.fa_tree.specs.Outcomes.{count_written}
 use Rattle.fa_check.specs.Faults.{order_checks, EntryFails, IsOrderAtFault}
 use Rattle.fa_order.specs.declared.entry.Entry.{Entry}
-use Rattle.fa_audit.specs.parts.Answers.{Tells}
+use Rattle.fa_audit.specs.declared.verdict.StartError.{StartError}
+use Rattle.fa_audit.specs.declared.verdict.StartError.TheVariants as starts
+use Rattle.fa_audit.specs.Proposed.{answer_of}
+use Rattle.fa_audit.specs.parts.Answers.{Tells, IsNoStart}
 use Rattle.fa_audit.specs.Line.{IsCoded}
 
 -- the code of each check has a text
@@ -93,3 +96,9 @@ told_coded capture tree order (Ok (Legal messages placed left)) tells = tt
 told_coded capture tree order (Ok (Fault at code)) tells = fault_coded capture at code tells
 told_coded capture tree order (Ok (NotShown entry at code)) tells = order_coded tells.c tells.first tells.entries entry at code tells.fault
 told_coded capture tree order (Err error) tells = tt
+
+-- the code of an order that has no start
+pub no_start_coded : (capture : List ℕ) (tree : Option (List ℕ)) (error : StartError) → IsNoStart capture tree error → IfOk (answer_of error) IsCoded
+no_start_coded capture tree (starts.Fault at code) fault = fault_coded capture at code fault
+no_start_coded capture tree (starts.TreeText line) fault = tt
+no_start_coded capture tree starts.Memory fault = tt

@@ -6,3 +6,5 @@ pub mod CodedLemmas
 pub mod CommandLineLemmas
 pub mod AnswerLemmas
 pub mod RunLemmas
+pub mod OneProposal
+pub mod ProposalLemmas

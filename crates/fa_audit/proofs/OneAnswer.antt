@@ -98,12 +98,12 @@ one_good_capture one capture c d good too = (one capture c d None None good.read
 -- ---- the given tree
 
 -- one tree is given at most
-one_given : (tree : Option (List ℕ)) (first other : TreeState) → IsGivenTree tree first → IsGivenTree tree other → first ≡ other
+pub one_given : (tree : Option (List ℕ)) (first other : TreeState) → IsGivenTree tree first → IsGivenTree tree other → first ≡ other
 one_given None first other given too = given ∙ sym too
 one_given (Some text) first other given too = one_tree_text text first other given too
 
 -- a tree text that gives a tree has no fault
-given_no_fault : (tree : Option (List ℕ)) (first : TreeState) (capture : List ℕ) (line : ℕ) → IsGivenTree tree first → IsTreeTextAtFault capture tree line → ⊥
+pub given_no_fault : (tree : Option (List ℕ)) (first : TreeState) (capture : List ℕ) (line : ℕ) → IsGivenTree tree first → IsTreeTextAtFault capture tree line → ⊥
 given_no_fault None first capture line given f = (let handed_in : ◌≡◌ {A = Option (List ℕ)} None (Some f.text) = f.handed_in in absurd cc)
 given_no_fault (Some text) first capture line given f =
     let same : text ≡ f.text = same_Some text f.text f.handed_in in
@@ -167,7 +167,8 @@ fault_same at code place told same =
 verdict_same : (a b : Verdict) → a ≡ b → ◌≡◌ {A = Result Verdict AuditError} (Ok a) (Ok b)
 verdict_same a b same = ap (λ (v : Verdict). Ok v) same
 
-tree_fault_same : (capture : List ℕ) (tree : Option (List ℕ)) (line other : ℕ) → IsTreeTextAtFault capture tree line → IsTreeTextAtFault capture tree other → line ≡ other
+-- a tree text has one fault at most
+pub tree_fault_same : (capture : List ℕ) (tree : Option (List ℕ)) (line other : ℕ) → IsTreeTextAtFault capture tree line → IsTreeTextAtFault capture tree other → line ≡ other
 tree_fault_same capture tree line other a b =
     let same : a.text ≡ b.text = same_Some a.text b.text (sym a.handed_in ∙ b.handed_in) in
     one_tree_fault b.text line other (subst (λ (x : List ℕ). IsTreeFault x line) same a.fault) b.fault

@@ -6,5 +6,7 @@ pub mod Verdict
 pub mod Line
 pub mod Status
 pub mod Run
+-- what each answer of a proposal says, and what a run of it writes
+pub mod Proposed
 -- the vocabulary of private contracts
 pub mod parts

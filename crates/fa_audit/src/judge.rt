@@ -7,12 +7,13 @@ ghost use Rattle.fa_order.specs.declared.lines.TheConstants.{MAX_TEXT_BYTES};
 ghost use Rattle.fa_order.specs.Order.{IsOrderText};
 ghost use Rattle.fa_audit.specs.Verdict.{IsGivenTree, IsLegal, IsTreeTextAtFault, IsOrderTextAtFault, IsNotShown, Exactly};
 ghost use Rattle.fa_audit.specs.Line.{IsCoded};
-ghost use Rattle.fa_audit.specs.parts.Answers.{Tells, IsTreeRefused, IsOrderRefused};
+ghost use Rattle.fa_audit.specs.parts.Answers.{Tells, IsStartOf, IsNoStart, IsTreeRefused, IsOrderRefused};
 
 use crate::protocol::{Broken, calls_of};
-use crate::verdict::AuditError;
+use crate::verdict::{AuditError, StartError};
 use fa_capture::read_capture;
 use fa_check::{Verdict, check};
+use fa_ledger::Calls;
 use fa_order::{Entry, TextError, read_order, read_tree};
 use fa_tree::Tree;
 use std::alloc::Global;
@@ -75,7 +76,7 @@ pub fn audit(
 }
 
 /// The tree that the server began with.
-fn given_tree(alloc: Global, tree: Option<&[u8]>) -> Result<Tree, AuditError>
+fn given_tree(alloc: Global, tree: Option<&[u8]>) -> Result<Tree, StartError>
     requires { IfSome (option_copied tree) (λ text. length text ≤ MAX_TEXT_BYTES) }
     ensures given { IfOk result (IsGivenTree (option_copied tree.entry)) }
     ensures refused { IfErr result (IsTreeRefused (option_copied tree.entry)) }
@@ -85,9 +86,45 @@ fn given_tree(alloc: Global, tree: Option<&[u8]>) -> Result<Tree, AuditError>
     };
     match read_tree(alloc, text) {
         Ok(tree) => Ok(tree),
-        Err(TextError::Line(line)) => Err(AuditError::TreeText { line }),
-        Err(TextError::Memory) => Err(AuditError::Memory),
+        Err(TextError::Line(line)) => Err(StartError::TreeText { line }),
+        Err(TextError::Memory) => Err(StartError::Memory),
     }
+}
+
+/// What an order starts with: the calls of a good capture, and the tree that the server began with.
+///
+/// # Errors
+///
+/// - [`StartError::Fault`] at the first fault of a capture that is not good.
+/// - [`StartError::TreeText`] where the capture is good and the tree text that is handed in is not in its grammar.
+/// - [`StartError::Memory`] where memory was refused.
+///
+/// # Cost
+///
+/// That of [`read_capture`], [`calls_of`] and [`read_tree`].
+pub(crate) fn start<'a>(
+    alloc: Global,
+    capture: &'a [u8],
+    tree: Option<&[u8]>,
+) -> Result<(Calls<'a>, Tree), StartError>
+    requires { IfSome (option_copied tree) (λ text. length text ≤ MAX_TEXT_BYTES) }
+    ensures good { IfOk result (λ start. IsStartOf capture.now (option_copied tree.entry) start.0 start.1) }
+    ensures none { IfErr result (IsNoStart capture.now (option_copied tree.entry)) }
+{
+    let capture = read_capture(alloc, capture)?;
+    let calls = match calls_of(alloc, &capture.packets) {
+        Ok(calls) => calls,
+        Err(Broken::Fault { at, code }) => return Err(StartError::Fault { at, code }),
+        Err(Broken::Memory) => return Err(StartError::Memory),
+    };
+    if let Some(fault) = capture.fault {
+        return Err(StartError::Fault {
+            at: fault.whole,
+            code: fault.code,
+        });
+    }
+    let first = given_tree(alloc, tree)?;
+    Ok((calls, first))
 }
 
 /// The entries of an order text.
@@ -114,19 +151,10 @@ fn answer(
     requires order_text { length order.now ≤ MAX_TEXT_BYTES }
     ensures { Tells capture.now (option_copied tree.entry) order.now result }
 {
-    let capture = read_capture(alloc, capture)?;
-    let calls = match calls_of(alloc, &capture.packets) {
-        Ok(calls) => calls,
-        Err(Broken::Fault { at, code }) => return Ok(Verdict::Fault { at, code }),
-        Err(Broken::Memory) => return Err(AuditError::Memory),
+    let (calls, first) = match start(alloc, capture, tree) {
+        Ok(start) => start,
+        Err(error) => return error.answer(),
     };
-    if let Some(fault) = capture.fault {
-        return Ok(Verdict::Fault {
-            at: fault.whole,
-            code: fault.code,
-        });
-    }
-    let first = given_tree(alloc, tree)?;
     let entries = entries_of(alloc, order)?;
     Ok(check(alloc, &calls, first, &entries)?)
 }

@@ -1,8 +1,10 @@
 //! What follows from the definitions alone.
 
 ghost use Rattle.std.specs.Prelude.{◌≡◌};
+ghost use Rattle.fa_audit.specs.declared.judge.TheConstants.{ROOT_BITS};
 ghost use Rattle.fa_audit.specs.declared.run.TheConstants.{MAX_INPUT_BYTES};
 ghost use Rattle.fa_audit.specs.Verdict.{OneAnswer, AnswerIsThere};
+ghost use Rattle.fa_audit.specs.Proposed.{OneProposalAnswer};
 
 /// A capture, a tree text or none and an order text have one answer at most.
 pub fn one_answer()
@@ -14,7 +16,13 @@ pub fn answer_is_there()
     ensures { AnswerIsThere }
 {}
 
-/// The limit of an input, as a number.
+/// A capture and a tree text or none have one answer of a proposal at most.
+pub fn one_proposal_answer()
+    ensures { OneProposalAnswer }
+{}
+
+/// The limit of an input, and the permission bits of a root without a tree text, 755 in octal, as numbers.
 pub fn limits()
-    ensures { MAX_INPUT_BYTES ≡ 268435456 }
+    ensures input { MAX_INPUT_BYTES ≡ 268435456 }
+    ensures root_bits { ROOT_BITS ≡ 493 }
 {}

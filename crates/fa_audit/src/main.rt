@@ -1,12 +1,15 @@
 //! The audit of recorded /dev/fuse traffic, as a program.
 //!
 //! `fa_audit check --capture FILE [--tree FILE] --order FILE` tells in one line on standard output whether the order explains the
-//! capture. It ends with the status 0 where the verdict is legal, 1 at a fault of the capture, 2 where the order is not
-//! shown to explain the capture, 3 where the tree text or the order text is not in its grammar, 4 where the command line is no call, and
-//! 5 where reading, writing or memory failed. What stands behind a status 4 or 5 is told on standard error.
+//! capture. `fa_audit propose --capture FILE [--tree FILE]` writes the text of an order that may explain it to standard output, or
+//! the line of the fault where the capture has one or the tree text is not in its grammar.
+//!
+//! Either ends with the status 0 where the verdict is legal or an order is proposed, 1 at a fault of the capture, 2 where the order
+//! is not shown to explain the capture, 3 where the tree text or the order text is not in its grammar, 4 where the command line is
+//! no call, and 5 where reading, writing or memory failed. What stands behind a status 4 or 5 is told on standard error.
 #![tactic(auto)]
 
-ghost use Rattle.std.specs.Prelude.{◌≡◌, false, IfOk};
+ghost use Rattle.std.specs.Prelude.{◌≡◌, false, IfOk, IfSome};
 ghost use Rattle.fa_capture.specs.Device.{device_failed, device_interrupted};
 
 mod command_line;
@@ -14,6 +17,7 @@ mod failure;
 mod judge;
 pub mod laws;
 mod line;
+mod proposal;
 mod protocol;
 #[cfg(test)]
 mod rows;
@@ -21,7 +25,7 @@ mod run;
 mod status;
 mod verdict;
 
-use crate::command_line::CheckPaths;
+use crate::command_line::{Call, CheckPaths, ProposePaths};
 use crate::failure::Failure;
 use crate::run::RunFault;
 use fa_capture::Device;
@@ -33,7 +37,7 @@ use std::rt::Files;
 use std::{env, io};
 
 fn main(rt: HostRuntime) -> ExitCode {
-    let status = match check(&rt) {
+    let status = match call(&rt) {
         Ok(status) => status,
         Err(failure) => {
             let _ = eprint!(rt; "{failure}");
@@ -44,24 +48,39 @@ fn main(rt: HostRuntime) -> ExitCode {
 }
 
 /// Runs the call that the process's words are: its status.
-fn check<R: AllocGlobal + Env + Files + Print>(rt: &R) -> Result<u8, Failure> {
+fn call<R: AllocGlobal + Env + Files + Print>(rt: &R) -> Result<u8, Failure> {
     let words = words(rt)?;
     let matches = command_line::command(rt.alloc())?.try_get_matches_from(words.as_slice())?;
-    let paths = CheckPaths::new(&matches).ok_or(Failure::NoPaths)?;
+    match Call::new(&matches).ok_or(Failure::NoPaths)? {
+        Call::Check(paths) => Ok(check(rt, &paths)?),
+        Call::Propose(paths) => Ok(propose(rt, &paths)?),
+    }
+}
+
+/// Runs a call of `check`: its status.
+fn check<R: AllocGlobal + Files + Print>(rt: &R, paths: &CheckPaths<'_>) -> Result<u8, RunFault> {
     let mut capture = open(rt, paths.capture)?;
-    let mut tree = match paths.tree {
-        Some(path) => Some(open(rt, path)?),
-        None => None,
-    };
+    let mut tree = open_if_any(rt, paths.tree)?;
     let mut order = open(rt, paths.order)?;
     let mut out = Device::new(io::writer(rt));
-    Ok(run::run(
+    run::run(
         rt.alloc(),
         &mut capture,
         tree.as_mut(),
         &mut order,
         &mut out,
-    )?)
+    )
+}
+
+/// Runs a call of `propose`: its status.
+fn propose<R: AllocGlobal + Files + Print>(
+    rt: &R,
+    paths: &ProposePaths<'_>,
+) -> Result<u8, RunFault> {
+    let mut capture = open(rt, paths.capture)?;
+    let mut tree = open_if_any(rt, paths.tree)?;
+    let mut out = Device::new(io::writer(rt));
+    proposal::run_propose(rt.alloc(), &mut capture, tree.as_mut(), &mut out)
 }
 
 /// The words of the command line, with the program's name first.
@@ -82,5 +101,16 @@ fn open<R: Files>(rt: &R, path: &str) -> Result<Device<R::File>, RunFault>
         Ok(file) => Ok(Device::new(file)),
         Err(error) if error.kind() == ErrorKind::OutOfMemory => Err(RunFault::Memory),
         Err(_) => Err(RunFault::Read),
+    }
+}
+
+/// A file as an input, where one is named.
+fn open_if_any<R: Files>(rt: &R, path: Option<&str>) -> Result<Option<Device<R::File>>, RunFault>
+    ensures unfailed { IfOk result (λ input. IfSome input (λ device. device_failed device ≡ false)) }
+    ensures uninterrupted { IfOk result (λ input. IfSome input (λ device. device_interrupted device ≡ false)) }
+{
+    match path {
+        Some(path) => Ok(Some(open(rt, path)?)),
+        None => Ok(None),
     }
 }

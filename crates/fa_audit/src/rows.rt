@@ -8,7 +8,8 @@ ghost use Rattle.fa_order.specs.declared.lines.TheConstants.{MAX_TEXT_BYTES};
 
 use crate::judge::audit;
 use crate::line::{order_fault_text, tree_fault_text, verdict_text};
-use crate::verdict::AuditError;
+use crate::proposal::proposal;
+use crate::verdict::{AuditError, StartError};
 use Recording::*;
 use bitflags::Flags;
 use fa_bodies::errno::{ENOENT, ENOSYS, ENOTEMPTY};
@@ -850,6 +851,78 @@ fn bytes_at_fault(rt: HostRuntime) {
     }
     let line = "fault: message 2: code 11: length field differs from the record";
     assert_eq!(rt; is_told(alloc, &capture, None, SECOND, line), Some(true));
+}
+
+/// A recording, the files of a tree text, if one is handed in, and the lines of the entries that are proposed, or why none are.
+type ProposalRow = (
+    Recording,
+    Option<&'static str>,
+    Result<&'static str, StartError>,
+);
+
+/// Answered requests that leave what is stored come first, then the others, each by their answers, and those without an answer
+/// last; what has no step is passed over.
+const PROPOSALS: [ProposalRow; 9] = [
+    (Nothing, None, Ok("")),
+    (NotFound, None, Ok("2\n")),
+    (NotFound, Some("f 644 a -\n"), Ok("")),
+    (Crossed, None, Ok("3\n2\n")),
+    (Overlapping, None, Ok("3\n2\n")),
+    (OverlappingInPart, None, Ok("2\n")),
+    (Unanswered, None, Ok("2\n4 w 8\n")),
+    (
+        AnsweredTwice,
+        None,
+        Err(StartError::Fault { at: 4, code: 31 }),
+    ),
+    (
+        NotFound,
+        Some("f 644 x/y -\n"),
+        Err(StartError::TreeText { line: 3 }),
+    ),
+];
+
+/// Whether this is proposed for a capture and a tree text, if one is handed in. None where memory was refused.
+fn is_proposed(
+    alloc: Global,
+    capture: &[u8],
+    tree: Option<&[u8]>,
+    expected: &Result<&'static str, StartError>,
+) -> Option<bool> {
+    if let Some(text) = tree {
+        if text.len() > MAX_TEXT_BYTES {
+            return Some(false);
+        }
+    }
+    match (proposal(alloc, capture, tree), expected) {
+        (Err(StartError::Memory), _) => None,
+        (Ok(text), Ok(entries)) => {
+            let order = format!(in alloc; "fuse-order 1\n{entries}end\n").ok()?;
+            Some(text.as_slice() == order.as_bytes())
+        }
+        (Err(error), Err(expected)) => Some(error == *expected),
+        _ => Some(false),
+    }
+}
+
+/// Whether that of a row is proposed. None where memory was refused.
+fn is_proposed_so(alloc: Global, row: &ProposalRow) -> Option<bool> {
+    let (recording, files, expected) = row;
+    let capture = sample_of(alloc, *recording).capture().ok()?;
+    let Some(files) = files else {
+        return is_proposed(alloc, &capture, None, expected);
+    };
+    let tree = format!(in alloc; "fuse-tree 1\nroot 755\n{files}end\n").ok()?;
+    is_proposed(alloc, &capture, Some(tree.as_bytes()), expected)
+}
+
+#[test]
+fn proposals_of_recordings(rt: HostRuntime) {
+    let alloc = rt.alloc();
+    let wrong = PROPOSALS
+        .iter()
+        .position(|row| is_proposed_so(alloc, row) != Some(true));
+    assert_eq!(rt; wrong, None);
 }
 
 /// An ordinary run has ample memory, so only a run by `rt try --test --fail-alloc N`, which refuses the Nth allocation, shows

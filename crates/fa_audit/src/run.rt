@@ -24,7 +24,7 @@ pub enum RunFault {
     /// An input could not be opened or read to its end, or has more than [`MAX_INPUT_BYTES`] bytes.
     #[error("read")]
     Read,
-    /// The output did not take the whole line.
+    /// The output did not take the whole text.
     #[error("write")]
     Write,
     /// Memory was refused.
@@ -90,7 +90,7 @@ fn status_of(verdict: Verdict) -> Status
 }
 
 /// The whole of an input of at most [`MAX_INPUT_BYTES`] bytes.
-fn input_bytes<R: Input>(alloc: Global, input: &mut R) -> Result<Vec<u8>, RunFault>
+pub(crate) fn input_bytes<R: Input>(alloc: Global, input: &mut R) -> Result<Vec<u8>, RunFault>
     requires unfailed { R.has_failed input.old ≡ false }
     requires uninterrupted { R.was_interrupted input.old ≡ false }
     ensures bytes { IfOk result (λ v. IfSome (R.remaining input.old) (λ bytes. v.items ≡ bytes)) }
@@ -124,7 +124,7 @@ fn line_and_status(
 }
 
 /// Writes the line of an answer and a line feed: the status of the answer.
-fn tell<W: Output>(
+pub(crate) fn tell<W: Output>(
     alloc: Global,
     answer: Result<Verdict, AuditError>,
     out: &mut W,
