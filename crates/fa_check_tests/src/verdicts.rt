@@ -23,13 +23,13 @@ use std::alloc::Global;
 type Bytes = &'static [u8];
 
 /// The node of the files that are asked for, and their mode.
-const NODE: u64 = 2;
+pub(crate) const NODE: u64 = 2;
 
-const FILE: u32 = REG | 0o644;
+pub(crate) const FILE: u32 = REG | 0o644;
 
 /// A message. Names are in the root.
 #[derive(Clone, Copy)]
-enum Sent {
+pub(crate) enum Sent {
     Init,
     InitAnswer,
     Lookup(Bytes),
@@ -86,10 +86,10 @@ fn with(sample: Sample, unique: u64, message: Sent) -> Sample {
 }
 
 /// Messages, each with its unique.
-type Messages = &'static [(u64, Sent)];
+pub(crate) type Messages = &'static [(u64, Sent)];
 
 /// A capture and these messages behind its last one.
-fn with_all(mut sample: Sample, messages: Messages) -> Sample {
+pub(crate) fn with_all(mut sample: Sample, messages: Messages) -> Sample {
     for (unique, message) in messages {
         sample = with(sample, *unique, *message);
     }
@@ -98,17 +98,17 @@ fn with_all(mut sample: Sample, messages: Messages) -> Sample {
 
 /// An entry of an order.
 #[derive(Clone, Copy)]
-enum Placed {
+pub(crate) enum Placed {
     /// Of this message number.
     At(u32),
     /// Of this message number, with so many bytes written.
     Wrote(u32, u32),
 }
 
-type Order = &'static [Placed];
+pub(crate) type Order = &'static [Placed];
 
 /// The entries of an order. None where memory was refused.
-fn entries_of(alloc: Global, order: Order) -> Option<Vec<Entry>> {
+pub(crate) fn entries_of(alloc: Global, order: Order) -> Option<Vec<Entry>> {
     let mut entries = Vec::new(alloc);
     for placed in order {
         let entry = match placed {
@@ -196,12 +196,12 @@ fn first_wrong(
 }
 
 /// The trees of a root alone, and of a file with two names.
-const EMPTY: &[u8] = b"fuse-tree 1\nroot 755\nend\n";
+pub(crate) const EMPTY: &[u8] = b"fuse-tree 1\nroot 755\nend\n";
 
-const TWO_NAMES: &[u8] = b"fuse-tree 1\nroot 755\nf 644 a 78\nh b a\nend\n";
+pub(crate) const TWO_NAMES: &[u8] = b"fuse-tree 1\nroot 755\nf 644 a 78\nh b a\nend\n";
 
 /// The messages 0 and 1.
-const BEGUN: Messages = &[(1, Init), (1, InitAnswer)];
+pub(crate) const BEGUN: Messages = &[(1, Init), (1, InitAnswer)];
 
 /// A capture without a tree request.
 const NO_REQUESTS: [Case; 3] = [
@@ -339,7 +339,7 @@ fn where_entries_are_placed(rt: HostRuntime) {
 }
 
 /// The messages 0 to 3: a new file, which is open.
-const NEW: Messages = &[(1, Init), (1, InitAnswer), (2, Create(b"f")), (2, Created)];
+pub(crate) const NEW: Messages = &[(1, Init), (1, InitAnswer), (2, Create(b"f")), (2, Created)];
 
 /// WRITEs and other requests, answered and not.
 const CHOICES: [Case; 9] = [
