@@ -1,0 +1,81 @@
+/* fuse-messages: prints the messages of a capture, one line each: fuse-messages FILE. */
+#define _GNU_SOURCE
+#include "fuse-record.h"
+
+enum { SHOWN = 4096 }; /* the bytes of a message that are looked at */
+
+/* The name that a request names first, behind the struct that its body begins with; NULL where it names none. */
+static const char *name_in(const struct fuse_in_header *header, const unsigned char *body, size_t length)
+{
+    size_t before;
+    switch (header->opcode) {
+    case FUSE_LOOKUP: case FUSE_SYMLINK: case FUSE_UNLINK: case FUSE_RMDIR: before = 0; break;
+    case FUSE_MKNOD: before = sizeof(struct fuse_mknod_in); break;
+    case FUSE_MKDIR: before = sizeof(struct fuse_mkdir_in); break;
+    case FUSE_RENAME: before = sizeof(struct fuse_rename_in); break;
+    case FUSE_RENAME2: before = sizeof(struct fuse_rename2_in); break;
+    case FUSE_LINK: before = sizeof(struct fuse_link_in); break;
+    case FUSE_CREATE: before = sizeof(struct fuse_create_in); break;
+    default: return NULL;
+    }
+    return before < length && memchr(body + before, '\0', length - before) ? (const char *)body + before : NULL;
+}
+
+static void print_request(const unsigned char *message, size_t length)
+{
+    struct fuse_in_header header;
+    if (length < sizeof header) {
+        printf("to server: %zu bytes", length);
+        return;
+    }
+    memcpy(&header, message, sizeof header);
+    printf("to server: %s, unique %" PRIu64 ", node %" PRIu64 ", %zu bytes", fuse_record_name(header.opcode), (uint64_t)header.unique,
+           (uint64_t)header.nodeid, length);
+    const char *name = name_in(&header, message + sizeof header, length - sizeof header);
+    for (printf(name ? ", name " : ""); name && *name; name++)
+        printf(*name > ' ' && *name <= '~' ? "%c" : "%%%02X", (unsigned char)*name);
+}
+
+static void print_reply(const unsigned char *message, size_t length)
+{
+    struct fuse_out_header header;
+    if (length < sizeof header) {
+        printf("from server: %zu bytes", length);
+        return;
+    }
+    memcpy(&header, message, sizeof header);
+    const char *error = header.error == 0 ? "success" : strerrorname_np(-header.error);
+    if (header.unique == 0)
+        printf("from server: notification %" PRId32 ", %zu bytes", header.error, length);
+    else
+        printf("from server: %s, unique %" PRIu64 ", %zu bytes", error ? error : "no error number", (uint64_t)header.unique, length);
+}
+
+int main(int count, char **words)
+{
+    unsigned char head[FUSE_RECORD_HEAD], message[SHOWN];
+    char magic[sizeof FUSE_RECORD_MAGIC] = "";
+    if (count != 2) {
+        fputs("usage: fuse-messages FILE\n", stderr);
+        return 2;
+    }
+    FILE *capture = fopen(words[1], "r");
+    if (!capture || fread(magic, sizeof magic - 1, 1, capture) != 1 || strcmp(magic, FUSE_RECORD_MAGIC) != 0) {
+        fprintf(stderr, "fuse-messages: %s: no capture\n", words[1]);
+        return 1;
+    }
+    for (uint32_t number = 0; fread(head, sizeof head, 1, capture) == 1; number++) {
+        uint32_t stated;
+        memcpy(&stated, head + 1, sizeof stated);
+        size_t length = le32toh(stated), shown = length < sizeof message ? length : sizeof message;
+        if (fread(message, 1, shown, capture) != shown || fseek(capture, (long)(length - shown), SEEK_CUR) != 0)
+            break;
+        printf("%" PRIu32 " ", number);
+        if (head[0] == FUSE_RECORD_READ)
+            print_request(message, length);
+        else
+            print_reply(message, length);
+        putchar('\n');
+    }
+    return fclose(stdout) == 0 ? 0 : 1;
+}

@@ -1,0 +1,494 @@
+/*
+ * Records what the kernel and a FUSE server say to each other. The command fuse-record loads this into a server of its own accord.
+ * A server that is linked statically, or makes its system calls itself, includes this file in one of its files, links with
+ * -pthread, is started by fuse-record too, and receives and sends each message by
+ *
+ *     fuse_record(FUSE_RECORD_READ, device, parts, count)      instead of readv(device, parts, count)
+ *     fuse_record(FUSE_RECORD_WRITE, device, parts, count)     instead of writev(device, parts, count)
+ *
+ * Started without fuse-record, these do what readv and writev do. README.md says what is recorded and what is changed.
+ */
+#ifndef FUSE_RECORD_H
+#define FUSE_RECORD_H
+
+#include <endian.h>
+#include <errno.h>
+#include <fcntl.h>
+#include <inttypes.h>
+#include <linux/fuse.h>
+#include <pthread.h>
+#include <signal.h>
+#include <stdarg.h>
+#include <stdbool.h>
+#include <stdint.h>
+#include <stdio.h>
+#include <stdlib.h>
+#include <string.h>
+#include <sys/mman.h>
+#include <sys/stat.h>
+#include <sys/syscall.h>
+#include <sys/uio.h>
+#include <time.h>
+#include <unistd.h>
+
+enum fuse_record_way { FUSE_RECORD_READ, FUSE_RECORD_WRITE };
+
+/* How the device is read and written: by system calls, so that a library which is loaded too does not record them again. */
+#ifndef FUSE_RECORD_READV
+#define FUSE_RECORD_READV(device, parts, count) syscall(SYS_readv, device, parts, count)
+#define FUSE_RECORD_WRITEV(device, parts, count) syscall(SYS_writev, device, parts, count)
+#endif
+
+/* The limits of a capture, and what a record has before its message: the direction and the length. */
+#define FUSE_RECORD_MAGIC "FUSECAP1"
+#define FUSE_RECORD_MAX_BYTES 268435456u
+#define FUSE_RECORD_MAX_MESSAGE 2097152u
+#define FUSE_RECORD_MAX_MESSAGES 16777216u
+#define FUSE_RECORD_HEAD 5u
+/* The longest path of a capture, with its zero byte, and the most parts of a message that are written without a copy. */
+#define FUSE_RECORD_PATH 4096
+#define FUSE_RECORD_PARTS 16
+
+/* Protocol 7.31, and its flags of INIT without the two that this profile refuses. */
+#define FUSE_RECORD_MINOR 31u
+#define FUSE_RECORD_FLAGS (((1u << 27) - 1) & ~(uint32_t)(FUSE_WRITEBACK_CACHE | FUSE_POSIX_ACL))
+#define FUSE_RECORD_INIT_LENGTH (sizeof(struct fuse_in_header) + 16)
+/* Servers from this minor on know all requests that the kernel sends to one of minor 31, or may answer them by ENOSYS. */
+#define FUSE_RECORD_LEAST_MINOR 16u
+
+/* The operations by their numbers. Those up to the last of 7.31 are the server's. */
+#define FUSE_RECORD_LAST_OPERATION 47u
+static const char *const fuse_record_names[] = {
+    [1] = "LOOKUP", [2] = "FORGET", [3] = "GETATTR", [4] = "SETATTR", [5] = "READLINK", [6] = "SYMLINK", [8] = "MKNOD",
+    [9] = "MKDIR", [10] = "UNLINK", [11] = "RMDIR", [12] = "RENAME", [13] = "LINK", [14] = "OPEN", [15] = "READ", [16] = "WRITE",
+    [17] = "STATFS", [18] = "RELEASE", [20] = "FSYNC", [21] = "SETXATTR", [22] = "GETXATTR", [23] = "LISTXATTR",
+    [24] = "REMOVEXATTR", [25] = "FLUSH", [26] = "INIT", [27] = "OPENDIR", [28] = "READDIR", [29] = "RELEASEDIR",
+    [30] = "FSYNCDIR", [31] = "GETLK", [32] = "SETLK", [33] = "SETLKW", [34] = "ACCESS", [35] = "CREATE", [36] = "INTERRUPT",
+    [37] = "BMAP", [38] = "DESTROY", [39] = "IOCTL", [40] = "POLL", [41] = "NOTIFY_REPLY", [42] = "BATCH_FORGET",
+    [43] = "FALLOCATE", [44] = "READDIRPLUS", [45] = "RENAME2", [46] = "LSEEK", [47] = "COPY_FILE_RANGE", [48] = "SETUPMAPPING",
+    [49] = "REMOVEMAPPING", [50] = "SYNCFS", [51] = "TMPFILE", [52] = "STATX", [53] = "COPY_FILE_RANGE_64",
+};
+
+static const char *fuse_record_name(uint32_t operation)
+{
+    const size_t known = sizeof fuse_record_names / sizeof *fuse_record_names;
+    const char *name = operation < known ? fuse_record_names[operation] : NULL;
+    return name ? name : "unknown operation";
+}
+
+/* A file that is written to. Its descriptor may be closed by the server, which knows nothing of it. */
+struct fuse_record_file {
+    char path[FUSE_RECORD_PATH];
+    int flags;
+    int descriptor;
+    dev_t device;
+    ino_t inode;
+};
+
+/* How far the recording is, in memory that a process shares with those that fork from it. */
+struct fuse_record_progress {
+    pthread_mutex_t lock;
+    uint64_t length;   /* of the capture up to its last whole record */
+    uint32_t messages; /* its records */
+    bool ended;        /* nothing is recorded any more */
+    uint64_t init;     /* the unique of the INIT that waits for its answer */
+    uint32_t minor;    /* of the kernel, as its INIT said */
+};
+
+/* What fuse-record handed over, by the environment. */
+static struct {
+    struct fuse_record_file capture;
+    struct fuse_record_file log;
+    struct fuse_record_progress *progress; /* NULL: nothing is recorded */
+    uint64_t refused;                      /* the operations that are answered in the server's place, a bit each */
+    bool keeps_init;
+    bool keeps_refused;
+} fuse_record_setup;
+
+/* Where a record stands; offset 0 says that there is none. */
+struct fuse_record_place {
+    uint64_t offset;
+    uint32_t message;
+};
+
+/* Opens a file again where its descriptor is no longer its own, and answers the descriptor, or -1. */
+static int fuse_record_descriptor(struct fuse_record_file *file)
+{
+    struct stat found;
+    if (file->descriptor >= 0 && fstat(file->descriptor, &found) == 0 && found.st_dev == file->device &&
+        found.st_ino == file->inode)
+        return file->descriptor;
+    int opened = open(file->path, file->flags | O_CLOEXEC);
+    if (opened < 0)
+        return file->descriptor = -1;
+    /* Not a low number, which a server takes for its own streams. */
+    file->descriptor = fcntl(opened, F_DUPFD_CLOEXEC, 100);
+    if (file->descriptor < 0)
+        file->descriptor = opened;
+    else
+        close(opened);
+    if (fstat(file->descriptor, &found) == 0) {
+        file->device = found.st_dev;
+        file->inode = found.st_ino;
+    }
+    return file->descriptor;
+}
+
+/* One write; to pass the limit of a file (RLIMIT_FSIZE) is an error and no signal. A file that is appended to takes no offset. */
+static ssize_t fuse_record_write(int descriptor, const struct iovec *parts, int count, uint64_t offset)
+{
+    sigset_t limit, before;
+    sigemptyset(&limit);
+    sigaddset(&limit, SIGXFSZ);
+    pthread_sigmask(SIG_BLOCK, &limit, &before);
+    ssize_t written;
+    do
+        written = pwritev(descriptor, parts, count, (off_t)offset);
+    while (written < 0 && errno == EINTR);
+    int error = errno;
+    if (written < 0 && error == EFBIG && !sigismember(&before, SIGXFSZ))
+        sigtimedwait(&limit, NULL, &(struct timespec){0, 0});
+    pthread_sigmask(SIG_SETMASK, &before, NULL);
+    errno = error;
+    return written;
+}
+
+/* Writes one line to the log, at its end. */
+__attribute__((format(printf, 1, 2))) static void fuse_record_note(const char *format, ...)
+{
+    char line[512];
+    va_list words;
+    va_start(words, format);
+    int length = vsnprintf(line, sizeof line - 1, format, words);
+    va_end(words);
+    if (length < 0)
+        return;
+    if ((size_t)length > sizeof line - 2)
+        length = sizeof line - 2;
+    line[length] = '\n';
+    /* A log that can't be written is no reason to disturb the server. */
+    struct iovec part = {line, (size_t)length + 1};
+    fuse_record_write(fuse_record_descriptor(&fuse_record_setup.log), &part, 1, 0);
+}
+
+/* Ends the recording where no further record has room, with one line on standard error. */
+static void fuse_record_end(const char *cause)
+{
+    struct fuse_record_progress *progress = fuse_record_setup.progress;
+    progress->ended = true;
+    dprintf(STDERR_FILENO, "fuse-record: %s: %s: the recording ends with %" PRIu32 " messages\n", fuse_record_setup.capture.path,
+            cause, progress->messages);
+    fuse_record_note("%s: the recording ends with %" PRIu32 " messages", cause, progress->messages);
+}
+
+/* Where a process ended while it held the lock, what it had written of a record is taken off. */
+static void fuse_record_lock(void)
+{
+    struct fuse_record_progress *progress = fuse_record_setup.progress;
+    if (pthread_mutex_lock(&progress->lock) != EOWNERDEAD)
+        return;
+    pthread_mutex_consistent(&progress->lock);
+    if (ftruncate(fuse_record_descriptor(&fuse_record_setup.capture), (off_t)progress->length) < 0)
+        fuse_record_end(strerror(errno));
+}
+
+static void fuse_record_unlock(void)
+{
+    pthread_mutex_unlock(&fuse_record_setup.progress->lock);
+}
+
+/* Copies the first bytes of a message from its parts, or back to them. */
+static void fuse_record_copy(void *bytes, size_t length, const struct iovec *parts, int count, bool back)
+{
+    unsigned char *at = bytes;
+    for (int i = 0; i < count && length > 0; i++) {
+        size_t taken = parts[i].iov_len < length ? parts[i].iov_len : length;
+        if (back)
+            memcpy(parts[i].iov_base, at, taken);
+        else
+            memcpy(at, parts[i].iov_base, taken);
+        at += taken;
+        length -= taken;
+    }
+}
+
+/* Adds a record to the capture by one write, or tells why there is none. What was written of it is then taken off. */
+static const char *fuse_record_add(const struct iovec *record, int count, size_t length)
+{
+    struct fuse_record_progress *progress = fuse_record_setup.progress;
+    if (length > FUSE_RECORD_HEAD + FUSE_RECORD_MAX_MESSAGE)
+        return "a message is longer than a capture may have";
+    if (progress->messages == FUSE_RECORD_MAX_MESSAGES || progress->length + length > FUSE_RECORD_MAX_BYTES)
+        return "a capture may have no more";
+    int capture = fuse_record_descriptor(&fuse_record_setup.capture);
+    if (capture < 0)
+        return strerror(errno);
+    ssize_t written = fuse_record_write(capture, record, count, progress->length);
+    if (written == (ssize_t)length) {
+        progress->length += length;
+        progress->messages++;
+        return NULL;
+    }
+    /* A write that came short tells its cause where it is to go on. */
+    struct iovec more = {record->iov_base, 1};
+    if (written >= 0)
+        written = fuse_record_write(capture, &more, 1, progress->length + (uint64_t)written);
+    const char *cause = strerror(written < 0 ? errno : EIO);
+    return ftruncate(capture, (off_t)progress->length) < 0 ? strerror(errno) : cause;
+}
+
+/* Records the first bytes of the parts as one message, and answers where. */
+static struct fuse_record_place fuse_record_parts(enum fuse_record_way way, const struct iovec *parts, int count, size_t length)
+{
+    unsigned char head[FUSE_RECORD_HEAD] = {way == FUSE_RECORD_WRITE};
+    uint32_t stated = htole32((uint32_t)length);
+    memcpy(head + 1, &stated, sizeof stated);
+    struct iovec record[1 + FUSE_RECORD_PARTS] = {{head, sizeof head}};
+    size_t left = length;
+    for (int i = 0; i < count; i++) {
+        size_t taken = parts[i].iov_len < left ? parts[i].iov_len : left;
+        record[1 + i] = (struct iovec){parts[i].iov_base, taken};
+        left -= taken;
+    }
+    struct fuse_record_progress *progress = fuse_record_setup.progress;
+    fuse_record_lock();
+    struct fuse_record_place place = {progress->length, progress->messages};
+    const char *cause = progress->ended ? NULL : fuse_record_add(record, 1 + count, sizeof head + length);
+    if (cause)
+        fuse_record_end(cause);
+    if (progress->ended)
+        place.offset = 0;
+    fuse_record_unlock();
+    return place;
+}
+
+/* The same for as many parts as there may be. */
+static struct fuse_record_place fuse_record_message(enum fuse_record_way way, const struct iovec *parts, int count, size_t length)
+{
+    if (count <= FUSE_RECORD_PARTS)
+        return fuse_record_parts(way, parts, count, length);
+    struct iovec joined = {malloc(length), length};
+    if (!joined.iov_base) {
+        fuse_record_lock();
+        fuse_record_end(strerror(ENOMEM));
+        fuse_record_unlock();
+        return (struct fuse_record_place){0, 0};
+    }
+    fuse_record_copy(joined.iov_base, length, parts, count, false);
+    struct fuse_record_place place = fuse_record_parts(way, &joined, 1, length);
+    free(joined.iov_base);
+    return place;
+}
+
+/* Makes an INIT one of 7.31 before the server sees it, and answers its length. */
+static size_t fuse_record_show_init(const struct iovec *parts, int count, size_t length)
+{
+    struct {
+        struct fuse_in_header header;
+        uint32_t major, minor, max_readahead, flags;
+    } init;
+    struct fuse_record_progress *progress = fuse_record_setup.progress;
+    if (length < sizeof init)
+        return length;
+    fuse_record_copy(&init, sizeof init, parts, count, false);
+    progress->init = init.header.unique;
+    progress->minor = init.minor;
+    if (fuse_record_setup.keeps_init || init.major != FUSE_KERNEL_VERSION || init.minor < FUSE_RECORD_MINOR)
+        return length;
+    uint32_t minor = init.minor, flags = init.flags;
+    init.header.len = sizeof init;
+    init.minor = FUSE_RECORD_MINOR;
+    init.flags &= FUSE_RECORD_FLAGS;
+    fuse_record_copy(&init, sizeof init, parts, count, true);
+    fuse_record_note("INIT: minor %" PRIu32 " and flags %08" PRIx32 " shown to the server as minor %u and flags %08" PRIx32, minor,
+                     flags, FUSE_RECORD_MINOR, init.flags);
+    return sizeof init;
+}
+
+/* The answer of INIT, with its header. */
+struct fuse_record_init {
+    struct fuse_out_header header;
+    uint32_t major, minor, max_readahead, flags;
+    unsigned char more[48];
+};
+
+/* Makes the answer of INIT one of 7.31 before the kernel sees it. */
+static void fuse_record_cut_init(struct fuse_record_init *answer)
+{
+    struct fuse_record_progress *progress = fuse_record_setup.progress;
+    bool speaks = answer->header.error == 0 && answer->major == FUSE_KERNEL_VERSION && answer->minor >= FUSE_RECORD_LEAST_MINOR;
+    if (fuse_record_setup.keeps_init || !speaks || progress->minor < FUSE_RECORD_MINOR)
+        return;
+    uint32_t minor = answer->minor, flags = answer->flags;
+    answer->minor = FUSE_RECORD_MINOR;
+    answer->flags &= FUSE_RECORD_FLAGS;
+    /* What 7.31 has behind the flags: 16 bytes, max_background to map_alignment. */
+    memset(answer->more + 16, 0, sizeof answer->more - 16);
+    if (minor != answer->minor || flags != answer->flags)
+        fuse_record_note("answer of INIT: minor %" PRIu32 " and flags %08" PRIx32 " told to the kernel as minor %u and flags %08" PRIx32,
+                         minor, flags, FUSE_RECORD_MINOR, answer->flags);
+}
+
+/*
+ * Whether the kernel took a message whose write failed: where it refuses only the body of a reply, the request ends with EIO.
+ * It does not take a message whose header is malformed (EINVAL) or that no request waits for (ENOENT), nor any on a connection
+ * that is gone.
+ */
+static bool fuse_record_was_taken(const struct fuse_out_header *header, size_t length, int error)
+{
+    bool reply = header->len == length && header->error <= 0 && header->error > -512;
+    bool of_interrupt = header->unique & 1;
+    return reply && header->unique != 0 && !of_interrupt && error != ENOENT && error != EPERM && error != ENODEV && error != EBADF;
+}
+
+/*
+ * Takes a message out of the capture that the kernel did not take. Others may stand behind it already, so a notification that
+ * says nothing to this profile is put in its place, of the same length: the invalidation of an inode.
+ */
+static void fuse_record_strike(struct fuse_record_place place, const struct fuse_out_header *header, size_t length, int error)
+{
+    struct fuse_out_header nothing = {.len = (uint32_t)length, .error = FUSE_NOTIFY_INVAL_INODE, .unique = 0};
+    struct iovec part = {&nothing, sizeof nothing};
+    fuse_record_lock();
+    int capture = fuse_record_descriptor(&fuse_record_setup.capture);
+    bool struck = fuse_record_write(capture, &part, 1, place.offset + FUSE_RECORD_HEAD) == sizeof nothing;
+    fuse_record_unlock();
+    fuse_record_note("message %" PRIu32 ": the kernel refused it (%s): error %" PRId32 ", unique %" PRIu64 ", %zu bytes: %s",
+                     place.message, strerror(error), header->error, header->unique, length,
+                     struck ? "it stands as a notification" : "it stands as it was written");
+}
+
+static size_t fuse_record_total(const struct iovec *parts, int count)
+{
+    size_t total = 0;
+    for (int i = 0; i < count; i++)
+        total += parts[i].iov_len;
+    return total;
+}
+
+/* Records a message from the server, and writes it. */
+static ssize_t fuse_record_send(int device, const struct iovec *parts, int count)
+{
+    struct fuse_record_progress *progress = fuse_record_setup.progress;
+    struct fuse_record_init init;
+    struct iovec cut = {&init, 0};
+    struct fuse_out_header header = {0};
+    struct fuse_record_place place = {0};
+    size_t length = fuse_record_total(parts, count);
+    int cancels;
+    pthread_setcancelstate(PTHREAD_CANCEL_DISABLE, &cancels);
+    fuse_record_copy(&header, sizeof header, parts, count, false);
+    if (header.unique != 0 && header.unique == progress->init && length <= sizeof init) {
+        progress->init = 0;
+        memset(&init, 0, sizeof init);
+        fuse_record_copy(&init, length, parts, count, false);
+        fuse_record_cut_init(&init);
+        cut.iov_len = length;
+        parts = &cut;
+        count = 1;
+    }
+    /* The kernel refuses what is shorter than a header. */
+    if (length >= sizeof header || fuse_record_setup.keeps_refused)
+        place = fuse_record_message(FUSE_RECORD_WRITE, parts, count, length);
+    pthread_setcancelstate(cancels, NULL);
+    ssize_t sent = FUSE_RECORD_WRITEV(device, parts, count);
+    int error = errno;
+    if (sent < 0 && place.offset != 0 && !fuse_record_setup.keeps_refused && !fuse_record_was_taken(&header, length, error)) {
+        pthread_setcancelstate(PTHREAD_CANCEL_DISABLE, &cancels);
+        fuse_record_strike(place, &header, length, error);
+        pthread_setcancelstate(cancels, NULL);
+    }
+    errno = error;
+    return sent;
+}
+
+/* Records a request that was read, and says whether it is answered here, so that the server does not see it. */
+static bool fuse_record_request(int device, const struct iovec *parts, int count, size_t *length)
+{
+    struct fuse_in_header header;
+    fuse_record_copy(&header, sizeof header, parts, count, false);
+    struct fuse_out_header answer = {.len = sizeof answer, .error = -ENOSYS, .unique = header.unique};
+    struct iovec part = {&answer, sizeof answer};
+    if (header.opcode > FUSE_RECORD_LAST_OPERATION) {
+        fuse_record_note("%s (operation %" PRIu32 "), unique %" PRIu64 ": answered ENOSYS, not recorded",
+                         fuse_record_name(header.opcode), header.opcode, header.unique);
+        FUSE_RECORD_WRITEV(device, &part, 1);
+        return true;
+    }
+    if (header.opcode == FUSE_INIT)
+        *length = fuse_record_show_init(parts, count, *length);
+    struct fuse_record_place place = fuse_record_message(FUSE_RECORD_READ, parts, count, *length);
+    if (!(fuse_record_setup.refused >> header.opcode & 1))
+        return false;
+    fuse_record_note("message %" PRIu32 ": %s, unique %" PRIu64 ": answered ENOSYS in the server's place", place.message,
+                     fuse_record_name(header.opcode), header.unique);
+    fuse_record_send(device, &part, 1);
+    return true;
+}
+
+/* Reads a request that is not answered here. The read itself may cancel the thread, and nothing behind it. */
+static ssize_t fuse_record_receive(int device, const struct iovec *parts, int count)
+{
+    for (;;) {
+        ssize_t got = FUSE_RECORD_READV(device, parts, count);
+        if (got < (ssize_t)sizeof(struct fuse_in_header))
+            return got;
+        int error = errno, cancels;
+        size_t length = (size_t)got;
+        pthread_setcancelstate(PTHREAD_CANCEL_DISABLE, &cancels);
+        bool answered = fuse_record_request(device, parts, count, &length);
+        pthread_setcancelstate(cancels, NULL);
+        errno = error;
+        if (!answered)
+            return (ssize_t)length;
+    }
+}
+
+/*
+ * Does what readv or writev does on a descriptor of the FUSE device, and records the message: a request before the caller sees it,
+ * a message from the server before it is written. It answers what readv or writev answered, with errno as they set it.
+ */
+__attribute__((unused)) static ssize_t fuse_record(enum fuse_record_way way, int device, const struct iovec *parts, int count)
+{
+    if (way == FUSE_RECORD_READ)
+        return fuse_record_setup.progress ? fuse_record_receive(device, parts, count) : FUSE_RECORD_READV(device, parts, count);
+    return fuse_record_setup.progress ? fuse_record_send(device, parts, count) : FUSE_RECORD_WRITEV(device, parts, count);
+}
+
+/* Opens a file by its path, which is absolute. */
+static void fuse_record_open(struct fuse_record_file *file, int flags, const char *path, const char *ending)
+{
+    snprintf(file->path, sizeof file->path, "%s%s", path, ending);
+    file->flags = flags;
+    file->descriptor = -1;
+    fuse_record_descriptor(file);
+}
+
+/* Takes what fuse-record handed over before the server begins, and mounts anything above these files. */
+__attribute__((constructor)) static void fuse_record_begin(void)
+{
+    const char *path = getenv("FUSE_RECORD"), *refused = getenv("FUSE_RECORD_REFUSE");
+    if (!path)
+        return;
+    struct fuse_record_progress *progress =
+        mmap(NULL, sizeof *progress, PROT_READ | PROT_WRITE, MAP_SHARED | MAP_ANONYMOUS, -1, 0);
+    if (progress == MAP_FAILED) {
+        dprintf(STDERR_FILENO, "fuse-record: nothing is recorded: %s\n", strerror(errno));
+        return;
+    }
+    pthread_mutexattr_t shared;
+    pthread_mutexattr_init(&shared);
+    pthread_mutexattr_setpshared(&shared, PTHREAD_PROCESS_SHARED);
+    pthread_mutexattr_setrobust(&shared, PTHREAD_MUTEX_ROBUST);
+    pthread_mutex_init(&progress->lock, &shared);
+    pthread_mutexattr_destroy(&shared);
+    progress->length = sizeof FUSE_RECORD_MAGIC - 1;
+    fuse_record_open(&fuse_record_setup.capture, O_WRONLY, path, "");
+    fuse_record_open(&fuse_record_setup.log, O_WRONLY | O_APPEND, path, ".log");
+    fuse_record_setup.refused = refused ? strtoull(refused, NULL, 16) : 0;
+    fuse_record_setup.keeps_init = getenv("FUSE_RECORD_KEEP_INIT");
+    fuse_record_setup.keeps_refused = getenv("FUSE_RECORD_KEEP_REFUSED");
+    fuse_record_setup.progress = progress;
+}
+
+#endif

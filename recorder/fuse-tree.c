@@ -1,0 +1,295 @@
+/*
+ * Prints the tree text of a folder on standard output: fuse-tree DIR.
+ * docs/formats.md has the format, under "Tree texts".
+ */
+#define _GNU_SOURCE
+#define _FILE_OFFSET_BITS 64
+
+#include <dirent.h>
+#include <errno.h>
+#include <fcntl.h>
+#include <search.h>
+#include <stdio.h>
+#include <stdlib.h>
+#include <string.h>
+#include <sys/resource.h>
+#include <sys/stat.h>
+#include <unistd.h>
+
+#define MOST_FILE_BYTES 16777216
+#define MOST_OPEN_FILES 4096
+
+/* A file that has several names, and the path below the root at which it was met first. */
+struct first_name {
+    dev_t device;
+    ino_t inode;
+    char path[];
+};
+
+/* What a walk keeps. The path of each file begins with that of the root, and goes on below it from root_length. */
+struct walk {
+    size_t root_length;
+    void *first_names;
+    unsigned char bytes[65536];
+};
+
+/* Says on standard error what was refused and why, and ends the program. */
+static _Noreturn void refuse(const char *path, const char *cause)
+{
+    fprintf(stderr, "fuse-tree: %s: %s\n", path, cause);
+    exit(1);
+}
+
+/* Gives what a system call returned. Where it failed, refuses the path. */
+static ssize_t checked(const char *path, ssize_t result)
+{
+    if (result < 0) {
+        refuse(path, strerror(errno));
+    }
+    return result;
+}
+
+/* Gives a block this size, with the bytes that were in it. Where memory is wanting, refuses the path. */
+static void *resize(const char *path, void *block, size_t size)
+{
+    block = realloc(block, size);
+    if (block == NULL) {
+        refuse(path, strerror(ENOMEM));
+    }
+    return block;
+}
+
+/* Ends a line, and the program too where standard output did not take what was written so far. */
+static void end_line(void)
+{
+    putchar('\n');
+    if (ferror(stdout)) {
+        refuse("standard output", strerror(errno));
+    }
+}
+
+/* Writes a path below the root, each byte of its names as itself or percent-encoded. */
+static void write_path(const char *path)
+{
+    for (; *path != '\0'; path++) {
+        unsigned char byte = (unsigned char)*path;
+        if (byte >= 0x21 && byte <= 0x7E && byte != '%') {
+            putchar(byte);
+        } else {
+            printf("%%%02X", byte);
+        }
+    }
+}
+
+static void write_hex(const unsigned char *bytes, size_t count)
+{
+    static const char digits[] = "0123456789abcdef";
+    for (size_t i = 0; i < count; i++) {
+        putchar(digits[bytes[i] >> 4]);
+        putchar(digits[bytes[i] & 15]);
+    }
+}
+
+/* The name that a path below the root ends with. */
+static const char *name_of(const char *path)
+{
+    return strrchr(path, '/') + 1;
+}
+
+/* Writes the bytes of a regular file, as many as there are when it is read. */
+static void write_content(struct walk *walk, int directory, const char *path)
+{
+    int file = checked(path, openat(directory, name_of(path), O_RDONLY | O_NOFOLLOW | O_NOCTTY));
+    size_t count, total = 0;
+    while ((count = checked(path, read(file, walk->bytes, sizeof walk->bytes))) > 0) {
+        total += count;
+        if (total > MOST_FILE_BYTES) {
+            refuse(path, "more than 16777216 bytes");
+        }
+        write_hex(walk->bytes, count);
+    }
+    if (total == 0) {
+        putchar('-');
+    }
+    close(file);
+}
+
+/* Writes the target of a symbolic link. Linux has none that fills the bytes of a walk. */
+static void write_target(struct walk *walk, int directory, const char *path)
+{
+    char *target = (char *)walk->bytes;
+    write_hex(walk->bytes, checked(path, readlinkat(directory, name_of(path), target, sizeof walk->bytes)));
+}
+
+static int compare_files(const void *left, const void *right)
+{
+    const struct first_name *one = left, *other = right;
+    if (one->device != other->device) {
+        return one->device < other->device ? -1 : 1;
+    }
+    return (one->inode > other->inode) - (one->inode < other->inode);
+}
+
+/* The path below the root at which this file was met before. Where there is none, keeps this one, and gives NULL. */
+static const char *earlier_path(struct walk *walk, const char *path, const struct stat *status)
+{
+    const char *below = path + walk->root_length;
+    struct first_name *name = resize(path, NULL, sizeof *name + strlen(below) + 1);
+    name->device = status->st_dev;
+    name->inode = status->st_ino;
+    strcpy(name->path, below);
+    struct first_name **kept = tsearch(name, &walk->first_names, compare_files);
+    if (kept == NULL) {
+        refuse(path, strerror(ENOMEM));
+    }
+    if (*kept == name) {
+        return NULL;
+    }
+    free(name);
+    return (*kept)->path;
+}
+
+static char letter_of(mode_t mode)
+{
+    switch (mode & S_IFMT) {
+    case S_IFDIR: return 'd';
+    case S_IFREG: return 'f';
+    case S_IFLNK: return 's';
+    case S_IFIFO: return 'p';
+    case S_IFCHR: return 'c';
+    case S_IFBLK: return 'b';
+    default: return 'k';
+    }
+}
+
+/* Writes the line of a file in a directory, and tells whether it is a directory itself. */
+static int write_line(struct walk *walk, int directory, const char *path)
+{
+    struct stat status;
+    checked(path, fstatat(directory, name_of(path), &status, AT_SYMLINK_NOFOLLOW));
+    int is_directory = S_ISDIR(status.st_mode);
+    const char *earlier = status.st_nlink > 1 && !is_directory ? earlier_path(walk, path, &status) : NULL;
+    if (earlier != NULL) {
+        fputs("h ", stdout);
+    } else {
+        printf("%c %03o ", letter_of(status.st_mode), (unsigned)status.st_mode & 0777);
+    }
+    write_path(path + walk->root_length);
+    if (earlier != NULL) {
+        putchar(' ');
+        write_path(earlier);
+    } else if (S_ISREG(status.st_mode)) {
+        putchar(' ');
+        write_content(walk, directory, path);
+    } else if (S_ISLNK(status.st_mode)) {
+        putchar(' ');
+        write_target(walk, directory, path);
+    }
+    end_line();
+    return is_directory;
+}
+
+/* The path of a name in a directory, in memory of its own. */
+static char *path_in(const char *directory, const char *name)
+{
+    char *path;
+    const char *slash = directory[strlen(directory) - 1] == '/' ? "" : "/";
+    if (asprintf(&path, "%s%s%s", directory, slash, name) < 0) {
+        refuse(directory, strerror(ENOMEM));
+    }
+    return path;
+}
+
+static int compare_paths(const void *left, const void *right)
+{
+    return strcmp(*(char *const *)left, *(char *const *)right);
+}
+
+/* The paths of the names in a directory, sorted by their bytes, with NULL behind the last. */
+static char **read_paths(DIR *directory, const char *path)
+{
+    size_t count = 0, room = 16;
+    char **paths = resize(path, NULL, room * sizeof *paths);
+    const struct dirent *entry;
+    while (errno = 0, (entry = readdir(directory)) != NULL) {
+        if (strcmp(entry->d_name, ".") == 0 || strcmp(entry->d_name, "..") == 0) {
+            continue;
+        }
+        if (count + 1 == room) {
+            room *= 2;
+            paths = resize(path, paths, room * sizeof *paths);
+        }
+        paths[count++] = path_in(path, entry->d_name);
+    }
+    if (errno != 0) {
+        refuse(path, strerror(errno));
+    }
+    qsort(paths, count, sizeof *paths, compare_paths);
+    paths[count] = NULL;
+    return paths;
+}
+
+/* Opens the directory of a path, which is that of a name in the directory above. */
+static DIR *open_directory(int above, const char *name, const char *path, int flags)
+{
+    int descriptor = checked(path, openat(above, name, O_RDONLY | O_DIRECTORY | flags));
+    DIR *directory = fdopendir(descriptor);
+    if (directory == NULL) {
+        refuse(path, strerror(errno));
+    }
+    return directory;
+}
+
+/* Writes a line for each name in a directory, and behind that of a directory those of what is in it. Closes it. */
+static void write_names(struct walk *walk, DIR *directory, const char *path)
+{
+    char **paths = read_paths(directory, path);
+    for (char **below = paths; *below != NULL; below++) {
+        if (write_line(walk, dirfd(directory), *below)) {
+            write_names(walk, open_directory(dirfd(directory), name_of(*below), *below, O_NOFOLLOW), *below);
+        }
+        free(*below);
+    }
+    free(paths);
+    closedir(directory);
+}
+
+/* Writes the tree text of a folder. */
+static void write_tree(struct walk *walk, const char *folder)
+{
+    struct stat status;
+    DIR *root = open_directory(AT_FDCWD, folder, folder, 0);
+    checked(folder, fstat(dirfd(root), &status));
+    walk->root_length = strlen(folder) + (folder[strlen(folder) - 1] != '/');
+    printf("fuse-tree 1\nroot %03o", (unsigned)status.st_mode & 0777);
+    end_line();
+    write_names(walk, root, folder);
+    fputs("end", stdout);
+    end_line();
+    tdestroy(walk->first_names, free);
+}
+
+/* Lets a walk go deep, since it holds each directory open that it is in, but no deeper than the stack bears. */
+static void limit_open_files(void)
+{
+    struct rlimit limit;
+    if (getrlimit(RLIMIT_NOFILE, &limit) == 0) {
+        limit.rlim_cur = limit.rlim_max < MOST_OPEN_FILES ? limit.rlim_max : MOST_OPEN_FILES;
+        setrlimit(RLIMIT_NOFILE, &limit);
+    }
+}
+
+int main(int count, char **words)
+{
+    struct walk walk = {0};
+    if (count != 2) {
+        fputs("usage: fuse-tree DIR\n", stderr);
+        return 2;
+    }
+    limit_open_files();
+    write_tree(&walk, words[1]);
+    if (fclose(stdout) != 0) {
+        refuse("standard output", strerror(errno));
+    }
+    return 0;
+}

@@ -1,0 +1,274 @@
+#!/usr/bin/env bash
+# Records sessions of real mounts and has the built program judge them: recorder/test.sh [PROGRAM].
+# What cannot be tried on this machine is told as skipped, with its reason.
+set -uo pipefail
+here="$(cd "$(dirname "$0")" && pwd)"
+program="$(realpath "${1:-$here/../crates/fa_audit/out/fa_audit}")"
+examples=/usr/share/doc/libfuse3-dev/examples
+passed=0
+failed=0
+servers=()
+
+skip_all() {
+    echo "recorder: skipped: $1"
+    exit 0
+}
+command -v "${CC:-cc}" > /dev/null || skip_all "no compiler"
+[ -r /dev/fuse ] && [ -w /dev/fuse ] || skip_all "/dev/fuse can't be opened"
+[ "$(id -u)" -eq 0 ] || skip_all "only root may mount without a helper"
+[ -x "$program" ] || { echo "recorder: $program is not built" >&2; exit 1; }
+
+work="$(mktemp -d)"
+lower="$work/lower"
+mnt="$work/mnt"
+capture="$work/a.cap"
+
+# Takes down what was mounted, by its own path, and ends the servers.
+clean_up() {
+    for server in "${servers[@]}"; do
+        kill -KILL "$server" 2> /dev/null
+    done
+    for folder in "$mnt" "$work/small"; do
+        while grep -qs " $folder " /proc/self/mounts && umount -l "$folder"; do :; done
+    done
+    rm -rf --one-file-system "$work"
+}
+trap clean_up EXIT
+
+# Counts one check, which holds where the words behind its name are a command that succeeds, and tells whether it does.
+check() {
+    local name="$1"
+    shift
+    if "$@"; then
+        passed=$((passed + 1))
+        return 0
+    fi
+    failed=$((failed + 1))
+    echo "recorder: failed: $name" >&2
+    for file in "$work/errors" "$capture.log"; do
+        [ ! -s "$file" ] || head -n 20 "$file" >&2
+    done
+    return 1
+}
+
+finish() {
+    echo "$passed passed, $failed failed"
+    exit $((failed > 0))
+}
+
+is_mounted() { grep -qs " $mnt " /proc/self/mounts; }
+
+# Starts a server under fuse-record and waits for its mount: record [OPTIONS] -- SERVER WORDS..
+# It is to stay in the foreground; its process is the last of servers.
+record() {
+    rm -f "$work"/a.cap* "$work/a.order" "$work/errors"
+    "$work/recorder/fuse-record" -o "$capture" "$@" 2> "$work/errors" &
+    servers+=($!)
+    for _ in $(seq 100); do
+        is_mounted && return 0
+        kill -0 "${servers[-1]}" 2> /dev/null || return 1
+        sleep 0.05
+    done
+    return 1
+}
+
+# Takes the mount down and waits for its server.
+stop() {
+    umount "$mnt" 2> /dev/null || umount -l "$mnt"
+    timeout 20 tail --pid="${servers[-1]}" -f /dev/null
+}
+
+# Prints the verdict on the capture and the order that is proposed for it.
+verdict() {
+    local tree=()
+    [ ! -e "$capture.tree" ] || tree=(--tree "$capture.tree")
+    if "$program" propose --capture "$capture" "${tree[@]}" > "$work/a.order"; then
+        "$program" check --capture "$capture" "${tree[@]}" --order "$work/a.order"
+    else
+        cat "$work/a.order"
+    fi
+}
+
+# The verdict on a session, which is printed with its name, is like a pattern.
+judged() {
+    local found
+    found="$(verdict)"
+    echo "$1: $found"
+    [[ "$found" == $2 ]]
+}
+
+# The verdict is legal, and some hundred messages were recorded.
+is_legal() { judged "$1" "legal: [1-9][0-9][0-9]* messages, *"; }
+
+# The log has so many lines with these words, or some where no number is given.
+logged() {
+    local found
+    found="$(grep -c -- "$1" "$capture.log")"
+    [ "$found" -eq "${2:-$found}" ] && [ "$found" -gt 0 ]
+}
+
+# The bytes that were in the folder before.
+fill_lower() {
+    rm -rf "$lower"
+    mkdir -p "$lower/old/deep"
+    echo here > "$lower/old/deep/file"
+    ln "$lower/old/deep/file" "$lower/second"
+    ln -s old/deep/file "$lower/symbolic"
+    mkfifo "$lower/old/pipe"
+}
+
+work_in_mount() { is_mounted && timeout 120 "$here/tests/work.sh" "$mnt"; }
+
+look_at_old() { [ "$(timeout 20 cat "$mnt/symbolic" "$mnt/second")" = $'here\nhere' ] && timeout 20 ls -lR "$mnt" > "$work/seen"; }
+
+# Works in the mount, takes it down, and has the session judged.
+whole_session() {
+    check "$1: serves several processes" work_in_mount
+    check "$1: is unmounted" stop
+    check "$1: is legal" is_legal "$1"
+}
+
+# A session of a server on the folder lower: session NAME SERVER WORDS..
+session() {
+    local name="$1"
+    shift
+    fill_lower
+    check "$name: mounts" record --lower "$lower" --refuse FALLOCATE,COPY_FILE_RANGE,IOCTL -- "$@" || return
+    check "$name: serves what was there" look_at_old
+    whole_session "$name"
+    check "$name: INIT is shown as one of 7.31" logged "INIT: minor .* shown to the server as minor 31"
+}
+
+# Starts the tests' own server: own NAME [OPTIONS OF fuse-record] -- [OPTIONS OF memory].
+own() {
+    local name="$1" options=()
+    shift
+    while [ "$1" != -- ]; do
+        options+=("$1")
+        shift
+    done
+    shift
+    check "$name: mounts" record "${options[@]}" -- "$work/memory" "$@" "$mnt" || finish
+}
+
+# Compiles a server of libfuse's package.
+compile_example() { "${CC:-cc}" -O2 -w -I/usr/include/fuse3 -I"$examples" -o "$@" -lfuse3 -pthread; }
+
+cp -r "$here" "$work/recorder"
+flags=(-std=c11 -Wall -Wextra -Werror -O2)
+mkdir "$mnt"
+check "the recorder compiles" make -s -B -C "$work/recorder" CFLAGS="-O2 -Werror" &&
+    check "the server compiles" "${CC:-cc}" "${flags[@]}" -o "$work/memory" "$here/tests/memory.c" &&
+    check "the server that splices compiles" "${CC:-cc}" "${flags[@]}" -DWITH_SPLICE -o "$work/memory-splicing" "$here/tests/memory.c" &&
+    check "the server with the header compiles" \
+        "${CC:-cc}" "${flags[@]}" -static -pthread -DWITH_HEADER -o "$work/memory-static" "$here/tests/memory.c" ||
+    finish
+# Where not even a mount without the recorder is allowed, there is nothing to try.
+"$work/memory" "$mnt" 2> "$work/errors" &
+servers+=($!)
+for _ in $(seq 100); do
+    is_mounted && break
+    grep -qs "not permitted\|No such device" "$work/errors" && skip_all "$(cat "$work/errors")"
+    sleep 0.05
+done
+stop
+
+check "README's example compiles" "${CC:-cc}" "${flags[@]}" -D_DEFAULT_SOURCE -pthread -c -o "$work/example.o" "$here/example.c"
+in_readme() { [[ "$(sed 's/^    //' "$here/README.md")" == *"$(cat "$here/$1")"* ]]; }
+check "README has the example" in_readme example.c
+
+# What the command refuses: its status, and a word of its line.
+refuses() {
+    local status="$1" words="$2" found=0
+    shift 2
+    "$work/recorder/fuse-record" "$@" > "$work/seen" 2> "$work/errors" || found=$?
+    [ "$found" -eq "$status" ] && grep -q -- "$words" "$work/errors"
+}
+check "no server is a fault of the command line" refuses 2 "usage: fuse-record" -o "$capture"
+check "no capture is a fault of the command line" refuses 2 "usage: fuse-record" -- true
+check "INIT can't be refused" refuses 2 "INIT: no operation" --refuse IOCTL,INIT -o "$capture" -- true
+check "a device is no capture" refuses 1 "/dev/null: no regular file" -o /dev/null -- true
+check "a folder that is not there has no tree" refuses 1 "no tree text of" --lower "$work/none" -o "$capture" -- true
+check "a server that is not there" refuses 127 "No such file" -o "$capture" -- "$work/none"
+
+# Servers that others wrote: libfuse's own example, and bindfs.
+if [ -e "$examples/passthrough_ll.c" ]; then
+    check "passthrough_ll compiles" compile_example "$work/passthrough_ll" "$examples/passthrough_ll.c"
+    session passthrough_ll "$work/passthrough_ll" -f -o "source=$lower" "$mnt"
+    check "passthrough_ll: an operation is refused" logged "FALLOCATE.*answered ENOSYS in the server's place"
+    # The same with a descriptor for each thread, and with answers that are spliced.
+    sed '/if(conn->capable & FUSE_CAP_EXPORT_SUPPORT)/i conn->want |= conn->capable & FUSE_CAP_SPLICE_WRITE;' \
+        "$examples/passthrough_ll.c" > "$work/splicing.c"
+    check "passthrough_ll with splices compiles" compile_example "$work/splicing" "$work/splicing.c"
+    session "passthrough_ll, splicing" "$work/splicing" -f -o clone_fd -o "source=$lower" "$mnt"
+else
+    echo "recorder: skipped: passthrough_ll: libfuse3-dev is not installed"
+fi
+if command -v bindfs > /dev/null; then
+    # Two names of a file are two nodes here: without timeouts the kernel asks for the attributes of each.
+    session bindfs bindfs -f -o hard_remove,attr_timeout=0,entry_timeout=0 "$lower" "$mnt"
+else
+    echo "recorder: skipped: bindfs is not installed"
+fi
+
+# The tests' own server: by read and writev, by splice both ways, and with the header.
+own memory --
+whole_session memory
+check "memory, splicing: mounts" record -- "$work/memory-splicing" "$mnt" && whole_session "memory, splicing"
+check "memory, linked statically: mounts" record -- "$work/memory-static" "$mnt" && whole_session "memory, linked statically"
+
+# A server that ends in the middle of its work.
+own killed -- --die-after 200
+! work_in_mount 2> /dev/null
+stop
+check "killed: is legal" is_legal "memory, killed"
+
+# A planted bug: a name that is there is denied.
+own denied -- --deny name
+timeout 20 sh -c "echo text > '$mnt/name'; cat '$mnt/name' '$mnt/name'" > "$work/seen" 2> /dev/null
+stop
+denied="$("$work/recorder/fuse-messages" "$capture" | awk '
+    / LOOKUP.* name name$/ { asked[$5 $6] = $1 } / CREATE.* name name$/ { made = 1 }
+    made && / ENOENT/ { for (key in asked) if (key == $5 $6) { print asked[key]; exit } }')"
+check "denied: is not shown at that LOOKUP" judged "memory with a denied name" "not shown: entry * message $denied: code 73: *"
+
+# What the kernel refuses is taken out of the capture, unless it is to be kept.
+own twice -- --answer-twice name
+timeout 20 ls "$mnt/name" 2> /dev/null
+stop
+check "twice: the second answer is told" logged "the kernel refused it (No such file or directory)"
+check "twice: and no part of the capture" judged "memory that answers twice" "legal: 1* messages, *"
+own kept --keep-refused -- --answer-twice name
+timeout 20 ls "$mnt/name" 2> /dev/null
+stop
+check "kept: it is a fault" judged "memory that answers twice, with what was refused" "fault: message *: code 31: *"
+
+# INIT as it is.
+own init --keep-init --
+timeout 20 ls "$mnt" > /dev/null
+stop
+check "init: the kernel's own" judged "memory with the kernel's INIT" "fault: message 1: code 24: *"
+
+# A full disk, and a limit of the file's size, end the recording and not the server.
+ended() { [ "$(wc -l < "$work/errors")" -eq 1 ] && grep -q "fuse-record: .*$1: the recording ends with [0-9]* messages" "$work/errors"; }
+mkdir "$work/small"
+check "full: a small disk" mount -t tmpfs -o size=128k none "$work/small"
+capture="$work/small/a.cap"
+own full --
+check "full: serves on" work_in_mount
+check "full: is unmounted" stop
+check "full: is told once" ended "No space left on device"
+check "full: is legal" is_legal "memory, on a full disk"
+umount "$work/small"
+capture="$work/a.cap"
+( ulimit -f 100; trap - EXIT; exec "$work/recorder/fuse-record" -o "$capture" -- "$work/memory" "$mnt" 2> "$work/errors" ) &
+servers+=($!)
+for _ in $(seq 100); do
+    is_mounted && break
+    sleep 0.05
+done
+check "limited: serves on" work_in_mount
+check "limited: is unmounted" stop
+check "limited: is told once" ended "File too large"
+check "limited: is legal" is_legal "memory, with a limit of the file's size"
+finish
