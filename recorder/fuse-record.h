@@ -366,7 +366,7 @@ static size_t fuse_record_total(const struct iovec *parts, int count)
     return total;
 }
 
-/* Records a message from the server, and writes it. */
+/* Records a message from the server, and writes it. A thread is cancelled before both or not at all. */
 static ssize_t fuse_record_send(int device, const struct iovec *parts, int count)
 {
     struct fuse_record_progress *progress = fuse_record_setup.progress;
@@ -376,6 +376,7 @@ static ssize_t fuse_record_send(int device, const struct iovec *parts, int count
     struct fuse_record_place place = {0};
     size_t length = fuse_record_total(parts, count);
     int cancels;
+    pthread_testcancel();
     pthread_setcancelstate(PTHREAD_CANCEL_DISABLE, &cancels);
     fuse_record_copy(&header, sizeof header, parts, count, false);
     if (header.unique != 0 && header.unique == progress->init && length <= sizeof init) {
@@ -390,14 +391,11 @@ static ssize_t fuse_record_send(int device, const struct iovec *parts, int count
     /* The kernel refuses what is shorter than a header. */
     if (length >= sizeof header || fuse_record_setup.keeps_refused)
         place = fuse_record_message(FUSE_RECORD_WRITE, parts, count, length);
-    pthread_setcancelstate(cancels, NULL);
     ssize_t sent = FUSE_RECORD_WRITEV(device, parts, count);
     int error = errno;
-    if (sent < 0 && place.offset != 0 && !fuse_record_setup.keeps_refused && !fuse_record_was_taken(&header, length, error)) {
-        pthread_setcancelstate(PTHREAD_CANCEL_DISABLE, &cancels);
+    if (sent < 0 && place.offset != 0 && !fuse_record_setup.keeps_refused && !fuse_record_was_taken(&header, length, error))
         fuse_record_strike(place, &header, length, error);
-        pthread_setcancelstate(cancels, NULL);
-    }
+    pthread_setcancelstate(cancels, NULL);
     errno = error;
     return sent;
 }
