@@ -119,6 +119,8 @@ int main(int count, char **words)
     };
     const char *output = NULL, *lower = NULL;
     uint64_t refused = 0;
+    unsetenv("FUSE_RECORD_KEEP_INIT");
+    unsetenv("FUSE_RECORD_KEEP_REFUSED");
     for (int option; (option = getopt_long(count, words, "+o:h", options, NULL)) != -1;) {
         switch (option) {
         case 'o': output = optarg; break;

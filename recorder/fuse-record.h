@@ -16,6 +16,7 @@
 #include <fcntl.h>
 #include <inttypes.h>
 #include <linux/fuse.h>
+#include <poll.h>
 #include <pthread.h>
 #include <signal.h>
 #include <stdarg.h>
@@ -134,26 +135,48 @@ static int fuse_record_descriptor(struct fuse_record_file *file)
     return file->descriptor;
 }
 
-/* One write; to pass the limit of a file (RLIMIT_FSIZE) is an error and no signal. A file that is appended to takes no offset. */
-static ssize_t fuse_record_write(int descriptor, const struct iovec *parts, int count, uint64_t offset)
+/*
+ * One write, at an offset or where the file is. To pass the limit of a file (RLIMIT_FSIZE), or to write to a pipe that nobody
+ * reads, is an error and no signal.
+ */
+static ssize_t fuse_record_write(int descriptor, const struct iovec *parts, int count, int64_t offset)
 {
-    sigset_t limit, before;
-    sigemptyset(&limit);
-    sigaddset(&limit, SIGXFSZ);
-    pthread_sigmask(SIG_BLOCK, &limit, &before);
+    sigset_t caught, before;
+    sigemptyset(&caught);
+    sigaddset(&caught, SIGXFSZ);
+    sigaddset(&caught, SIGPIPE);
+    pthread_sigmask(SIG_BLOCK, &caught, &before);
     ssize_t written;
     do
-        written = pwritev(descriptor, parts, count, (off_t)offset);
+        written = offset < 0 ? syscall(SYS_writev, descriptor, parts, count) : pwritev(descriptor, parts, count, (off_t)offset);
     while (written < 0 && errno == EINTR);
-    int error = errno;
-    if (written < 0 && error == EFBIG && !sigismember(&before, SIGXFSZ))
-        sigtimedwait(&limit, NULL, &(struct timespec){0, 0});
+    int error = errno, raised = error == EFBIG ? SIGXFSZ : SIGPIPE;
+    sigemptyset(&caught);
+    sigaddset(&caught, raised);
+    if (written < 0 && (error == EFBIG || error == EPIPE) && !sigismember(&before, raised))
+        sigtimedwait(&caught, NULL, &(struct timespec){0, 0});
     pthread_sigmask(SIG_SETMASK, &before, NULL);
     errno = error;
     return written;
 }
 
-/* Writes one line to the log, at its end. */
+/* Where a process ended while it held the lock, what it had written of a record is taken off. */
+static void fuse_record_lock(void)
+{
+    struct fuse_record_progress *progress = fuse_record_setup.progress;
+    if (pthread_mutex_lock(&progress->lock) != EOWNERDEAD)
+        return;
+    pthread_mutex_consistent(&progress->lock);
+    if (ftruncate(fuse_record_descriptor(&fuse_record_setup.capture), (off_t)progress->length) < 0)
+        progress->ended = true;
+}
+
+static void fuse_record_unlock(void)
+{
+    pthread_mutex_unlock(&fuse_record_setup.progress->lock);
+}
+
+/* Writes one line to the log, at its end. A log that can't be written is no reason to disturb the server. */
 __attribute__((format(printf, 1, 2))) static void fuse_record_note(const char *format, ...)
 {
     char line[512];
@@ -166,35 +189,24 @@ __attribute__((format(printf, 1, 2))) static void fuse_record_note(const char *f
     if ((size_t)length > sizeof line - 2)
         length = sizeof line - 2;
     line[length] = '\n';
-    /* A log that can't be written is no reason to disturb the server. */
     struct iovec part = {line, (size_t)length + 1};
-    fuse_record_write(fuse_record_descriptor(&fuse_record_setup.log), &part, 1, 0);
+    fuse_record_lock();
+    fuse_record_write(fuse_record_descriptor(&fuse_record_setup.log), &part, 1, -1);
+    fuse_record_unlock();
 }
 
-/* Ends the recording where no further record has room, with one line on standard error. */
-static void fuse_record_end(const char *cause)
+/* Says why the recording has ended, on standard error where that takes a line at once, and in the log. */
+static void fuse_record_tell_end(const char *cause)
 {
-    struct fuse_record_progress *progress = fuse_record_setup.progress;
-    progress->ended = true;
-    dprintf(STDERR_FILENO, "fuse-record: %s: %s: the recording ends with %" PRIu32 " messages\n", fuse_record_setup.capture.path,
-            cause, progress->messages);
-    fuse_record_note("%s: the recording ends with %" PRIu32 " messages", cause, progress->messages);
-}
-
-/* Where a process ended while it held the lock, what it had written of a record is taken off. */
-static void fuse_record_lock(void)
-{
-    struct fuse_record_progress *progress = fuse_record_setup.progress;
-    if (pthread_mutex_lock(&progress->lock) != EOWNERDEAD)
-        return;
-    pthread_mutex_consistent(&progress->lock);
-    if (ftruncate(fuse_record_descriptor(&fuse_record_setup.capture), (off_t)progress->length) < 0)
-        fuse_record_end(strerror(errno));
-}
-
-static void fuse_record_unlock(void)
-{
-    pthread_mutex_unlock(&fuse_record_setup.progress->lock);
+    char line[512];
+    uint32_t messages = fuse_record_setup.progress->messages;
+    struct pollfd error = {.fd = STDERR_FILENO, .events = POLLOUT};
+    int length = snprintf(line, sizeof line, "fuse-record: %.300s: %s: the recording ends with %" PRIu32 " messages\n",
+                          fuse_record_setup.capture.path, cause, messages);
+    struct iovec part = {line, (size_t)length < sizeof line ? (size_t)length : sizeof line};
+    if (length > 0 && poll(&error, 1, 0) == 1 && error.revents & POLLOUT)
+        fuse_record_write(STDERR_FILENO, &part, 1, -1);
+    fuse_record_note("%s: the recording ends with %" PRIu32 " messages", cause, messages);
 }
 
 /* Copies the first bytes of a message from its parts, or back to them. */
@@ -220,10 +232,13 @@ static const char *fuse_record_add(const struct iovec *record, int count, size_t
         return "a message is longer than a capture may have";
     if (progress->messages == FUSE_RECORD_MAX_MESSAGES || progress->length + length > FUSE_RECORD_MAX_BYTES)
         return "a capture may have no more";
+    struct stat found;
     int capture = fuse_record_descriptor(&fuse_record_setup.capture);
-    if (capture < 0)
+    if (capture < 0 || fstat(capture, &found) != 0)
         return strerror(errno);
-    ssize_t written = fuse_record_write(capture, record, count, progress->length);
+    if (found.st_size != (off_t)progress->length)
+        return "another process has written to it";
+    ssize_t written = fuse_record_write(capture, record, count, (int64_t)progress->length);
     if (written == (ssize_t)length) {
         progress->length += length;
         progress->messages++;
@@ -232,7 +247,7 @@ static const char *fuse_record_add(const struct iovec *record, int count, size_t
     /* A write that came short tells its cause where it is to go on. */
     struct iovec more = {record->iov_base, 1};
     if (written >= 0)
-        written = fuse_record_write(capture, &more, 1, progress->length + (uint64_t)written);
+        written = fuse_record_write(capture, &more, 1, (int64_t)progress->length + written);
     const char *cause = strerror(written < 0 ? errno : EIO);
     return ftruncate(capture, (off_t)progress->length) < 0 ? strerror(errno) : cause;
 }
@@ -254,11 +269,12 @@ static struct fuse_record_place fuse_record_parts(enum fuse_record_way way, cons
     fuse_record_lock();
     struct fuse_record_place place = {progress->length, progress->messages};
     const char *cause = progress->ended ? NULL : fuse_record_add(record, 1 + count, sizeof head + length);
-    if (cause)
-        fuse_record_end(cause);
+    progress->ended |= cause != NULL;
     if (progress->ended)
         place.offset = 0;
     fuse_record_unlock();
+    if (cause)
+        fuse_record_tell_end(cause);
     return place;
 }
 
@@ -270,8 +286,11 @@ static struct fuse_record_place fuse_record_message(enum fuse_record_way way, co
     struct iovec joined = {malloc(length), length};
     if (!joined.iov_base) {
         fuse_record_lock();
-        fuse_record_end(strerror(ENOMEM));
+        bool ended = fuse_record_setup.progress->ended;
+        fuse_record_setup.progress->ended = true;
         fuse_record_unlock();
+        if (!ended)
+            fuse_record_tell_end(strerror(ENOMEM));
         return (struct fuse_record_place){0, 0};
     }
     fuse_record_copy(joined.iov_base, length, parts, count, false);
@@ -351,7 +370,7 @@ static void fuse_record_strike(struct fuse_record_place place, const struct fuse
     struct iovec part = {&nothing, sizeof nothing};
     fuse_record_lock();
     int capture = fuse_record_descriptor(&fuse_record_setup.capture);
-    bool struck = fuse_record_write(capture, &part, 1, place.offset + FUSE_RECORD_HEAD) == sizeof nothing;
+    bool struck = fuse_record_write(capture, &part, 1, (int64_t)(place.offset + FUSE_RECORD_HEAD)) == sizeof nothing;
     fuse_record_unlock();
     fuse_record_note("message %" PRIu32 ": the kernel refused it (%s): error %" PRId32 ", unique %" PRIu64 ", %zu bytes: %s",
                      place.message, strerror(error), header->error, header->unique, length,

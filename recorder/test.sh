@@ -29,7 +29,7 @@ clean_up() {
         kill -KILL "$server" 2> /dev/null
     done
     for folder in "$mnt" "$work/small"; do
-        while grep -qs " $folder " /proc/self/mounts && umount -l "$folder"; do :; done
+        while grep -qs " $folder " /proc/self/mounts && timeout 20 umount -l "$folder"; do :; done
     done
     rm -rf --one-file-system "$work"
 }
@@ -74,8 +74,8 @@ record() {
 
 # Takes the mount down and waits for its server.
 stop() {
-    umount "$mnt" 2> /dev/null || umount -l "$mnt"
-    timeout 20 tail --pid="${servers[-1]}" -f /dev/null
+    timeout 20 umount "$mnt" 2> /dev/null || timeout 20 umount -l "$mnt"
+    timeout 20 tail --pid="${servers[-1]}" -f /dev/null && unset 'servers[-1]'
 }
 
 # Prints the verdict on the capture and the order that is proposed for it.
@@ -261,14 +261,39 @@ check "full: is told once" ended "No space left on device"
 check "full: is legal" is_legal "memory, on a full disk"
 umount "$work/small"
 capture="$work/a.cap"
-( ulimit -f 100; trap - EXIT; exec "$work/recorder/fuse-record" -o "$capture" -- "$work/memory" "$mnt" 2> "$work/errors" ) &
-servers+=($!)
-for _ in $(seq 100); do
-    is_mounted && break
-    sleep 0.05
-done
+# The same with standard error to a file, and to a pipe that nobody reads.
+limited() {
+    ( ulimit -f 100; trap - EXIT; exec "$work/recorder/fuse-record" -o "$capture" -- "$work/memory" "$mnt" 2>&5 ) &
+    servers+=($!)
+    for _ in $(seq 100); do
+        is_mounted && return 0
+        sleep 0.05
+    done
+    return 1
+}
+exec 5> "$work/errors"
+check "limited: mounts" limited
 check "limited: serves on" work_in_mount
 check "limited: is unmounted" stop
 check "limited: is told once" ended "File too large"
 check "limited: is legal" is_legal "memory, with a limit of the file's size"
+exec 5> >(true)
+check "unread: mounts" limited
+check "unread: serves on" work_in_mount
+check "unread: is unmounted" stop
+exec 5>&-
+check "unread: is legal" is_legal "memory, with standard error to nobody"
+
+# A second server of the same recording does not touch what the first one left.
+check "again: mounts" record -- sh -c "'$work/memory' '$mnt'; exec '$work/memory' '$mnt'"
+check "again: serves" work_in_mount
+timeout 20 umount "$mnt"
+for _ in $(seq 100); do
+    is_mounted && break
+    sleep 0.05
+done
+timeout 20 ls "$mnt" > "$work/seen"
+check "again: is unmounted" stop
+check "again: is told once" ended "another process has written to it"
+check "again: is legal" is_legal "memory, started again"
 finish
