@@ -243,6 +243,13 @@ timeout 20 ls "$mnt/name" 2> /dev/null
 stop
 check "kept: it is a fault" judged "memory that answers twice, with what was refused" "fault: message *: code 31: *"
 
+# A reply of which it refuses the body alone has ended its request, and stays.
+own short -- --answer-short name
+timeout 20 sh -c "echo text > '$mnt/name'; cat '$mnt/name'" 2> "$work/seen"
+stop
+check "short: its request ended" grep -q "Input/output error" "$work/seen"
+check "short: it is a fault" judged "memory that answers short" "fault: message *: code 16: *"
+
 # INIT as it is.
 own init --keep-init --
 timeout 20 ls "$mnt" > /dev/null

@@ -8,6 +8,7 @@
  *   --timeout SECONDS     how long the kernel may keep names and attributes; without it, it asks each time
  *   --deny NAME           a bug: a LOOKUP that would find NAME does so once, and from then on says ENOENT
  *   --answer-twice NAME   a bug: the answer to a LOOKUP of NAME is written twice
+ *   --answer-short NAME   a bug: the success of a LOOKUP of NAME lacks its last bytes
  *   --die-after N         ends by SIGKILL when the N-th request was read, before it is answered
  *
  * It serves until it is unmounted, or SIGTERM or SIGINT comes, and then ends with status 0.
@@ -116,6 +117,7 @@ static struct {
     uint64_t timeout;
     const char *denied;
     const char *answered_twice;
+    const char *answered_short;
     uint64_t deadly; /* the request to die at, 0 for none */
 } options;
 
@@ -357,8 +359,12 @@ static void reply(const struct request *request, int error)
     };
     struct iovec parts[] = { { &header, sizeof header }, { request->answer, body_size } };
     for (int time = 0; time < request->times; time++) {
-        /* ENOENT: nobody waits for it, or no longer. ENODEV: the mount is gone, which the next read tells too. */
-        if (send_parts(server.device, parts, body_size == 0 ? 1 : 2) < 0 && errno != ENOENT && errno != ENODEV)
+        /*
+         * ENOENT: nobody waits for it, or no longer. ENODEV: the mount is gone, which the next read tells too. EINVAL: a
+         * planted bug.
+         */
+        if (send_parts(server.device, parts, body_size == 0 ? 1 : 2) < 0 && errno != ENOENT && errno != ENODEV
+            && (errno != EINVAL || options.answered_short == NULL))
             fail("writing an answer");
     }
 }
@@ -439,7 +445,10 @@ static int do_lookup(struct request *request)
         return strlen(request->name) > NAME_MAX ? ENAMETOOLONG : ENOENT;
     if (is_named(options.denied, request->name) && server.times_found++ > 0)
         return ENOENT;
-    return answer_entry(request, entry->file);
+    answer_entry(request, entry->file);
+    if (is_named(options.answered_short, request->name))
+        request->answer_size -= sizeof(uint32_t);
+    return 0;
 }
 
 static void forget(struct file *file, uint64_t lookups)
@@ -940,7 +949,7 @@ static void mount_device(void)
 
 static _Noreturn void refuse_words(void)
 {
-    fputs("usage: memory [--timeout SECONDS] [--deny NAME] [--answer-twice NAME] [--die-after N] MOUNTPOINT\n", stderr);
+    fputs("usage: memory [--timeout SECONDS] [--deny NAME] [--answer-twice NAME] [--answer-short NAME] [--die-after N] MOUNTPOINT\n", stderr);
     exit(EXIT_FAILURE);
 }
 
@@ -959,6 +968,7 @@ static void read_words(int count, char **words)
         { "timeout", required_argument, NULL, 't' },
         { "deny", required_argument, NULL, 'd' },
         { "answer-twice", required_argument, NULL, 'a' },
+        { "answer-short", required_argument, NULL, 's' },
         { "die-after", required_argument, NULL, 'k' },
         { 0 },
     };
@@ -970,6 +980,8 @@ static void read_words(int count, char **words)
             options.denied = optarg;
         else if (option == 'a')
             options.answered_twice = optarg;
+        else if (option == 's')
+            options.answered_short = optarg;
         else if (option == 'k')
             options.deadly = number_of(optarg);
         else
