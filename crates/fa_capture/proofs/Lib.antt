@@ -4,3 +4,4 @@ pub mod FramingLemmas
 pub mod ReadingLemmas
 pub mod ReadingThereLemmas
 pub mod PullLemmas
+pub mod FrontLemmas

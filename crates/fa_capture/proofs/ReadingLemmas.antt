@@ -28,7 +28,7 @@ fit_by_limit [] each = tt
 fit_by_limit (m ∷ ms) each = (omega (arith, each.0), fit_by_limit ms each.1)
 
 -- the length of each message has its four bytes
-framed_fit : (ms : List Message) → IsFramed ms → AllByRecursion (λ m. length m.bytes < 2 ^ 32) ms
+pub framed_fit : (ms : List Message) → IsFramed ms → AllByRecursion (λ m. length m.bytes < 2 ^ 32) ms
 framed_fit ms framed = fit_by_limit ms (recursion_from_All (λ m. length m.bytes ≤ MAX_MESSAGE_BYTES) ms framed.each)
 
 direction_small : (d : Direction) → direction_byte d ≤ 1
@@ -75,7 +75,7 @@ abbrev pub EndsAt : List Message → List ℕ → Type 0
 EndsAt ms left = (left ≡ []) ⊎ ((code : ℕ) × FirstFailure (record_checks (length ms) (length (capture_spelling ms)) left) code)
 
 -- without the magic in front
-behind_magic : (ms others : List Message) (x y : List ℕ) → capture_spelling ms ++ x ≡ capture_spelling others ++ y → flat_map record_spelling ms ++ x ≡ flat_map record_spelling others ++ y
+pub behind_magic : (ms others : List Message) (x y : List ℕ) → capture_spelling ms ++ x ≡ capture_spelling others ++ y → flat_map record_spelling ms ++ x ≡ flat_map record_spelling others ++ y
 behind_magic ms others x y e =
     append_cancel_left magic (flat_map record_spelling ms ++ x) (flat_map record_spelling others ++ y) (sym (append_assoc magic (flat_map record_spelling ms) x) ∙ e ∙ append_assoc magic (flat_map record_spelling others) y)
 
@@ -230,7 +230,7 @@ pub record IsSoFar (bytes : List ℕ) (ms : List Message) (left : List ℕ) : Ty
   pub spelled : bytes ≡ capture_spelling ms ++ left
 
 -- how far the messages reach
-spelled_length : (bytes left : List ℕ) (ms : List Message) → bytes ≡ capture_spelling ms ++ left → length bytes - length left ≡ length (capture_spelling ms)
+pub spelled_length : (bytes left : List ℕ) (ms : List Message) → bytes ≡ capture_spelling ms ++ left → length bytes - length left ≡ length (capture_spelling ms)
 spelled_length bytes left ms spelled =
     let sum : length bytes ≡ length (capture_spelling ms) + length left = ap length spelled ∙ length-append (capture_spelling ms) left in
     omega (arith, sum)

@@ -59,6 +59,12 @@ pub record IsReading (bytes : List ℕ) (ms : List Message) (fault : Option Capt
   pub packets : ArePackets bytes ms
   pub ended : IsFault bytes ms fault
 
+-- The front of a capture, by how many messages it has at most: the bytes begin as a capture does, and whatever they hold, the front
+-- holds the first so many of these messages, or all where there are fewer, and has no fault.
+abbrev pub IsFrontOf : (bytes : List ℕ) → (messages : ℕ) → (front : List ℕ) → Type 0
+IsFrontOf bytes messages front =
+    HasMagic bytes × ((ms : List Message) (fault : Option CaptureFault) → IsReading bytes ms fault → IsReading front (take messages ms) None)
+
 -- two readings of the same bytes agree
 abbrev pub OneReading : Type 0
 OneReading = (bytes : List ℕ) (ms others : List Message) (fault other : Option CaptureFault) → IsReading bytes ms fault → IsReading bytes others other → (ms ≡ others) × (fault ≡ other)

@@ -1,11 +1,11 @@
 //! A capture's bytes as packets.
 
-ghost use Rattle.std.specs.Prelude.{◌≡◌, ◌≤◌, ◌<◌, length, vec_len, IfOk, IfErr, Ok, Some};
+ghost use Rattle.std.specs.Prelude.{◌≡◌, ◌≤◌, ◌<◌, length, vec_len, IfOk, IfErr, IfSome, IsNone, Ok, Some};
 ghost use Rattle.std.specs.Option.{ForSome};
 ghost use Rattle.fa_capture.specs.Checks.{FirstFailure};
 ghost use Rattle.fa_capture.specs.Message.{message, messages};
 ghost use Rattle.fa_capture.specs.Framing.{IsFramed};
-ghost use Rattle.fa_capture.specs.Reading.{IsReading, IsRecord, record_checks};
+ghost use Rattle.fa_capture.specs.Reading.{HasMagic, IsReading, IsRecord, IsFrontOf, record_checks};
 ghost use Rattle.fa_capture.specs.declared.codes.TheConstants.{NO_MAGIC, CAPTURE_TOO_LARGE};
 
 use crate::codes;
@@ -127,4 +127,31 @@ fn ended(packets: Vec<Packet<'_>>, code: u16) -> Capture<'_>
         packets,
         fault: Some(CaptureFault { whole, code }),
     }
+}
+
+/// The capture of the first messages of a capture.
+///
+/// That is the magic with their whole records, or with every whole record before the first fault where there are fewer: so the
+/// front has no fault of the framing, and of one behind its records it says nothing. `None` where the first 8 bytes are not the
+/// magic, or there are fewer: then there is no capture. The format, its limits and its faults are those of [`read_capture`], and
+/// this profile's.
+///
+/// # Cost
+///
+/// One pass over the records that are kept, in time linear in their number; message bytes are neither read nor copied. Takes no
+/// memory: the front is a slice of `bytes`.
+pub fn front(bytes: &[u8], messages: usize) -> Option<&[u8]>
+    ensures kept { IfSome result (λ front. IsFrontOf bytes.now messages front.now) }
+    ensures none { IsNone result → HasMagic bytes.now → ⊥ }
+{
+    let mut left = bytes.strip_prefix(MAGIC.as_slice())?;
+    let mut kept = 0;
+    while kept < messages && !left.is_empty() {
+        let Ok((_, behind)) = read_record(kept, bytes.len() - left.len(), left) else {
+            break;
+        };
+        left = behind;
+        kept += 1;
+    }
+    Some(&bytes[..bytes.len() - left.len()])
 }
