@@ -14,6 +14,8 @@ pub use Rattle.fa_check.proofs.VerdictLemmas.{verdict_is_one}
 pub use Rattle.fa_check.proofs.ThereLemmas.{verdict_is_there}
 -- a run leads to one tree
 pub use Rattle.fa_check.proofs.RunLemmas.{run_is_one, run_more, run_at}
+-- an order has one cut
+pub use Rattle.fa_check.proofs.CutOneLemmas.{cut_is_one}
 -- what may come next, and what a replay says of it
 pub use Rattle.fa_check.proofs.FrontLemmas.{may_come_next, comes_before_front, replayed_step, refused_no_step, entries_within, all_before_front, left_at_front}
 

@@ -14,4 +14,10 @@ pub mod ThereLemmas
 pub mod KnownLemmas
 pub mod NamingLemmas
 pub mod UnknownLemmas
+pub mod CutLemmas
+pub mod CutRunLemmas
+pub mod CutOneLemmas
+pub mod CutThereLemmas
+pub mod CuttingLemmas
+pub mod CutAgainLemmas
 pub mod CallerLemmas

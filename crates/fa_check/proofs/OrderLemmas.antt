@@ -93,6 +93,10 @@ placed_behind c es i j d q placed before within by =
       | inr kept ↦ kept
     ]
 
+-- so of two entries that are placed the later one was not answered before the earlier one was sent
+pub placed_precedence : (c : List Message) (es : List Entry) → EachPlaced c es → AllPairs (λ earlier later. (q : ℕ) → IsAnsweredBy c later.at q → earlier.at ≤ q) es
+placed_precedence c es placed = λ i j d before within q by. placed_behind c es i j d q placed before within by
+
 -- entries that are all placed and leave out no answered request are a valid order
 pub placed_valid : (c : List Message) (es : List Entry) → EachPlaced c es → ((p : ℕ) → IsAnsweredUnplaced c es p → ⊥) → IsValidOrder c es
 placed_valid c es placed none = record {
@@ -102,7 +106,7 @@ placed_valid c es placed none = record {
     | inl has ↦ has
     | inr lacks ↦ absurd (none p (asked, (q, by), lacks))
   ];
-  precedence = λ i j d before within q by. placed_behind c es i j d q placed before within by;
+  precedence = placed_precedence c es placed;
   choices = λ k d within. (placed_at c es k d placed within).1.1.1.0;
 }
 

@@ -137,7 +137,7 @@ second_named name_of None other name is some = let clash = is ∙ ap (option_map
 second_named name_of (Some node) other name is some = (node, same_Some (name_of node) (Some name) (is ∙ ap (option_map (λ n. Some n)) some))
 
 -- behind the entries that are placed before it, the tree knows what the call of an entry names
-step_known : (c : List Message) (first tree : TreeState) (earlier : List Entry) (e : Entry) → Runs first tree c earlier
+pub step_known : (c : List Message) (first tree : TreeState) (earlier : List Entry) (e : Entry) → Runs first tree c earlier
     → ((asked q : ℕ) → IsTreeRequestAt c asked → IsAnsweredBy c asked q → q < e.at → Contains (numbers earlier) asked) → StepFails tree c e UNKNOWN_HERE → ⊥
 step_known c first tree earlier e run placed fails =
     all_known tree call (named call.request.node call.node asked.node) others handles (told_unknown tree call e.wrote fails.so_far fails.fails)

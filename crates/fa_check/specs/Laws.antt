@@ -1,15 +1,17 @@
 -- What holds of orders and verdicts.
-use Rattle.std.specs.Prelude.{◌≡◌, ◌↔◌, ℕ, List}
+use Rattle.std.specs.Prelude.{◌≡◌, ◌↔◌, ℕ, ◌≤◌, List, length, take}
 use Rattle.fa_capture.specs.declared.codes.TheConstants.{UNKNOWN_HERE}
 use Rattle.fa_capture.specs.Message.{Message}
 use Rattle.fa_ledger.specs.Passing.{AreGood}
 use Rattle.fa_tree.specs.State.{TreeState}
 use Rattle.fa_order.specs.declared.entry.Entry.{Entry}
 use Rattle.fa_check.specs.declared.verdict.Verdict.{Verdict}
+use Rattle.fa_check.specs.declared.verdict.Verdict.TheVariants.{Legal}
 use Rattle.fa_check.specs.Orders.{IsValidOrder}
-use Rattle.fa_check.specs.Runs.{Runs, IsLegalRun}
+use Rattle.fa_check.specs.Runs.{Runs, IsLegalRun, HasOrder}
 use Rattle.fa_check.specs.Faults.{EachPlaced, IsAnsweredUnplaced, IsOrderAtFault}
 use Rattle.fa_check.specs.Verdicts.{IsVerdict}
+use Rattle.fa_check.specs.Cuts.{IsCut, Explains}
 
 -- An order is valid exactly where each entry passes the checks of its place after those before it, and none that was answered
 -- is left out.
@@ -47,3 +49,49 @@ VerdictIsThere =
 abbrev pub NeverUnknownHere : Type 0
 NeverUnknownHere =
     (c : List Message) (first : TreeState) (es : List Entry) (entry at : ℕ) → IsOrderAtFault c first es entry at UNKNOWN_HERE → ⊥
+
+-- The prefix law: an order that is a legal run of the messages is, cut at any message, a legal run of the messages before it.
+abbrev pub CutIsLegal : Type 0
+CutIsLegal =
+    (c : List Message) (first : TreeState) (es cut : List Entry) (m : ℕ)
+    → IsLegalRun c first es → IsCut c m es cut → IsLegalRun (take m c) first cut
+
+-- The prefix law for entries that need not hold all answers: where they explain the replies before a message of good messages,
+-- what is left of them, cut at that message, is a legal run of the messages before it.
+abbrev pub ExplainedIsLegalCut : Type 0
+ExplainedIsLegalCut =
+    (c : List Message) (first : TreeState) (es cut : List Entry) (m : ℕ)
+    → AreGood c → Explains c first m es → IsCut c m es cut → IsLegalRun (take m c) first cut
+
+-- What is legal explains the replies before each message.
+abbrev pub LegalExplains : Type 0
+LegalExplains = (c : List Message) (first : TreeState) (es : List Entry) (m : ℕ) → IsLegalRun c first es → Explains c first m es
+
+-- Of good messages entries that explain all replies are legal.
+abbrev pub ExplainsAllIsLegal : Type 0
+ExplainsAllIsLegal = (c : List Message) (first : TreeState) (es : List Entry) → AreGood c → Explains c first (length c) es → IsLegalRun c first es
+
+-- An order cut at a message, and what is left cut again at an earlier one, is the order cut at the earlier one.
+abbrev pub CutAgain : Type 0
+CutAgain =
+    (c : List Message) (k m : ℕ) (es cut again : List Entry)
+    → k ≤ m → EachPlaced c es → IsCut c m es cut → IsCut (take m c) k cut again → IsCut c k es again
+
+-- Messages whose first ones have no order have none, however they go on: what has an order keeps one in each of its fronts.
+abbrev pub NoOrderStays : Type 0
+NoOrderStays = (c : List Message) (first : TreeState) (m : ℕ) → (HasOrder (take m c) first → ⊥) → HasOrder c first → ⊥
+
+-- An order has one cut at a message at most.
+abbrev pub CutIsOne : Type 0
+CutIsOne = (c : List Message) (m : ℕ) (es cut other : List Entry) → IsCut c m es cut → IsCut c m es other → cut ≡ other
+
+-- Of good messages an order has never no cut.
+abbrev pub CutIsThere : Type 0
+CutIsThere = (c : List Message) (m : ℕ) (es : List Entry) → AreGood c → ((cut : List Entry) → IsCut c m es cut → ⊥) → ⊥
+
+-- So the verdict of a legal order that is cut is, for the messages before, that it is legal.
+abbrev pub CutIsToldLegal : Type 0
+CutIsToldLegal =
+    (c : List Message) (first : TreeState) (es cut : List Entry) (m : ℕ) (verdict : Verdict)
+    → IsLegalRun c first es → IsCut c m es cut → IsVerdict (take m c) first cut verdict
+    → (messages placed left : ℕ) × (verdict ≡ Legal messages placed left)

@@ -6,6 +6,8 @@ pub mod Orders
 pub mod Runs
 -- the first entry at fault of those that are not
 pub mod Faults
+-- orders that are cut at a message
+pub mod Cuts
 -- what is answered
 pub mod Verdicts
 -- which marks of a list are set

@@ -48,3 +48,7 @@ pub record IsLegalRun (c : List Message) (first : TreeState) (es : List Entry) :
   pub valid : IsValidOrder c es
   pub last : TreeState
   pub run : Runs first last c es
+
+-- Some order of these messages is legal from this first tree. Messages that are not good have none.
+abbrev pub HasOrder : List Message → TreeState → Type 0
+HasOrder c first = (es : List Entry) × IsLegalRun c first es

@@ -4,3 +4,5 @@
 pub mod Placing
 -- what is answered of an entry that fails
 pub mod Answers
+-- how far the front of a cut order goes
+pub mod Cutting

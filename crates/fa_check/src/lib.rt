@@ -2,11 +2,13 @@
 #![tactic(auto)]
 
 mod checking;
+mod cutting;
 pub mod laws;
 mod placing;
 mod verdict;
 mod waiting;
 
 pub use checking::check;
+pub use cutting::cut;
 pub use placing::Placing;
 pub use verdict::Verdict;

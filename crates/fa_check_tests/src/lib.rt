@@ -4,6 +4,8 @@
 #![tactic(auto)]
 
 #[cfg(test)]
+mod cuts;
+#[cfg(test)]
 mod memory;
 #[cfg(test)]
 mod proposals;

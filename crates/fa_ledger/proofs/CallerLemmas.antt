@@ -13,7 +13,7 @@ use Rattle.fa_ledger.proofs.CallStepLemmas.{call_kept}
 -- events, one more of them, and those of the first messages
 pub use Rattle.fa_ledger.proofs.EventLemmas.{element_at, same_places, event_is_one, events_are_one}
 pub use Rattle.fa_ledger.proofs.GoodLemmas.{take_front, events_front}
-pub use Rattle.fa_ledger.proofs.CallStepLemmas.{events_more, asked_place, answered_place, asked_later, event_asked, event_unanswered}
+pub use Rattle.fa_ledger.proofs.CallStepLemmas.{events_more, asked_place, answered_place, asked_later, event_asked, event_unanswered, message_of, request_event}
 -- one event more: counts, the names of nodes, and keys
 pub use Rattle.fa_ledger.proofs.GrowthLemmas.{given_more, taken_more, name_kept, name_new, counted_named, uncounted_unnamed, named_counted}
 pub use Rattle.fa_ledger.proofs.HandleLemmas.{opened_more, closed_more, open_still, open_before, open_now, since_open}
@@ -26,11 +26,13 @@ pub use Rattle.fa_ledger.proofs.TableLemmas.{either_way, ok_also, err_also, wrot
 pub use Rattle.fa_ledger.proofs.HandleLemmas.{handle_is_one}
 pub use Rattle.fa_ledger.proofs.ListedLemmas.{uses_is_one, listed_is_one, listing_is_one}
 -- calls, and one event more
-pub use Rattle.fa_ledger.proofs.CallLemmas.{call_at, call_with, call_is_one, calls_of_are_one, calls_are_one}
+pub use Rattle.fa_ledger.proofs.CallLemmas.{answers_at, call_at, call_with, call_is_one, calls_of_are_one, calls_are_one}
 pub use Rattle.fa_ledger.proofs.CallStepLemmas.{call_kept, calls_kept, calls_asked, calls_answered}
 -- messages that are allowed have events, and good ones have never no calls
 pub use Rattle.fa_ledger.proofs.EventThereLemmas.{events_are_there}
 pub use Rattle.fa_ledger.proofs.ThereLemmas.{calls_are_there}
+-- requests, answers, good messages and calls of the first messages
+pub use Rattle.fa_ledger.proofs.FrontLemmas.{asked_of_front, asked_in_front, answers_of_front, answers_in_front, good_front, unanswered, call_in_front, call_cut_off}
 -- items one after the other
 pub use Rattle.fa_ledger.proofs.TakingLemmas.{moved_on}
 pub use Rattle.fa_ledger.proofs.GivingLemmas.{all_at}

@@ -7,6 +7,7 @@ pub mod EventLemmas
 pub mod RisingLemmas
 pub mod ListedLemmas
 pub mod CallLemmas
+pub mod FrontLemmas
 pub mod KeyLemmas
 pub mod NodeLemmas
 pub mod CallStepLemmas

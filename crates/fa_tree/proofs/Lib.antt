@@ -12,10 +12,12 @@ pub mod ListingLemmas
 pub mod ListingStepLemmas
 pub mod MakingLemmas
 pub mod NameLemmas
+pub mod NamedLemmas
 pub mod NodeLemmas
 pub mod OpenLemmas
 pub mod OrderlyLemmas
 pub mod OutcomeLemmas
+pub mod PartLemmas
 pub mod PlaceOrderLemmas
 pub mod QueryLemmas
 pub mod RenameLemmas
@@ -32,3 +34,4 @@ pub mod TallyLemmas
 pub mod TreeLemmas
 pub mod ViewLemmas
 pub mod WalkLemmas
+pub mod CallerLemmas

@@ -1,14 +1,22 @@
 -- What holds of steps.
-use Rattle.std.specs.Prelude.{◌≡◌, ◌↔◌, ℕ, List, Option}
+use Rattle.std.specs.Prelude.{◌≡◌, ◌↔◌, ℕ, List, [], Contains, Option, Some, option_map}
+use Rattle.std.specs.Ordering.{nat_cmp}
+use Rattle.std.specs.FinMap.{FinMap, get}
 use Rattle.fa_capture.specs.Checks.{AllHold, FirstFailure}
 use Rattle.fa_bodies.specs.declared.mode.Kind.{Kind}
 use Rattle.fa_bodies.specs.Dirents.{PlainDirent}
-use Rattle.fa_ledger.specs.Calls.{PlainCall}
+use Rattle.fa_bodies.specs.Requests.{PlainBody}
+use Rattle.fa_ledger.specs.declared.name.NodeName.{NodeName}
+use Rattle.fa_ledger.specs.Calls.{PlainAnswer, PlainCall}
 use Rattle.fa_ledger.specs.Kinds.{IsReadingRequest}
-use Rattle.fa_tree.specs.State.{Store, TreeState, IsOfKind}
+use Rattle.fa_tree.specs.State.{OpenDirectory, Store, TreeState, IsOfKind}
 use Rattle.fa_tree.specs.Resolved.{Question, Resolved}
 use Rattle.fa_tree.specs.Conditions.{MayBeDone}
-use Rattle.fa_tree.specs.Changes.{changed}
+use Rattle.fa_tree.specs.Edits.{Edit, open_after, handles_after}
+use Rattle.fa_tree.specs.Changes.{edits, changed}
+use Rattle.fa_tree.specs.Bindings.{given_in}
+use Rattle.fa_tree.specs.Outcomes.{outcome}
+use Rattle.fa_tree.specs.Outcomes.Outcome.{Succeeds}
 use Rattle.fa_tree.specs.Steps.{step_checks, Steps}
 use Rattle.fa_tree.specs.Building.{empty_tree, file_of_kind, MayBeAdded, tree_added, MayBeLinkedTo, tree_linked}
 use Rattle.fa_tree.specs.Shape.{IsTree}
@@ -34,6 +42,33 @@ NoStepWhereOneFails =
 -- A reading request leaves what is stored.
 abbrev pub ReadingChangesNothing : Type 0
 ReadingChangesNothing = (s : Store) (x : Resolved) (q : Question) (count : ℕ) → IsReadingRequest q.body → changed s x q count ≡ s
+
+-- A reading request edits no names.
+abbrev pub ReadingEditsNothing : Type 0
+ReadingEditsNothing = (s : Store) (x : Resolved) (body : PlainBody) → IsReadingRequest body → edits s x body ≡ []
+
+-- No edits leave the open directories.
+abbrev pub NoEditsLeaveOpen : Type 0
+NoEditsLeaveOpen = (handles : FinMap nat_cmp OpenDirectory) → handles_after [] handles ≡ handles
+
+-- Edits change each open directory by itself.
+abbrev pub EachOpenByItself : Type 0
+EachOpenByItself =
+    (edits : List Edit) (handles : FinMap nat_cmp OpenDirectory) (asked : ℕ)
+    → get (handles_after edits handles) asked ≡ option_map (open_after edits) (get handles asked)
+
+-- A name of a node stands for the same file after a step.
+abbrev pub NamesKeepFiles : Type 0
+NamesKeepFiles =
+    (old new : TreeState) (call : PlainCall) (wrote : Option ℕ) (so_far : List PlainDirent) (name : NodeName) (file : ℕ)
+    → Steps old new call wrote so_far → get old.nodes name ≡ Some file → get new.nodes name ≡ Some file
+
+-- After a success each name that its answer gives stands for the file of the reply.
+abbrev pub GivenNamesStand : Type 0
+GivenNamesStand =
+    (old new : TreeState) (call : PlainCall) (wrote : Option ℕ) (so_far : List PlainDirent) (answer : PlainAnswer)
+    → (s : Steps old new call wrote so_far) → outcome call ≡ Succeeds answer → (name : NodeName) (file : ℕ)
+    → Contains (given_in new.store s.files call.request.body answer) (name, file) → get new.nodes name ≡ Some file
 
 -- The empty tree is a tree, and what may be added to one leaves one.
 pub record BuildingKeepsTrees : Type 0 where

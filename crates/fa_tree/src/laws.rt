@@ -1,6 +1,6 @@
 //! What holds of steps. Each function does nothing: its contract is the law.
 
-ghost use Rattle.fa_tree.specs.Laws.{StepIsOne, StepsWhereAllHold, NoStepWhereOneFails, ReadingChangesNothing, BuildingKeepsTrees, ChangesKeepTrees, FilesStay};
+ghost use Rattle.fa_tree.specs.Laws.{StepIsOne, StepsWhereAllHold, NoStepWhereOneFails, ReadingChangesNothing, ReadingEditsNothing, NoEditsLeaveOpen, EachOpenByItself, NamesKeepFiles, GivenNamesStand, BuildingKeepsTrees, ChangesKeepTrees, FilesStay};
 
 /// From a tree a call leads to one tree at most.
 pub fn step_is_one()
@@ -20,6 +20,31 @@ pub fn no_step_where_one_fails()
 /// A reading request leaves what is stored.
 pub fn reading_changes_nothing()
     ensures { ReadingChangesNothing }
+{}
+
+/// A reading request edits no names.
+pub fn reading_edits_nothing()
+    ensures { ReadingEditsNothing }
+{}
+
+/// No edits leave the open directories.
+pub fn no_edits_leave_open()
+    ensures { NoEditsLeaveOpen }
+{}
+
+/// Edits change each open directory by itself.
+pub fn each_open_by_itself()
+    ensures { EachOpenByItself }
+{}
+
+/// A name of a node stands for the same file after a step.
+pub fn names_keep_files()
+    ensures { NamesKeepFiles }
+{}
+
+/// After a success each name that its answer gives stands for the file of the reply.
+pub fn given_names_stand()
+    ensures { GivenNamesStand }
 {}
 
 /// The empty tree is a tree, and what may be added to one leaves one.

@@ -1,0 +1,33 @@
+use Rattle.std.proofs.Common.{◌≡◌, length, arith, rules, vec_len}
+use Rattle.std.specs.Prelude.{map}
+use Rattle.std.proofs.lemmas.List.{length-map}
+use Rattle.std.proofs.lemmas.Option.{slice_get_within}
+use Rattle.fa_ledger.specs.Calls.{call_shown}
+use Rattle.fa_check.proofs.CuttingLemmas.{on_none, no_call, found_as, shown_not_done, done_test}
+use Rattle.fa_check.proofs.cutting.is_done.Goals as goal
+
+pub returns-in_default : goal.returns-in_default
+returns-in_default c = λ messages is. (
+  (λ t. absurd cc),
+  (λ done. absurd (no_call c.args.calls.now c.args.entry.at (on_none c.find.result _ c.find.ensures.none c.in_default.not-Some) messages is done.0)),
+)
+
+pub index-requires : goal.index-requires
+index-requires c =
+    let list = c.args.calls.now.list.items in
+    let found = c.in-Some.ensures.found in
+    let within = slice_get_within (map call_shown list) c.in-Some.place found.0 found.1 in
+    let long : vec_len c.args.calls.now.list ≡ length list = search rules in
+    omega (arith, within, length-map list call_shown, long)
+
+pub returns-in-Some-answer : goal.returns-in-Some-answer
+returns-in-Some-answer c = λ messages is.
+    done_test c.args.calls.now c.in-Some.place c.args.messages c.args.entry c.index.result.now
+    (found_as c.args.calls.now c.in-Some.place c.args.entry.at c.index.result.now c.in-Some.ensures.found c.index.ensures) messages is c.in-Some-answer.answer c.in-Some-answer.is
+
+pub returns-in-None : goal.returns-in-None
+returns-in-None c = λ messages is. (
+  (λ t. absurd cc),
+  (λ done. absurd (shown_not_done c.args.calls.now c.in-Some.place c.args.messages c.args.entry c.index.result.now
+      (found_as c.args.calls.now c.in-Some.place c.args.entry.at c.index.result.now c.in-Some.ensures.found c.index.ensures) messages is c.in-None.is done)),
+)

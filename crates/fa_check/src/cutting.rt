@@ -1,0 +1,206 @@
+//! Orders that are cut at a message.
+
+ghost use Rattle.std.specs.Prelude.{◌≡◌, ◌≤◌, ◌↔◌, List, length, IsTrue, IfOk, IfSome, IfNone};
+ghost use Rattle.fa_capture.specs.Message.{Message};
+ghost use Rattle.fa_bodies.specs.Requests.{body_shown, request_shown};
+ghost use Rattle.fa_bodies.specs.Replies.{reply_shown};
+ghost use Rattle.fa_ledger.specs.Kinds.{IsReadingRequest};
+ghost use Rattle.fa_tree.specs.Outcomes.{count_by_reply};
+ghost use Rattle.fa_check.specs.Verdicts.{AreMessagesOf};
+ghost use Rattle.fa_check.specs.Cuts.{LeavesNothing, wrote_without, Goes, Stays, IsDone, IsCut};
+ghost use Rattle.fa_check.specs.parts.Cutting.{IsFrontOf};
+
+use fa_bodies::{Reply, Request, RequestBody};
+use fa_ledger::Calls;
+use fa_order::Entry;
+use std::alloc::{AllocError, Global};
+
+/// What is left of an order for the first `messages` messages of a capture.
+///
+/// The entries up to and with the last one that names a tree request which one of these messages answers; none where there is no such
+/// entry. Of them an entry whose request was answered later stays where the answer is a success of a changing request, and that of a
+/// WRITE then carries the count which the answer tells; where it is an error, or the request only reads, the entry goes. An entry that
+/// names no tree request goes. All others stay as they are: those whose request was answered by one of these messages, or never.
+///
+/// Any list of entries is cut so. Where the order is legal, what is left is legal for these messages ([`laws`](crate::laws)). With more
+/// messages than there are, what stands behind the last answered request goes, and what names no tree request.
+///
+/// # Errors
+///
+/// `AllocError` where memory was refused.
+///
+/// # Cost
+///
+/// Memory for the entries that are left. Time linear in the entries, with a logarithm of the calls for each.
+pub fn cut(
+    alloc: Global,
+    calls: &Calls<'_>,
+    order: &[Entry],
+    messages: u32,
+) -> Result<Vec<Entry>, AllocError>
+    ensures { IfOk result (λ left. (c : List Message) → AreMessagesOf calls.now c → IsCut c messages order.now left.items) }
+{
+    let end = front(calls, order, messages);
+    let mut left = Vec::new(alloc);
+    for entry in &order[..end] {
+        if let Some(stays) = left_of(calls, *entry, messages) {
+            left.push(stays)?;
+        }
+    }
+    Ok(left)
+}
+
+/// How many entries come up to and with the last one that names a tree request which the first messages answer.
+fn front(calls: &Calls<'_>, order: &[Entry], messages: u32) -> usize
+    ensures within { result ≤ length order.now }
+    ensures exact { (c : List Message) → AreMessagesOf calls.now c → IsFrontOf c messages order.now result }
+{
+    let mut end = 0;
+    for (place, entry) in order.iter().enumerate() {
+        if is_done(calls, *entry, messages) {
+            end = place + 1;
+        }
+    }
+    end
+}
+
+/// Whether the entry names a tree request that one of the first messages answers.
+fn is_done(calls: &Calls<'_>, entry: Entry, messages: u32) -> bool
+    ensures { (c : List Message) → AreMessagesOf calls.now c → IsTrue result ↔ IsDone c messages entry }
+{
+    let Some(place) = calls.find(entry.at) else {
+        return false;
+    };
+    match &calls.list[place].answer {
+        Some(answer) => answer.at < messages,
+        None => false,
+    }
+}
+
+/// What is left of an entry, if it stays.
+fn left_of(calls: &Calls<'_>, entry: Entry, messages: u32) -> Option<Entry>
+    ensures stays { IfSome result (λ left. (c : List Message) → AreMessagesOf calls.now c → Stays c messages entry left) }
+    ensures goes { IfNone result ((c : List Message) → AreMessagesOf calls.now c → Goes c messages entry) }
+{
+    let Some(place) = calls.find(entry.at) else {
+        return None;
+    };
+    let call = &calls.list[place];
+    let Some(answer) = &call.answer else {
+        return Some(entry);
+    };
+    if answer.at < messages {
+        return Some(entry);
+    }
+    if leaves_nothing(&call.request, &answer.reply) {
+        return None;
+    }
+    Some(Entry {
+        at: entry.at,
+        wrote: wrote_without(&call.request.body, &answer.reply, entry.wrote),
+    })
+}
+
+/// Whether nothing is left of a request without this reply.
+fn leaves_nothing(request: &Request<'_>, reply: &Reply<'_>) -> bool
+    ensures { IsTrue result ↔ LeavesNothing (request_shown request.now) (reply_shown reply.now) }
+{
+    match reply {
+        Reply::Refused(_) => true,
+        Reply::Empty
+        | Reply::Entry(_)
+        | Reply::Created { .. }
+        | Reply::Attributes(_)
+        | Reply::Opened(_)
+        | Reply::Written(_)
+        | Reply::Bytes(_)
+        | Reply::Listed(_)
+        | Reply::Negotiated(_)
+        | Reply::Skipped => is_reading(&request.body),
+    }
+}
+
+/// Whether a request of this body only reads.
+fn is_reading(body: &RequestBody<'_>) -> bool
+    ensures { IsTrue result ↔ IsReadingRequest (body_shown body.now) }
+{
+    match body {
+        RequestBody::Lookup { .. }
+        | RequestBody::Getattr(_)
+        | RequestBody::Readlink
+        | RequestBody::Read(_)
+        | RequestBody::Opendir(_)
+        | RequestBody::Readdir(_)
+        | RequestBody::Readdirplus(_) => true,
+        RequestBody::Forget { .. }
+        | RequestBody::Setattr(_)
+        | RequestBody::Symlink { .. }
+        | RequestBody::Mknod { .. }
+        | RequestBody::Mkdir { .. }
+        | RequestBody::Unlink { .. }
+        | RequestBody::Rmdir { .. }
+        | RequestBody::Rename { .. }
+        | RequestBody::Link { .. }
+        | RequestBody::Open(_)
+        | RequestBody::Write { .. }
+        | RequestBody::Release(_)
+        | RequestBody::Flush(_)
+        | RequestBody::Init(_)
+        | RequestBody::Releasedir(_)
+        | RequestBody::Create { .. }
+        | RequestBody::BatchForget { .. }
+        | RequestBody::Passed => false,
+    }
+}
+
+/// What the entry of a request carries without this reply.
+fn wrote_without(body: &RequestBody<'_>, reply: &Reply<'_>, wrote: Option<u32>) -> Option<u32>
+    ensures { result ≡ wrote_without (body_shown body.now) (reply_shown reply.now) wrote }
+{
+    match body {
+        RequestBody::Write { .. } => Some(count_of(reply)),
+        RequestBody::Lookup { .. }
+        | RequestBody::Forget { .. }
+        | RequestBody::Getattr(_)
+        | RequestBody::Setattr(_)
+        | RequestBody::Readlink
+        | RequestBody::Symlink { .. }
+        | RequestBody::Mknod { .. }
+        | RequestBody::Mkdir { .. }
+        | RequestBody::Unlink { .. }
+        | RequestBody::Rmdir { .. }
+        | RequestBody::Rename { .. }
+        | RequestBody::Link { .. }
+        | RequestBody::Open(_)
+        | RequestBody::Read(_)
+        | RequestBody::Release(_)
+        | RequestBody::Flush(_)
+        | RequestBody::Init(_)
+        | RequestBody::Opendir(_)
+        | RequestBody::Readdir(_)
+        | RequestBody::Releasedir(_)
+        | RequestBody::Create { .. }
+        | RequestBody::BatchForget { .. }
+        | RequestBody::Readdirplus(_)
+        | RequestBody::Passed => wrote,
+    }
+}
+
+/// How many bytes a reply says were written.
+fn count_of(reply: &Reply<'_>) -> u32
+    ensures { result ≡ count_by_reply (reply_shown reply.now) }
+{
+    match reply {
+        Reply::Written(size) => *size,
+        Reply::Refused(_)
+        | Reply::Empty
+        | Reply::Entry(_)
+        | Reply::Created { .. }
+        | Reply::Attributes(_)
+        | Reply::Opened(_)
+        | Reply::Bytes(_)
+        | Reply::Listed(_)
+        | Reply::Negotiated(_)
+        | Reply::Skipped => 0,
+    }
+}
