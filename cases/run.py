@@ -16,7 +16,7 @@ import tempfile
 
 HERE = os.path.dirname(os.path.abspath(__file__))
 PROGRAM = os.path.join(HERE, "..", "crates", "fa_audit", "out", "fa_audit")
-OWN_FILES = {"run.py", "README.md"}
+OWN_FILES = {"run.py", "cuts.py", "README.md"}
 SECONDS = 60
 
 

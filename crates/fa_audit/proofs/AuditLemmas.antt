@@ -20,13 +20,16 @@ use Rattle.fa_audit.specs.declared.verdict.StartError.{StartError}
 use Rattle.fa_audit.specs.declared.verdict.StartError.TheVariants as starts
 use Rattle.fa_audit.specs.Verdict.{IsGivenTree, IsAnswer, Exactly, OneAnswer}
 use Rattle.fa_audit.specs.Proposed.{answer_of}
-use Rattle.fa_audit.specs.parts.Answers.{Tells, IsStartOf, IsNoStart, IsTreeRefused, IsOrderRefused}
+use Rattle.fa_audit.specs.declared.protocol.Broken.{Broken}
+use Rattle.fa_audit.specs.declared.protocol.Broken.TheVariants as broken
+use Rattle.fa_audit.specs.parts.Protocol.{IsBroken}
+use Rattle.fa_audit.specs.parts.Answers.{Tells, AreCallsOf, IsCaptureRefused, start_refused, IsStartOf, IsNoStart, IsTreeRefused, IsOrderRefused}
 
 pub messages_length : (packets : List Packet) → length (messages packets) ≡ length packets
 messages_length packets = length-map packets message
 
 -- the first message that does not pass
-pub message_fault : (bytes : List ℕ) (packets given : List Packet) (framing : Option CaptureFault) (at code : ℕ) → IsReading bytes (messages packets) framing → given ≡ packets → IsMessageFault (messages given) at code → IsFirstFault bytes at code
+message_fault : (bytes : List ℕ) (packets given : List Packet) (framing : Option CaptureFault) (at code : ℕ) → IsReading bytes (messages packets) framing → given ≡ packets → IsMessageFault (messages given) at code → IsFirstFault bytes at code
 message_fault bytes packets given framing at code read same fault = record {
   messages = messages packets;
   framing = framing;
@@ -43,6 +46,11 @@ framing_fault bytes packets given framing f read same good is = record {
   read = read;
   fault = inr (record { there = is; passes = subst (λ (ps : List Packet). AreGood (messages ps)) same good });
 }
+
+-- messages that have no calls, in a capture
+pub broken_refused : (bytes : List ℕ) (packets given : List Packet) (framing : Option CaptureFault) (b : Broken) → IsReading bytes (messages packets) framing → given ≡ packets → IsBroken (messages given) b → IsCaptureRefused bytes b
+broken_refused bytes packets given framing (broken.Fault at code) read same fault = message_fault bytes packets given framing at code read same fault
+broken_refused bytes packets given framing broken.Memory read same fault = tt
 
 -- a good capture
 pub good_capture : (bytes : List ℕ) (packets given : List Packet) (framing : Option CaptureFault) → IsReading bytes (messages packets) framing → given ≡ packets → AreGood (messages given) → framing ≡ None
@@ -130,16 +138,24 @@ order_told capture tree order c first Memory good given fault = tt
 
 -- ---- what an order starts with
 
--- the calls of a good capture, and the given tree
-pub start_of : (bytes : List ℕ) (tree : Option (List ℕ)) (packets given : List Packet) (framing : Option CaptureFault) (calls : Calls) (first : TreeState)
+-- the calls of a good capture
+pub calls_of_good : (bytes : List ℕ) (packets given : List Packet) (framing : Option CaptureFault) (calls : Calls)
     → IsReading bytes (messages packets) framing → given ≡ packets → AreGood (messages given) → calls.messages ≡ length given → AreCalls (messages given) (map call_shown calls.list.items)
-    → framing ≡ None → IsGivenTree tree first → IsStartOf bytes tree calls first
-start_of bytes tree packets given framing calls first read same good counted are none is_given = record {
+    → framing ≡ None → AreCallsOf bytes calls
+calls_of_good bytes packets given framing calls read same good counted are none = record {
   c = messages packets;
   good = good_capture bytes packets given framing read same good none;
   are = messages_of packets given calls same good counted are;
-  given = is_given;
 }
+
+-- they and the given tree are a start
+pub start_of : (bytes : List ℕ) (tree : Option (List ℕ)) (calls : Calls) (first : TreeState) → AreCallsOf bytes calls → IsGivenTree tree first → IsStartOf bytes tree calls first
+start_of bytes tree calls first of is_given = record { c = of.c; good = of.good; are = of.are; given = is_given }
+
+-- a capture that is refused is no start
+pub capture_no_start : (capture : List ℕ) (tree : Option (List ℕ)) (b : Broken) → IsCaptureRefused capture b → IsNoStart capture tree (start_refused b)
+capture_no_start capture tree (broken.Fault at code) fault = fault
+capture_no_start capture tree broken.Memory fault = tt
 
 -- a fault of the tree text behind a good capture
 pub tree_no_start : (capture : List ℕ) (tree : Option (List ℕ)) (c : List Message) (error : StartError) → IsGoodCapture capture c → IsTreeRefused tree error → IsNoStart capture tree error

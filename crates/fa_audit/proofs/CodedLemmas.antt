@@ -65,7 +65,7 @@ framing_coded : (bytes : List ℕ) (c : List Message) (framing : Option CaptureF
 framing_coded bytes c framing at code read is =
     framing_cases bytes c (record { whole = at; code = code }) (is_some (text_of code)) refl (subst (IsFault bytes c) is read.ended)
 
-fault_coded : (capture : List ℕ) (at code : ℕ) → IsFirstFault capture at code → IsSome (text_of code)
+pub fault_coded : (capture : List ℕ) (at code : ℕ) → IsFirstFault capture at code → IsSome (text_of code)
 fault_coded capture at code first =
     elim first.fault [
       | inl message ↦ coded_failure (message_checks (take at first.messages) message.message) code (message_coded message.message.direction (take at first.messages) message.message) message.fails

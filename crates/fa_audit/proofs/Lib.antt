@@ -8,3 +8,4 @@ pub mod AnswerLemmas
 pub mod RunLemmas
 pub mod OneProposal
 pub mod ProposalLemmas
+pub mod CutOrderLemmas

@@ -11,8 +11,8 @@ use Rattle.fa_propose.specs.Proposals.{IsProposal}
 use Rattle.fa_propose.specs.Laws.{ProposalIsOne}
 use Rattle.fa_audit.specs.declared.verdict.StartError.{StartError}
 use Rattle.fa_audit.specs.declared.verdict.StartError.TheVariants.{Fault, TreeText, Memory}
-use Rattle.fa_audit.specs.Verdict.{IsTreeTextAtFault}
-use Rattle.fa_audit.specs.Proposed.{IsStart, IsProposed, ExactlyRefused, OneProposalAnswer}
+use Rattle.fa_audit.specs.Verdict.{IsTreeTextAtFault, ExactlyRefused}
+use Rattle.fa_audit.specs.Proposed.{IsStart, IsProposed, OneProposalAnswer}
 use Rattle.fa_audit.specs.parts.Answers.{IsNoStart}
 use Rattle.fa_audit.proofs.OneAnswer.{one_first_fault, good_no_fault, one_good_capture, one_given, given_no_fault, tree_fault_same}
 
@@ -42,7 +42,7 @@ module _ {T : Type 0} (capture : List ℕ) (tree : Option (List ℕ)) where
 
   -- a fault of the capture is answered exactly where it is there
   pub exactly_fault : (result : Result T StartError) (at code : ℕ) → OnOk result (IsStart capture tree) → IfErr result (IsNoStart capture tree)
-      → ExactlyRefused result (Fault at code) (IsFirstFault capture at code)
+      → ExactlyRefused result Memory (Fault at code) (IsFirstFault capture at code)
   exactly_fault (Ok text) at code start none = record {
     only = λ same. absurd cc;
     always = λ fault. absurd (start_no_fault capture tree at code start fault);
@@ -66,7 +66,7 @@ module _ {T : Type 0} (capture : List ℕ) (tree : Option (List ℕ)) where
 
   -- so is a fault of the tree text
   pub exactly_tree_fault : (result : Result T StartError) (line : ℕ) → OnOk result (IsStart capture tree) → IfErr result (IsNoStart capture tree)
-      → ExactlyRefused result (TreeText line) (IsTreeTextAtFault capture tree line)
+      → ExactlyRefused result Memory (TreeText line) (IsTreeTextAtFault capture tree line)
   exactly_tree_fault (Ok text) line start none = record {
     only = λ same. absurd cc;
     always = λ fault. absurd (start_no_tree_fault capture tree line start fault);

@@ -15,8 +15,8 @@ use Rattle.fa_audit.specs.declared.verdict.AuditError.{AuditError}
 use Rattle.fa_audit.specs.declared.verdict.AuditError.TheVariants as errors
 use Rattle.fa_audit.specs.declared.verdict.StartError.{StartError}
 use Rattle.fa_audit.specs.declared.verdict.StartError.TheVariants.{Fault, TreeText, Memory}
-use Rattle.fa_audit.specs.Verdict.{IsTreeTextAtFault}
-use Rattle.fa_audit.specs.Proposed.{IsProposed, IsProposalAnswer, IsProposalTold, IsProposedFrom, ExactlyRefused, answer_of}
+use Rattle.fa_audit.specs.Verdict.{IsTreeTextAtFault, ExactlyRefused}
+use Rattle.fa_audit.specs.Proposed.{IsProposed, IsProposalAnswer, IsProposalTold, IsProposedFrom, answer_of}
 use Rattle.fa_audit.specs.parts.Answers.{IsStartOf, text_answered}
 
 -- the text of the entries that are proposed
@@ -35,8 +35,8 @@ text_proposed capture tree calls first es text start proposal spelled = record {
 -- each answer says what holds of the capture and the tree, or memory was refused
 pub answered_or_memory : (capture : List ℕ) (tree : Option (List ℕ)) (result : Result (Vec ℕ Global) StartError)
     → IfOk result (λ text. IsProposed capture tree text.items)
-    → ((at code : ℕ) → ExactlyRefused result (Fault at code) (IsFirstFault capture at code))
-    → ((line : ℕ) → ExactlyRefused result (TreeText line) (IsTreeTextAtFault capture tree line))
+    → ((at code : ℕ) → ExactlyRefused result Memory (Fault at code) (IsFirstFault capture at code))
+    → ((line : ℕ) → ExactlyRefused result Memory (TreeText line) (IsTreeTextAtFault capture tree line))
     → IsErrOf result Memory ⊎ IsProposalAnswer capture tree (text_answered result)
 answered_or_memory capture tree (Ok text) order fault tree_text = inr order
 answered_or_memory capture tree (Err (Fault at code)) order fault tree_text = inr ((fault at code).only refl)

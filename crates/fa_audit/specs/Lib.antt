@@ -8,5 +8,9 @@ pub mod Status
 pub mod Run
 -- what each answer of a proposal says, and what a run of it writes
 pub mod Proposed
+-- what each answer of a call says that cuts an order, and what a run of it writes
+pub mod CutOrders
+-- what a run writes that cuts a capture
+pub mod Fronts
 -- the vocabulary of private contracts
 pub mod parts

@@ -1,6 +1,6 @@
 -- The answers of a proposal, each by what it says of the capture and of the tree text if one is handed in; and what a run of it
 -- writes. The capture, the given tree and the faults are those of the audit.
-use Rattle.std.specs.Prelude.{◌≡◌, ℕ, ◌⊎◌, List, ◌++◌, Option, Result, Ok, Err, IsErrOf}
+use Rattle.std.specs.Prelude.{◌≡◌, ℕ, List, ◌++◌, Option, Result, Ok, Err}
 use Rattle.std.specs.Io.KnownBytes.{Appends}
 use Rattle.fa_capture.specs.Message.{Message}
 use Rattle.fa_ledger.specs.Passing.{IsGoodCapture, IsFirstFault}
@@ -52,12 +52,6 @@ IsProposalAnswer capture tree (Err Memory) = ⊥
 abbrev pub OneProposalAnswer : Type 0
 OneProposalAnswer =
     (capture : List ℕ) (tree : Option (List ℕ)) (a b : Result (List ℕ) StartError) → IsProposalAnswer capture tree a → IsProposalAnswer capture tree b → a ≡ b
-
--- The call has this error exactly where the fact holds, unless memory was refused. That memory is not refused where there is some,
--- no clause can say.
-pub record ExactlyRefused {T : Type 0} (result : Result T StartError) (error : StartError) (Fact : Type 0) : Type 0 where
-  pub only : IsErrOf result error → Fact
-  pub always : Fact → IsErrOf result error ⊎ IsErrOf result Memory
 
 -- ---- what is written
 

@@ -1,6 +1,6 @@
 -- The answers of the audit, each by what it says of the capture, of the tree text if one is handed in, and of the order text. It
 -- is the page to read first: each of its words stands one step away.
-use Rattle.std.specs.Prelude.{◌≡◌, ℕ, ◌<◌, ◌⊎◌, List, All, length, Option, None, Some, Result, Ok, Err}
+use Rattle.std.specs.Prelude.{◌≡◌, ℕ, ◌<◌, ◌⊎◌, List, All, length, Option, None, Some, Result, Ok, Err, IsErrOf}
 use Rattle.fa_capture.specs.Message.{Message}
 use Rattle.fa_ledger.specs.Passing.{IsGoodCapture, IsFirstFault}
 use Rattle.fa_tree.specs.State.{TreeState}
@@ -84,6 +84,11 @@ IsAnswer capture tree order (Err Memory) = ⊥
 pub record Exactly (result : Result Verdict AuditError) (answer : Result Verdict AuditError) (Fact : Type 0) : Type 0 where
   pub only : result ≡ answer → Fact
   pub always : Fact → (result ≡ answer) ⊎ (result ≡ Err Memory)
+
+-- The same of a call whose error this is.
+pub record ExactlyRefused {T E : Type 0} (result : Result T E) (memory error : E) (Fact : Type 0) : Type 0 where
+  pub only : IsErrOf result error → Fact
+  pub always : Fact → IsErrOf result error ⊎ IsErrOf result memory
 
 -- a capture, a tree text or none and an order text have one answer at most
 abbrev pub OneAnswer : Type 0

@@ -18,9 +18,9 @@ pub enum Failure {
     /// A word of the command line is not UTF-8.
     #[error("error: a word of the command line is not UTF-8\n")]
     NotUtf8,
-    /// The command line names no files.
-    #[error("error: the command line names no files\n")]
-    NoPaths,
+    /// The command line is no call with its files and numbers.
+    #[error("error: the command line is no call\n")]
+    NoCall,
     /// The run had a fault.
     #[error("audit failed: {0}\n")]
     Run(RunFault),
@@ -32,7 +32,7 @@ impl Failure {
         ensures { result ≡ failure_status self.now }
     {
         match self {
-            Failure::CommandLine(_) | Failure::NotUtf8 | Failure::NoPaths => Status::CommandLine,
+            Failure::CommandLine(_) | Failure::NotUtf8 | Failure::NoCall => Status::CommandLine,
             Failure::Run(_) => Status::Failed,
         }
     }

@@ -7,7 +7,7 @@ ghost use Rattle.fa_order.specs.declared.lines.TheConstants.{MAX_TEXT_BYTES};
 ghost use Rattle.fa_order.specs.Order.{IsOrderText};
 ghost use Rattle.fa_audit.specs.Verdict.{IsGivenTree, IsLegal, IsTreeTextAtFault, IsOrderTextAtFault, IsNotShown, Exactly};
 ghost use Rattle.fa_audit.specs.Line.{IsCoded};
-ghost use Rattle.fa_audit.specs.parts.Answers.{Tells, IsStartOf, IsNoStart, IsTreeRefused, IsOrderRefused};
+ghost use Rattle.fa_audit.specs.parts.Answers.{Tells, AreCallsOf, IsCaptureRefused, IsStartOf, IsNoStart, IsTreeRefused, IsOrderRefused};
 
 use crate::protocol::{Broken, calls_of};
 use crate::verdict::{AuditError, StartError};
@@ -91,6 +91,31 @@ fn given_tree(alloc: Global, tree: Option<&[u8]>) -> Result<Tree, StartError>
     }
 }
 
+/// The calls of a good capture.
+///
+/// # Errors
+///
+/// - [`Broken::Fault`] at the first fault of a capture that is not good.
+/// - [`Broken::Memory`] where memory was refused.
+///
+/// # Cost
+///
+/// That of [`read_capture`] and [`calls_of`].
+pub(crate) fn good_calls<'a>(alloc: Global, capture: &'a [u8]) -> Result<Calls<'a>, Broken>
+    ensures good { IfOk result (AreCallsOf capture.now) }
+    ensures fault { IfErr result (IsCaptureRefused capture.now) }
+{
+    let capture = read_capture(alloc, capture)?;
+    let calls = calls_of(alloc, &capture.packets)?;
+    match capture.fault {
+        Some(fault) => Err(Broken::Fault {
+            at: fault.whole,
+            code: fault.code,
+        }),
+        None => Ok(calls),
+    }
+}
+
 /// What an order starts with: the calls of a good capture, and the tree that the server began with.
 ///
 /// # Errors
@@ -101,7 +126,7 @@ fn given_tree(alloc: Global, tree: Option<&[u8]>) -> Result<Tree, StartError>
 ///
 /// # Cost
 ///
-/// That of [`read_capture`], [`calls_of`] and [`read_tree`].
+/// That of [`good_calls`] and [`read_tree`].
 pub(crate) fn start<'a>(
     alloc: Global,
     capture: &'a [u8],
@@ -111,18 +136,7 @@ pub(crate) fn start<'a>(
     ensures good { IfOk result (λ start. IsStartOf capture.now (option_copied tree.entry) start.0 start.1) }
     ensures none { IfErr result (IsNoStart capture.now (option_copied tree.entry)) }
 {
-    let capture = read_capture(alloc, capture)?;
-    let calls = match calls_of(alloc, &capture.packets) {
-        Ok(calls) => calls,
-        Err(Broken::Fault { at, code }) => return Err(StartError::Fault { at, code }),
-        Err(Broken::Memory) => return Err(StartError::Memory),
-    };
-    if let Some(fault) = capture.fault {
-        return Err(StartError::Fault {
-            at: fault.whole,
-            code: fault.code,
-        });
-    }
+    let calls = good_calls(alloc, capture)?;
     let first = given_tree(alloc, tree)?;
     Ok((calls, first))
 }

@@ -5,6 +5,7 @@ ghost use Rattle.fa_audit.specs.declared.judge.TheConstants.{ROOT_BITS};
 ghost use Rattle.fa_audit.specs.declared.run.TheConstants.{MAX_INPUT_BYTES};
 ghost use Rattle.fa_audit.specs.Verdict.{OneAnswer, AnswerIsThere};
 ghost use Rattle.fa_audit.specs.Proposed.{OneProposalAnswer};
+ghost use Rattle.fa_audit.specs.CutOrders.{OneCutAnswer};
 
 /// A capture, a tree text or none and an order text have one answer at most.
 pub fn one_answer()
@@ -19,6 +20,11 @@ pub fn answer_is_there()
 /// A capture and a tree text or none have one answer of a proposal at most.
 pub fn one_proposal_answer()
     ensures { OneProposalAnswer }
+{}
+
+/// A capture, an order text and a message at which is cut have one answer at most.
+pub fn one_cut_answer()
+    ensures { OneCutAnswer }
 {}
 
 /// The limit of an input, and the permission bits of a root without a tree text, 755 in octal, as numbers.

@@ -2,18 +2,22 @@
 //!
 //! `fa_audit check --capture FILE [--tree FILE] --order FILE` tells in one line on standard output whether the order explains the
 //! capture. `fa_audit propose --capture FILE [--tree FILE]` writes the text of an order that may explain it to standard output, or
-//! the line of the fault where the capture has one or the tree text is not in its grammar.
+//! the line of the fault where the capture has one or the tree text is not in its grammar. `fa_audit cut --capture FILE --order FILE
+//! --at N` writes what is left of the order for the messages before message N, and `fa_audit front --capture FILE --at N` the capture of
+//! these messages.
 //!
-//! Either ends with the status 0 where the verdict is legal or an order is proposed, 1 at a fault of the capture, 2 where the order
-//! is not shown to explain the capture, 3 where the tree text or the order text is not in its grammar, 4 where the command line is
-//! no call, and 5 where reading, writing or memory failed. What stands behind a status 4 or 5 is told on standard error.
+//! Each ends with the status 0 where the verdict is legal or an order or a capture is written, 1 at a fault of the capture, 2 where the
+//! order is not shown to explain the capture, 3 where the tree text or the order text is not in its grammar, 4 where the command line
+//! is no call, and 5 where reading, writing or memory failed. What stands behind a status 4 or 5 is told on standard error.
 #![tactic(auto)]
 
 ghost use Rattle.std.specs.Prelude.{◌≡◌, false, IfOk, IfSome};
 ghost use Rattle.fa_capture.specs.Device.{device_failed, device_interrupted};
 
 mod command_line;
+mod cutting;
 mod failure;
+mod fronts;
 mod judge;
 pub mod laws;
 mod line;
@@ -25,7 +29,7 @@ mod run;
 mod status;
 mod verdict;
 
-use crate::command_line::{Call, CheckPaths, ProposePaths};
+use crate::command_line::{Call, CheckPaths, CutPaths, FrontPaths, ProposePaths};
 use crate::failure::Failure;
 use crate::run::RunFault;
 use fa_capture::Device;
@@ -51,9 +55,11 @@ fn main(rt: HostRuntime) -> ExitCode {
 fn call<R: AllocGlobal + Env + Files + Print>(rt: &R) -> Result<u8, Failure> {
     let words = words(rt)?;
     let matches = command_line::command(rt.alloc())?.try_get_matches_from(words.as_slice())?;
-    match Call::new(&matches).ok_or(Failure::NoPaths)? {
+    match Call::new(&matches).ok_or(Failure::NoCall)? {
         Call::Check(paths) => Ok(check(rt, &paths)?),
         Call::Propose(paths) => Ok(propose(rt, &paths)?),
+        Call::Cut(paths) => Ok(cut(rt, &paths)?),
+        Call::Front(paths) => Ok(front(rt, &paths)?),
     }
 }
 
@@ -81,6 +87,21 @@ fn propose<R: AllocGlobal + Files + Print>(
     let mut tree = open_if_any(rt, paths.tree)?;
     let mut out = Device::new(io::writer(rt));
     proposal::run_propose(rt.alloc(), &mut capture, tree.as_mut(), &mut out)
+}
+
+/// Runs a call of `cut`: its status.
+fn cut<R: AllocGlobal + Files + Print>(rt: &R, paths: &CutPaths<'_>) -> Result<u8, RunFault> {
+    let mut capture = open(rt, paths.capture)?;
+    let mut order = open(rt, paths.order)?;
+    let mut out = Device::new(io::writer(rt));
+    cutting::run_cut(rt.alloc(), &mut capture, &mut order, paths.at, &mut out)
+}
+
+/// Runs a call of `front`: its status.
+fn front<R: AllocGlobal + Files + Print>(rt: &R, paths: &FrontPaths<'_>) -> Result<u8, RunFault> {
+    let mut capture = open(rt, paths.capture)?;
+    let mut out = Device::new(io::writer(rt));
+    fronts::run_front(rt.alloc(), &mut capture, paths.at, &mut out)
 }
 
 /// The words of the command line, with the program's name first.

@@ -5,10 +5,10 @@ ghost use Rattle.std.specs.Option.{option_copied};
 ghost use Rattle.std.specs.Io.KnownBytes.{IsAtEnd, Keeps};
 ghost use Rattle.fa_ledger.specs.Passing.{IsFirstFault};
 ghost use Rattle.fa_order.specs.declared.lines.TheConstants.{MAX_TEXT_BYTES};
-ghost use Rattle.fa_audit.specs.Verdict.{IsTreeTextAtFault};
+ghost use Rattle.fa_audit.specs.Verdict.{IsTreeTextAtFault, ExactlyRefused};
 ghost use Rattle.fa_audit.specs.Line.{IsCoded};
 ghost use Rattle.fa_audit.specs.Run.{IfHandedIn, IsHandedIn, IsSomeRead, IsReadIfAny, IsUnread};
-ghost use Rattle.fa_audit.specs.Proposed.{IsStart, IsProposed, IsProposalTold, IsProposedFrom, ExactlyRefused, answer_of};
+ghost use Rattle.fa_audit.specs.Proposed.{IsStart, IsProposed, IsProposalTold, IsProposedFrom, answer_of};
 ghost use Rattle.fa_audit.specs.parts.Answers.{IsNoStart, text_answered};
 
 use crate::judge::start;
@@ -43,9 +43,9 @@ pub fn proposal(alloc: Global, capture: &[u8], tree: Option<&[u8]>) -> Result<Ve
     ensures order { IfOk result (λ text. IsProposed capture.now (option_copied tree.entry) text.items) }
     ensures start { IsStart capture.now (option_copied tree.entry) → IsOk result ⊎ IsErrOf result StartError.Memory }
 
-    ensures fault { (at code : ℕ) → ExactlyRefused result
+    ensures fault { (at code : ℕ) → ExactlyRefused result StartError.Memory
         (StartError.Fault at code) (IsFirstFault capture.now at code) }
-    ensures tree_text { (line : ℕ) → ExactlyRefused result
+    ensures tree_text { (line : ℕ) → ExactlyRefused result StartError.Memory
         (StartError.TreeText line) (IsTreeTextAtFault capture.now (option_copied tree.entry) line) }
 
     // A code that is told has a text.

@@ -10,7 +10,7 @@ ghost use Rattle.fa_audit.specs.parts.Protocol.{ShowBoth, IsRefusal, IsBroken};
 use fa_capture::Packet;
 use fa_ledger::{Calls, Ledger, LedgerError};
 use fa_session::{Session, SessionError};
-use std::alloc::Global;
+use std::alloc::{AllocError, Global};
 
 /// Why a message is not taken.
 #[derive(Clone, Copy, Debug, PartialEq, Eq)]
@@ -49,13 +49,25 @@ impl From<LedgerError> for MessageError {
     }
 }
 
-/// Why messages have no calls.
+/// Why messages, or a capture of them, have no calls.
 #[derive(Clone, Copy, Debug, PartialEq, Eq)]
 pub(crate) enum Broken {
-    /// The number of the first message that does not keep the protocol, and the code of the first check that it fails.
+    /// The number of the first message that does not keep the protocol, or of the framing fault of a capture, and the code of the
+    /// first check that it fails.
     Fault { at: u32, code: u16 },
     /// Memory was refused.
     Memory,
+}
+
+impl From<AllocError> for Broken {
+    ghost use Rattle.std.specs.Prelude.{◌≡◌};
+    ghost use Rattle.fa_audit.specs.declared.protocol.Broken.TheVariants.{Memory};
+
+    ghost from_gives = { λ _ e. e ≡ Memory };
+
+    fn from(_: AllocError) -> Broken {
+        Broken::Memory
+    }
 }
 
 /// Takes the next message into the session and into the ledger. After an error the session may have taken it, and both are of

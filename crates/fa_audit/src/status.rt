@@ -6,7 +6,7 @@ ghost use Rattle.fa_audit.specs.Status.{status_number};
 /// How a call of the program ends.
 #[derive(Clone, Copy, Debug, PartialEq, Eq, Hash)]
 pub enum Status {
-    /// The verdict is legal, or an order is proposed.
+    /// The verdict is legal, or an order or a capture is written.
     Legal = 0,
     /// The capture has a fault.
     Fault = 1,
