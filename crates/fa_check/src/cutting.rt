@@ -4,14 +4,13 @@ ghost use Rattle.std.specs.Prelude.{◌≡◌, ◌≤◌, ◌↔◌, List, lengt
 ghost use Rattle.fa_capture.specs.Message.{Message};
 ghost use Rattle.fa_bodies.specs.Requests.{body_shown, request_shown};
 ghost use Rattle.fa_bodies.specs.Replies.{reply_shown};
-ghost use Rattle.fa_ledger.specs.Kinds.{IsReadingRequest};
 ghost use Rattle.fa_tree.specs.Outcomes.{count_by_reply};
 ghost use Rattle.fa_check.specs.Verdicts.{AreMessagesOf};
 ghost use Rattle.fa_check.specs.Cuts.{LeavesNothing, wrote_without, Goes, Stays, IsDone, IsCut};
 ghost use Rattle.fa_check.specs.parts.Cutting.{IsFrontOf};
 
 use fa_bodies::{Reply, Request, RequestBody};
-use fa_ledger::Calls;
+use fa_ledger::{Calls, only_reads};
 use fa_order::Entry;
 use std::alloc::{AllocError, Global};
 
@@ -116,40 +115,7 @@ fn leaves_nothing(request: &Request<'_>, reply: &Reply<'_>) -> bool
         | Reply::Bytes(_)
         | Reply::Listed(_)
         | Reply::Negotiated(_)
-        | Reply::Skipped => is_reading(&request.body),
-    }
-}
-
-/// Whether a request of this body only reads.
-fn is_reading(body: &RequestBody<'_>) -> bool
-    ensures { IsTrue result ↔ IsReadingRequest (body_shown body.now) }
-{
-    match body {
-        RequestBody::Lookup { .. }
-        | RequestBody::Getattr(_)
-        | RequestBody::Readlink
-        | RequestBody::Read(_)
-        | RequestBody::Opendir(_)
-        | RequestBody::Readdir(_)
-        | RequestBody::Readdirplus(_) => true,
-        RequestBody::Forget { .. }
-        | RequestBody::Setattr(_)
-        | RequestBody::Symlink { .. }
-        | RequestBody::Mknod { .. }
-        | RequestBody::Mkdir { .. }
-        | RequestBody::Unlink { .. }
-        | RequestBody::Rmdir { .. }
-        | RequestBody::Rename { .. }
-        | RequestBody::Link { .. }
-        | RequestBody::Open(_)
-        | RequestBody::Write { .. }
-        | RequestBody::Release(_)
-        | RequestBody::Flush(_)
-        | RequestBody::Init(_)
-        | RequestBody::Releasedir(_)
-        | RequestBody::Create { .. }
-        | RequestBody::BatchForget { .. }
-        | RequestBody::Passed => false,
+        | Reply::Skipped => only_reads(&request.body),
     }
 }
 

@@ -2,13 +2,11 @@
 
 ghost use Rattle.std.specs.Prelude.{◌↔◌, IsTrue};
 ghost use Rattle.fa_bodies.specs.Replies.{reply_shown};
-ghost use Rattle.fa_bodies.specs.Requests.{body_shown};
 ghost use Rattle.fa_ledger.specs.Calls.{call_shown};
-ghost use Rattle.fa_ledger.specs.Kinds.{IsReadingRequest};
 ghost use Rattle.fa_propose.specs.Proposals.{IsRank, IsError};
 
-use fa_bodies::{Reply, RequestBody};
-use fa_ledger::Call;
+use fa_bodies::Reply;
+use fa_ledger::{Call, only_reads};
 
 /// The groups of calls, in the order in which they are tried.
 #[derive(Clone, Copy, Debug, PartialEq, Eq, PartialOrd, Ord, Hash)]
@@ -57,20 +55,4 @@ fn is_error(reply: &Reply<'_>) -> bool
     ensures { IsTrue result ↔ IsError (reply_shown reply.now) }
 {
     matches!(reply, Reply::Refused(_))
-}
-
-/// Whether a request of this body asks, and leaves the tree as it is.
-fn only_reads(body: &RequestBody<'_>) -> bool
-    ensures { IsTrue result ↔ IsReadingRequest (body_shown body.now) }
-{
-    matches!(
-        body,
-        RequestBody::Lookup { .. }
-            | RequestBody::Getattr(_)
-            | RequestBody::Readlink
-            | RequestBody::Read(_)
-            | RequestBody::Opendir(_)
-            | RequestBody::Readdir(_)
-            | RequestBody::Readdirplus(_)
-    )
 }
