@@ -5,8 +5,9 @@ usage: cases/cuts.py [PROGRAM] [--only TEXT]
 
 PROGRAM is crates/fa_audit/out/fa_audit of this repository unless it is named. With --only, only the cases whose names hold
 TEXT are cut. At each message number N, from 0 to one more than there are, `front --at N` has to write the first N whole records,
-and `check` has to call legal what `cut --at N` leaves of the order, on these, from the case's tree. Each failure is printed; the
-last line is 'N passed, M failed', where each case counts once, and the status is 1 where one failed or none was cut.
+and `check` has to call legal what `cut --at N` leaves of the order, on these, from the case's tree. Captures of more than 1 MiB
+are passed over. The first failures of each case are printed; the last line is 'N passed, M failed', where each case counts once,
+and the status is 1 where one failed or none was cut.
 """
 import argparse
 import concurrent.futures
@@ -20,6 +21,7 @@ import run
 MAGIC = b"FUSECAP1"
 HEADER = 5
 PARTS = 8
+MOST_BYTES = 1 << 20
 
 
 def records(capture):
@@ -64,12 +66,15 @@ def unpacked(file, room):
 
 
 def cut(program, name, files, part):
-    """What is wrong with a case that is cut at each of its messages, a line each; of the messages every eighth, from this one on."""
+    """What is wrong with a case that is cut at each of its messages, a line each; of the messages every eighth, from this one on.
+    None where its capture is too large."""
     found = []
     with tempfile.TemporaryDirectory() as room:
         files = [unpacked(file, room) for file in files]
         with open(os.path.join(run.HERE, files[0]), "rb") as opened:
             data = opened.read()
+        if len(data) > MOST_BYTES:
+            return None
         ends = records(data)
         for at in range(part, len(ends) + 1, PARTS):
             count = min(at, len(ends) - 1)
@@ -104,14 +109,17 @@ def main():
             if named:
                 cases[name] = named
     parts = [(name, named, part) for name, named in cases.items() for part in range(PARTS)]
-    failed = set()
+    failed, too_large = set(), set()
     with concurrent.futures.ThreadPoolExecutor(os.cpu_count()) as pool:
         for (name, _, _), found in zip(parts, pool.map(lambda part: cut(program, *part), parts)):
-            failed |= {name} if found else set()
-            for line in found[:1]:
+            if found is None:
+                too_large.add(name)
+            for line in (found or [])[:1]:
+                failed.add(name)
                 print(line)
-    print(f"{len(cases) - len(failed)} passed, {len(failed)} failed")
-    return 1 if failed or not cases else 0
+    passed = len(cases) - len(too_large) - len(failed)
+    print(f"{passed} passed, {len(failed)} failed")
+    return 1 if failed or not passed else 0
 
 
 if __name__ == "__main__":

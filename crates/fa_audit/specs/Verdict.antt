@@ -85,7 +85,7 @@ pub record Exactly (result : Result Verdict AuditError) (answer : Result Verdict
   pub only : result ≡ answer → Fact
   pub always : Fact → (result ≡ answer) ⊎ (result ≡ Err Memory)
 
--- The same of a call whose error this is.
+-- The call has this error exactly where the fact holds, unless memory was refused, which it tells by the error `memory`.
 pub record ExactlyRefused {T E : Type 0} (result : Result T E) (memory error : E) (Fact : Type 0) : Type 0 where
   pub only : IsErrOf result error → Fact
   pub always : Fact → IsErrOf result error ⊎ IsErrOf result memory

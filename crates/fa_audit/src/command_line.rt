@@ -170,12 +170,12 @@ pub fn command<'a>(alloc: Global) -> Result<Command<'a>, AllocError> {
         .arg(tree_option(alloc))?;
     let order = path_option(alloc, ORDER).help("The order text that is cut");
     let cut = Command::new(alloc, CUT)
-        .about("Prints what is left of an order for the messages before one")
+        .about("Prints what is left of an order that is cut at a message")
         .arg(capture_option(alloc))?
         .arg(order)?
         .arg(at_option(alloc))?;
     let front = Command::new(alloc, FRONT)
-        .about("Writes the capture of the messages before one")
+        .about("Writes the capture of the messages before a message")
         .arg(capture_option(alloc))?
         .arg(at_option(alloc))?;
     Command::new(alloc, "fa_audit")
@@ -208,7 +208,7 @@ fn at_option<'a>(alloc: Global) -> Arg<'a> {
         .action(ArgAction::Set)
         .required(true)
         .value_parser(value_parser!(u32).range(..=MAX_MESSAGES as i64))
-        .help("The message before which is cut")
+        .help("The number of that message, counted from 0; as many messages are before it")
 }
 
 /// An option that is needed once. The word behind it is its path, whatever that word begins with.

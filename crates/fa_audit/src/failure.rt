@@ -19,7 +19,7 @@ pub enum Failure {
     #[error("error: a word of the command line is not UTF-8\n")]
     NotUtf8,
     /// The command line is no call with its files and numbers.
-    #[error("error: the command line is no call\n")]
+    #[error("error: the command line is no call, or its number is none\n")]
     NoCall,
     /// The run had a fault.
     #[error("audit failed: {0}\n")]

@@ -12,7 +12,7 @@ use Rattle.fa_ledger.proofs.CallerLemmas.{take_front, answers_of_front}
 use Rattle.fa_order.specs.declared.entry.Entry.{Entry}
 use Rattle.fa_check.specs.Orders.{IsTreeRequestAt}
 use Rattle.fa_check.specs.Faults.{EachPlaced}
-use Rattle.fa_check.specs.Cuts.{IsAnsweredBefore, IsRepliedLate, Goes, Stays, AreLeft, IsDone, IsCut}
+use Rattle.fa_check.specs.Cuts.{IsAnsweredBefore, IsRepliedLate, Goes, Stays, AreLeft, IsAnsweredEntry, IsCut}
 use Rattle.fa_check.specs.Laws.{CutAgain, NoOrderStays}
 use Rattle.fa_check.proofs.ListLemmas.{contains_first, contains_behind}
 use Rattle.fa_check.proofs.OrderLemmas.{number_of, number_in}
@@ -92,32 +92,32 @@ module _ (c : List Message) (k m : ℕ) (earlier : k ≤ m) where
   -- ---- entries that are done
 
   -- the request at p is a tree request that was answered before k
-  abbrev IsDoneAt : List Message → ℕ → Type 0
-  IsDoneAt xs p = IsTreeRequestAt xs p × IsAnsweredBefore xs k p
+  abbrev IsAnsweredEntryAt : List Message → ℕ → Type 0
+  IsAnsweredEntryAt xs p = IsTreeRequestAt xs p × IsAnsweredBefore xs k p
 
   -- what is done before k is so among the first messages
-  done_in_front : (p : ℕ) → IsDoneAt c p → IsDoneAt (take m c) p
+  done_in_front : (p : ℕ) → IsAnsweredEntryAt c p → IsAnsweredEntryAt (take m c) p
   done_in_front p (tree, (q, by, near)) =
       let below : q < m = omega (arith, near, earlier) in
       let sent : p < q = answer_after c q p by.0 by.1 in
       (tree_in_front c m p (omega (arith, sent, below)) tree, (q, answered_in_front c m p q below by, near))
 
   -- and back
-  done_of_front : (p : ℕ) → IsDoneAt (take m c) p → IsDoneAt c p
+  done_of_front : (p : ℕ) → IsAnsweredEntryAt (take m c) p → IsAnsweredEntryAt c p
   done_of_front p (tree, (q, by, near)) = (tree_of_front c m p tree, (q, (answered_of_front c m p q by).1, near))
 
   -- what is done before k is done before m
-  done_later : (e : Entry) → IsDone c k e → IsDone c m e
+  done_later : (e : Entry) → IsAnsweredEntry c k e → IsAnsweredEntry c m e
   done_later e (tree, (q, by, near)) = (tree, (q, by, omega (arith, near, earlier)))
 
   -- where nothing that is left is done before k, nothing is
-  none_done : (es left : List Entry) → AreLeft c m es left → All (λ e. IsDone (take m c) k e → ⊥) left
-      → (e : Entry) → Contains es e → IsDone c k e → ⊥
+  none_done : (es left : List Entry) → AreLeft c m es left → All (λ e. IsAnsweredEntry (take m c) k e → ⊥) left
+      → (e : Entry) → Contains es e → IsAnsweredEntry c k e → ⊥
   none_done es left are none e has done =
       let later = done_later e done in
       let found = number_of left e.at (done_left c m es left are e.at later.0 later.1 (number_in es e has)) in
-      All-contains (λ (x : Entry). IsDone (take m c) k x → ⊥) left found.0 none found.1
-      (subst (IsDoneAt (take m c)) (sym found.2) (done_in_front e.at done))
+      All-contains (λ (x : Entry). IsAnsweredEntry (take m c) k x → ⊥) left found.0 none found.1
+      (subst (IsAnsweredEntryAt (take m c)) (sym found.2) (done_in_front e.at done))
 
   -- ---- the whole order
 
@@ -129,13 +129,13 @@ module _ (c : List Message) (k m : ℕ) (earlier : k ≤ m) where
         front_sent c m es cut placed j around.0 around.1 e around.2
 
     -- what stands behind the front at k was not done before it
-    none_behind : (inner left : List Entry) → AreLeft c m inner left → All (λ e. IsDone (take m c) k e → ⊥) left
-        → All (λ e. IsDone c k e → ⊥) (inner ++ j.behind)
+    none_behind : (inner left : List Entry) → AreLeft c m inner left → All (λ e. IsAnsweredEntry (take m c) k e → ⊥) left
+        → All (λ e. IsAnsweredEntry c k e → ⊥) (inner ++ j.behind)
     none_behind inner left are none n d within done =
         let e : Entry = get_or (inner ++ j.behind) n d in
         elim (Contains-append_cases inner j.behind e (Contains-get_or (inner ++ j.behind) n d within)) [
           | inl inside ↦ none_done inner left are none e inside done
-          | inr behind ↦ All-contains (λ (x : Entry). IsDone c m x → ⊥) j.behind e j.none behind (done_later e done)
+          | inr behind ↦ All-contains (λ (x : Entry). IsAnsweredEntry c m x → ⊥) j.behind e j.none behind (done_later e done)
         ]
 
     -- where the second front is empty, so is the one at k
@@ -152,7 +152,7 @@ module _ (c : List Message) (k m : ℕ) (earlier : k ≤ m) where
         }
 
     -- else it ends in the entry of which the last of the second front is left
-    ending_front : (before : List Entry) (f : Entry) → i.front ≡ before ++ f ∷ [] → IsDone (take m c) k f → IsCut c k es again
+    ending_front : (before : List Entry) (f : Entry) → i.front ≡ before ++ f ∷ [] → IsAnsweredEntry (take m c) k f → IsCut c k es again
     ending_front before f ends done =
         let whole : cut ≡ before ++ f ∷ i.behind =
         i.parts ∙ ap (λ (xs : List Entry). xs ++ i.behind) ends ∙ append_assoc before (f ∷ []) i.behind in
@@ -166,7 +166,7 @@ module _ (c : List Message) (k m : ℕ) (earlier : k ≤ m) where
           front = front;
           behind = of.after ++ j.behind;
           parts = j.parts ∙ ap (λ (xs : List Entry). xs ++ j.behind) both ∙ append_assoc front of.after j.behind;
-          last = inr (of.before, of.entry, refl, subst (IsDoneAt c) at (done_of_front f.at done));
+          last = inr (of.before, of.entry, refl, subst (IsAnsweredEntryAt c) at (done_of_front f.at done));
           none = none_behind of.after i.behind of.behind i.none;
           left = left_then front (before ++ f ∷ []) again sent (left_stays c m of.before before of.entry f of.stays of.left)
               (subst (λ (xs : List Entry). AreLeft (take m c) k xs again) ends i.left);

@@ -19,7 +19,7 @@ use Rattle.fa_tree.specs.Outcomes.{count_by_reply}
 use Rattle.fa_order.specs.declared.entry.Entry.{Entry}
 use Rattle.fa_check.specs.Orders.{IsTreeRequestAt, numbers, IsChoice, IsValidOrder}
 use Rattle.fa_check.specs.Faults.{order_checks, EachPlaced, IsAnsweredUnplaced}
-use Rattle.fa_check.specs.Cuts.{IsAnsweredBefore, IsRepliedLate, LeavesNothing, wrote_without, Stays, AreLeft, IsDone, IsCut}
+use Rattle.fa_check.specs.Cuts.{IsAnsweredBefore, IsRepliedLate, LeavesNothing, wrote_without, Stays, AreLeft, IsAnsweredEntry, IsCut}
 use Rattle.fa_check.proofs.ListLemmas.{contains_cases, contains_first, contains_behind, pairs_before, snoc_cases}
 use Rattle.fa_check.proofs.OrderLemmas.{placed_precedence, placed_valid, number_of, number_in}
 
@@ -280,7 +280,7 @@ module _ (c : List Message) (m : ℕ) (es cut : List Entry) (placed : EachPlaced
         elim (Contains-append_cases k.front k.behind found.0 in_parts) [
           | inl front ↦ lacks (done_left c m k.front cut k.left p tree early (subst (Contains (numbers k.front)) found.2 (number_in k.front found.0 front)))
           | inr behind ↦
-              All-contains (λ (e : Entry). IsDone c m e → ⊥) k.behind found.0 k.none behind
+              All-contains (λ (e : Entry). IsAnsweredEntry c m e → ⊥) k.behind found.0 k.none behind
               (subst (IsTreeRequestAt c) (sym found.2) tree, subst (IsAnsweredBefore c m) (sym found.2) early)
         ]
 

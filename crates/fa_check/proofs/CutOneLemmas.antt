@@ -12,7 +12,7 @@ use Rattle.fa_session.specs.Answers.{AnswersAt, IsRepliedAt}
 use Rattle.fa_session.proofs.CallerLemmas.{one_request, answered_once, answered_asked}
 use Rattle.fa_order.specs.declared.entry.Entry.{Entry}
 use Rattle.fa_check.specs.declared.verdict.Verdict.TheVariants.{Legal, Fault, NotShown}
-use Rattle.fa_check.specs.Cuts.{IsRepliedLate, LeavesNothing, wrote_without, Goes, StaysSame, Stays, AreLeft, IsDone, IsCut}
+use Rattle.fa_check.specs.Cuts.{IsRepliedLate, LeavesNothing, wrote_without, Goes, StaysSame, Stays, AreLeft, IsAnsweredEntry, IsCut}
 use Rattle.fa_check.specs.Laws.{CutIsOne, CutIsToldLegal}
 use Rattle.fa_check.proofs.ListLemmas.{contains_first, contains_behind}
 use Rattle.fa_check.proofs.FaultLemmas.{legal_has_no_fault}
@@ -109,7 +109,7 @@ module _ (c : List Message) (m : ℕ) (es cut other : List Entry) (k : IsCut c m
         | inr last ↦ elim (in_last between.0 j.behind last.1 k.front last.0 (sym between.1 ∙ last.2)) [
           | inl none ↦ none
           | inr there ↦
-              absurd (All-contains (λ (e : Entry). IsDone c m e → ⊥) k.behind last.1 k.none (subst (λ (xs : List Entry). Contains xs last.1) (sym between.2) there) last.3)
+              absurd (All-contains (λ (e : Entry). IsAnsweredEntry c m e → ⊥) k.behind last.1 k.none (subst (λ (xs : List Entry). Contains xs last.1) (sym between.2) there) last.3)
         ]
       ] in
       between.1 ∙ ap (λ (xs : List Entry). k.front ++ xs) none ∙ append-nil k.front

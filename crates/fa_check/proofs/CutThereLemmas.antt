@@ -16,7 +16,7 @@ use Rattle.fa_ledger.specs.Calls.{PlainAnswer, PlainCall, IsAnswerOf, HasAnswer,
 use Rattle.fa_ledger.proofs.CallerLemmas.{calls_are_there, call_at, call_with, message_of, request_event}
 use Rattle.fa_order.specs.declared.entry.Entry.{Entry}
 use Rattle.fa_check.specs.Orders.{IsTreeRequestAt}
-use Rattle.fa_check.specs.Cuts.{IsRepliedLate, LeavesNothing, wrote_without, Goes, Stays, AreLeft, IsDone, IsCut}
+use Rattle.fa_check.specs.Cuts.{IsRepliedLate, LeavesNothing, wrote_without, Goes, Stays, AreLeft, IsAnsweredEntry, IsCut}
 use Rattle.fa_check.specs.Laws.{CutIsThere}
 use Rattle.fa_check.proofs.ListLemmas.{contains_decided}
 use Rattle.fa_check.proofs.MessageLemmas.{call_is_tree, call_answered, call_unanswered}
@@ -82,18 +82,18 @@ module _ (c : List Message) (calls : List PlainCall) (are : AreCalls c calls) (m
     pub open_stays : call.answer ≡ None → Stays c m e e
     open_stays none = (call_tree, inl ((λ q answered. absurd (call_unanswered c calls are place call there none q (asked_back q answered))), refl))
 
-    pub open_not_done : call.answer ≡ None → IsDone c m e → ⊥
+    pub open_not_done : call.answer ≡ None → IsAnsweredEntry c m e → ⊥
     open_not_done none done = call_unanswered c calls are place call there none done.1.0 (asked_back done.1.0 done.1.1)
 
     module _ (answer : PlainAnswer) (has : call.answer ≡ Some answer) where
       pub early_stays : answer.at < m → Stays c m e e
       early_stays early = (call_tree, inl ((λ q answered. let same = only_answer place call answer there has q (asked_back q answered) in omega (arith, same, early)), refl))
 
-      pub early_done : answer.at < m → IsDone c m e
+      pub early_done : answer.at < m → IsAnsweredEntry c m e
       early_done early =
           (call_tree, (answer.at, subst (λ (n : ℕ). IsAnsweredBy c n answer.at) at (call_answered c calls are place call answer there has), early))
 
-      pub late_not_done : m ≤ answer.at → IsDone c m e → ⊥
+      pub late_not_done : m ≤ answer.at → IsAnsweredEntry c m e → ⊥
       late_not_done late done =
           let same = only_answer place call answer there has done.1.0 (asked_back done.1.0 done.1.1) in
           let near = done.1.2 in
@@ -122,10 +122,10 @@ module _ (c : List Message) (calls : List PlainCall) (are : AreCalls c calls) (m
               ]
             ]
 
-    call_done : IsDone c m e ⊎ (IsDone c m e → ⊥)
+    call_done : IsAnsweredEntry c m e ⊎ (IsAnsweredEntry c m e → ⊥)
     call_done = by call.answer refl
       where
-        by : (found : Option PlainAnswer) → call.answer ≡ found → IsDone c m e ⊎ (IsDone c m e → ⊥)
+        by : (found : Option PlainAnswer) → call.answer ≡ found → IsAnsweredEntry c m e ⊎ (IsAnsweredEntry c m e → ⊥)
         by None none = inr (open_not_done none)
         by (Some answer) has =
             elim (cases_lt answer.at m) [
@@ -141,7 +141,7 @@ module _ (c : List Message) (calls : List PlainCall) (are : AreCalls c calls) (m
       ]
 
   -- an entry is done before m, or is not
-  done_or_not : (e : Entry) → IsDone c m e ⊎ (IsDone c m e → ⊥)
+  done_or_not : (e : Entry) → IsAnsweredEntry c m e ⊎ (IsAnsweredEntry c m e → ⊥)
   done_or_not e =
       elim (call_or_none e.at) [
         | inl call ↦ call_done call.0 call.1 e call.2 call.3
@@ -162,8 +162,8 @@ module _ (c : List Message) (calls : List PlainCall) (are : AreCalls c calls) (m
   -- the front and what stands behind it
   abbrev IsParted : List Entry → Type 0
   IsParted es =
-      (front behind : List Entry) × (es ≡ front ++ behind) × ((front ≡ []) ⊎ ((earlier : List Entry) × (e : Entry) × (front ≡ earlier ++ e ∷ []) × IsDone c m e))
-      × All (λ e. IsDone c m e → ⊥) behind
+      (front behind : List Entry) × (es ≡ front ++ behind) × ((front ≡ []) ⊎ ((earlier : List Entry) × (e : Entry) × (front ≡ earlier ++ e ∷ []) × IsAnsweredEntry c m e))
+      × All (λ e. IsAnsweredEntry c m e → ⊥) behind
 
   one_more : (e : Entry) (es : List Entry) → IsParted es → IsParted (e ∷ es)
   one_more e es (front, behind, parts, inr last, none) =
@@ -172,11 +172,11 @@ module _ (c : List Message) (calls : List PlainCall) (are : AreCalls c calls) (m
       let rest : es ≡ behind = parts ∙ ap (λ (xs : List Entry). xs ++ behind) empty in
       elim (done_or_not e) [
         | inl done ↦ (e ∷ [], behind, ap (λ (xs : List Entry). e ∷ xs) rest, inr ([], e, refl, done), none)
-        | inr open_one ↦ ([], e ∷ behind, ap (λ (xs : List Entry). e ∷ xs) rest, inl refl, All-cons (λ x. IsDone c m x → ⊥) e behind open_one none)
+        | inr open_one ↦ ([], e ∷ behind, ap (λ (xs : List Entry). e ∷ xs) rest, inl refl, All-cons (λ x. IsAnsweredEntry c m x → ⊥) e behind open_one none)
       ]
 
   parted : (es : List Entry) → IsParted es
-  parted [] = ([], [], refl, inl refl, All-nil (λ x. IsDone c m x → ⊥))
+  parted [] = ([], [], refl, inl refl, All-nil (λ x. IsAnsweredEntry c m x → ⊥))
   parted (e ∷ es) = one_more e es (parted es)
 
   pub cut_there : (es : List Entry) → (cut : List Entry) × IsCut c m es cut

@@ -14,8 +14,8 @@ use Rattle.fa_tree.proofs.CallerLemmas.{shown_at}
 use Rattle.fa_order.specs.declared.entry.Entry.{Entry}
 use Rattle.fa_check.specs.Orders.{IsTreeRequestAt}
 use Rattle.fa_check.specs.Verdicts.{AreMessagesOf}
-use Rattle.fa_check.specs.Cuts.{LeavesNothing, wrote_without, Goes, Stays, AreLeft, IsDone, IsCut}
-use Rattle.fa_check.specs.parts.Cutting.{IsFrontUpTo, IsFrontOf}
+use Rattle.fa_check.specs.Cuts.{LeavesNothing, wrote_without, Goes, Stays, AreLeft, IsAnsweredEntry, IsCut}
+use Rattle.fa_check.specs.parts.Cutting.{IsEndOfFrontUpTo, IsEndOfFront}
 use Rattle.fa_check.proofs.ListLemmas.{take_one_more, get_from_drop}
 use Rattle.fa_check.proofs.MessageLemmas.{tree_is_call}
 use Rattle.fa_check.proofs.CutThereLemmas.{open_stays, open_not_done, early_stays, early_done, late_not_done, late_goes, late_stays}
@@ -57,7 +57,7 @@ module _ (calls : Calls) (place m : ℕ) (e : Entry) (call : Call) (f : IsFoundA
   pub shown_open : call.answer ≡ None → Stays c m e e
   shown_open none = open_stays c (map call_shown calls.list.items) is.are m place (call_shown call) e f.there f.asked (ap (option_map answer_shown) none)
 
-  pub shown_not_done : call.answer ≡ None → IsDone c m e → ⊥
+  pub shown_not_done : call.answer ≡ None → IsAnsweredEntry c m e → ⊥
   shown_not_done none = open_not_done c (map call_shown calls.list.items) is.are m place (call_shown call) e f.there f.asked (ap (option_map answer_shown) none)
 
   module _ (answer : Answer) (has : call.answer ≡ Some answer) where
@@ -65,11 +65,11 @@ module _ (calls : Calls) (place m : ℕ) (e : Entry) (call : Call) (f : IsFoundA
     shown_early early =
         early_stays c (map call_shown calls.list.items) is.are m place (call_shown call) e f.there f.asked (answer_shown answer) (ap (option_map answer_shown) has) early
 
-    pub shown_done : answer.at < m → IsDone c m e
+    pub shown_done : answer.at < m → IsAnsweredEntry c m e
     shown_done early =
         early_done c (map call_shown calls.list.items) is.are m place (call_shown call) e f.there f.asked (answer_shown answer) (ap (option_map answer_shown) has) early
 
-    pub shown_late : m ≤ answer.at → IsDone c m e → ⊥
+    pub shown_late : m ≤ answer.at → IsAnsweredEntry c m e → ⊥
     shown_late late =
         late_not_done c (map call_shown calls.list.items) is.are m place (call_shown call) e f.there f.asked (answer_shown answer) (ap (option_map answer_shown) has) late
 
@@ -85,15 +85,15 @@ module _ (calls : Calls) (place m : ℕ) (e : Entry) (call : Call) (f : IsFoundA
 -- ---- the front
 
 -- of none
-pub front_none : (c : List Message) (m : ℕ) (es : List Entry) → IsFrontUpTo c m es 0 0
+pub front_none : (c : List Message) (m : ℕ) (es : List Entry) → IsEndOfFrontUpTo c m es 0 0
 front_none c m es = record { last = inl refl; none = λ k e from below there done. omega (arith, below) }
 
 -- one entry more that is done
-pub front_done : (c : List Message) (m : ℕ) (es : List Entry) (n : ℕ) (e : Entry) → slice_get es n ≡ Some e → IsDone c m e → IsFrontUpTo c m es (n + 1) (n + 1)
+pub front_done : (c : List Message) (m : ℕ) (es : List Entry) (n : ℕ) (e : Entry) → slice_get es n ≡ Some e → IsAnsweredEntry c m e → IsEndOfFrontUpTo c m es (n + 1) (n + 1)
 front_done c m es n e there done = record { last = inr (n, e, omega arith, there, done); none = λ k f from below at is. omega (arith, from, below) }
 
 -- or is not
-pub front_more : (c : List Message) (m : ℕ) (es : List Entry) (n count : ℕ) (e : Entry) → slice_get es n ≡ Some e → (IsDone c m e → ⊥) → IsFrontUpTo c m es n count → IsFrontUpTo c m es (n + 1) count
+pub front_more : (c : List Message) (m : ℕ) (es : List Entry) (n count : ℕ) (e : Entry) → slice_get es n ≡ Some e → (IsAnsweredEntry c m e → ⊥) → IsEndOfFrontUpTo c m es n count → IsEndOfFrontUpTo c m es (n + 1) count
 front_more c m es n count e there open_one front = record {
   last = front.last;
   none = λ k f from below at done.
@@ -102,7 +102,7 @@ front_more c m es n count e there open_one front = record {
         | inr behind ↦
             let same : k ≡ n = omega (arith, behind, below) in
             let here : slice_get es n ≡ Some f = subst (λ (i : ℕ). slice_get es i ≡ Some f) same at in
-            open_one (subst (IsDone c m) (same_Some f e (sym here ∙ there)) done)
+            open_one (subst (IsAnsweredEntry c m) (same_Some f e (sym here ∙ there)) done)
       ];
 }
 
@@ -124,8 +124,8 @@ left_goes c m (g ∷ es) left e goes (inr (h, rest, is, remains, are)) = inr (h,
 
 -- ---- all of it
 
-front_last : (c : List Message) (m : ℕ) (es : List Entry) (n count : ℕ) → IsFrontUpTo c m es n count
-    → (take count es ≡ []) ⊎ ((earlier : List Entry) × (e : Entry) × (take count es ≡ earlier ++ e ∷ []) × IsDone c m e)
+front_last : (c : List Message) (m : ℕ) (es : List Entry) (n count : ℕ) → IsEndOfFrontUpTo c m es n count
+    → (take count es ≡ []) ⊎ ((earlier : List Entry) × (e : Entry) × (take count es ≡ earlier ++ e ∷ []) × IsAnsweredEntry c m e)
 front_last c m es n count front =
     elim front.last [
       | inl none ↦ inl (ap (λ (k : ℕ). take k es) none)
@@ -134,7 +134,7 @@ front_last c m es n count front =
           inr (take last.0 es, last.1, ap (λ (k : ℕ). take k es) (last.2 ∙ more) ∙ take_one_more es last.0 last.1 last.3, last.4)
     ]
 
-pub all_cut : (c : List Message) (m : ℕ) (es left : List Entry) (count : ℕ) → IsFrontOf c m es count → AreLeft c m (take count es) left → IsCut c m es left
+pub all_cut : (c : List Message) (m : ℕ) (es left : List Entry) (count : ℕ) → IsEndOfFront c m es count → AreLeft c m (take count es) left → IsCut c m es left
 all_cut c m es left count front are = record {
   front = take count es;
   behind = drop count es;
@@ -148,7 +148,7 @@ all_cut c m es left count front are = record {
 
 -- the test of an answer's number
 pub done_test : (calls : Calls) (place m : ℕ) (e : Entry) (call : Call) → IsFoundAs calls place e.at call → (c : List Message) → AreMessagesOf calls c → (answer : Answer) → call.answer ≡ Some answer
-    → IsTrue (nat_lt answer.at m) ↔ IsDone c m e
+    → IsTrue (nat_lt answer.at m) ↔ IsAnsweredEntry c m e
 done_test calls place m e call f c is answer has = (
   (λ test. shown_done calls place m e call f c is answer has (ltb-true answer.at m test)),
   (λ done.
@@ -159,11 +159,11 @@ done_test calls place m e call f c is answer has = (
 )
 
 -- the front of the first n entries, of whatever messages the calls are
-pub record IsFrontSoFar (calls : Calls) (m : ℕ) (es : List Entry) (n count : ℕ) : Type 0 where
+pub record IsEndSoFar (calls : Calls) (m : ℕ) (es : List Entry) (n count : ℕ) : Type 0 where
   pub within : count ≤ n
-  pub exact : (c : List Message) → AreMessagesOf calls c → IsFrontUpTo c m es n count
+  pub exact : (c : List Message) → AreMessagesOf calls c → IsEndOfFrontUpTo c m es n count
 
-pub front_begins : (calls : Calls) (m : ℕ) (es : List Entry) → IsFrontSoFar calls m es 0 0
+pub front_begins : (calls : Calls) (m : ℕ) (es : List Entry) → IsEndSoFar calls m es 0 0
 front_begins calls m es = record { within = omega arith; exact = λ c is. front_none c m es }
 
 -- one entry more of those that are looked at

@@ -81,8 +81,8 @@ AreLeft c m (e ∷ es) left =
     ⊎ ((f : Entry) × (rest : List Entry) × (left ≡ f ∷ rest) × Stays c m e f × AreLeft c m es rest)
 
 -- the entry names a tree request that was answered before message m
-abbrev pub IsDone : List Message → (m : ℕ) → Entry → Type 0
-IsDone c m e = IsTreeRequestAt c e.at × IsAnsweredBefore c m e.at
+abbrev pub IsAnsweredEntry : List Message → (m : ℕ) → Entry → Type 0
+IsAnsweredEntry c m e = IsTreeRequestAt c e.at × IsAnsweredBefore c m e.at
 
 -- The order cut at message m: what is left of its front, which goes up to and with the last entry that names a tree request answered
 -- before m, and is empty where there is none.
@@ -90,8 +90,8 @@ pub record IsCut (c : List Message) (m : ℕ) (es cut : List Entry) : Type 0 whe
   pub front : List Entry
   pub behind : List Entry
   pub parts : es ≡ front ++ behind
-  pub last : (front ≡ []) ⊎ ((earlier : List Entry) × (e : Entry) × (front ≡ earlier ++ e ∷ []) × IsDone c m e)
-  pub none : All (λ e. IsDone c m e → ⊥) behind
+  pub last : (front ≡ []) ⊎ ((earlier : List Entry) × (e : Entry) × (front ≡ earlier ++ e ∷ []) × IsAnsweredEntry c m e)
+  pub none : All (λ e. IsAnsweredEntry c m e → ⊥) behind
   pub left : AreLeft c m front cut
 
 -- The entries explain the replies before message m: each is placed rightly, they are a run from the first tree, and each tree

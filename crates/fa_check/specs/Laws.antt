@@ -71,7 +71,7 @@ LegalExplains = (c : List Message) (first : TreeState) (es : List Entry) (m : �
 abbrev pub ExplainsAllIsLegal : Type 0
 ExplainsAllIsLegal = (c : List Message) (first : TreeState) (es : List Entry) → AreGood c → Explains c first (length c) es → IsLegalRun c first es
 
--- An order cut at a message, and what is left cut again at an earlier one, is the order cut at the earlier one.
+-- Entries that are each placed rightly, cut at a message, and cut again at that one or an earlier one, are the entries cut there.
 abbrev pub CutAgain : Type 0
 CutAgain =
     (c : List Message) (k m : ℕ) (es cut again : List Entry)

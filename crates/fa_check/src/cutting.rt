@@ -6,8 +6,8 @@ ghost use Rattle.fa_bodies.specs.Requests.{body_shown, request_shown};
 ghost use Rattle.fa_bodies.specs.Replies.{reply_shown};
 ghost use Rattle.fa_tree.specs.Outcomes.{count_by_reply};
 ghost use Rattle.fa_check.specs.Verdicts.{AreMessagesOf};
-ghost use Rattle.fa_check.specs.Cuts.{LeavesNothing, wrote_without, Goes, Stays, IsDone, IsCut};
-ghost use Rattle.fa_check.specs.parts.Cutting.{IsFrontOf};
+ghost use Rattle.fa_check.specs.Cuts.{LeavesNothing, wrote_without, Goes, Stays, IsAnsweredEntry, IsCut};
+ghost use Rattle.fa_check.specs.parts.Cutting.{IsEndOfFront};
 
 use fa_bodies::{Reply, Request, RequestBody};
 use fa_ledger::{Calls, only_reads};
@@ -21,8 +21,8 @@ use std::alloc::{AllocError, Global};
 /// WRITE then carries the count which the answer tells; where it is an error, or the request only reads, the entry goes. An entry that
 /// names no tree request goes. All others stay as they are: those whose request was answered by one of these messages, or never.
 ///
-/// Any list of entries is cut so. Where the order is legal, what is left is legal for these messages ([`laws`](crate::laws)). With more
-/// messages than there are, what stands behind the last answered request goes, and what names no tree request.
+/// Any list of entries is cut so; how it is cut is this profile's. Where the order is legal, what is left is legal for these messages ([`laws`](crate::laws)). With more
+/// messages than there are, what stands behind the last entry whose request was answered goes, and what names no tree request.
 ///
 /// # Errors
 ///
@@ -39,7 +39,7 @@ pub fn cut(
 ) -> Result<Vec<Entry>, AllocError>
     ensures { IfOk result (λ left. (c : List Message) → AreMessagesOf calls.now c → IsCut c messages order.now left.items) }
 {
-    let end = front(calls, order, messages);
+    let end = end_of_front(calls, order, messages);
     let mut left = Vec::new(alloc);
     for entry in &order[..end] {
         if let Some(stays) = left_of(calls, *entry, messages) {
@@ -50,13 +50,13 @@ pub fn cut(
 }
 
 /// How many entries come up to and with the last one that names a tree request which the first messages answer.
-fn front(calls: &Calls<'_>, order: &[Entry], messages: u32) -> usize
+fn end_of_front(calls: &Calls<'_>, order: &[Entry], messages: u32) -> usize
     ensures within { result ≤ length order.now }
-    ensures exact { (c : List Message) → AreMessagesOf calls.now c → IsFrontOf c messages order.now result }
+    ensures exact { (c : List Message) → AreMessagesOf calls.now c → IsEndOfFront c messages order.now result }
 {
     let mut end = 0;
     for (place, entry) in order.iter().enumerate() {
-        if is_done(calls, *entry, messages) {
+        if is_answered_entry(calls, *entry, messages) {
             end = place + 1;
         }
     }
@@ -64,8 +64,8 @@ fn front(calls: &Calls<'_>, order: &[Entry], messages: u32) -> usize
 }
 
 /// Whether the entry names a tree request that one of the first messages answers.
-fn is_done(calls: &Calls<'_>, entry: Entry, messages: u32) -> bool
-    ensures { (c : List Message) → AreMessagesOf calls.now c → IsTrue result ↔ IsDone c messages entry }
+fn is_answered_entry(calls: &Calls<'_>, entry: Entry, messages: u32) -> bool
+    ensures { (c : List Message) → AreMessagesOf calls.now c → IsTrue result ↔ IsAnsweredEntry c messages entry }
 {
     let Some(place) = calls.find(entry.at) else {
         return false;

@@ -52,7 +52,7 @@ pub fn explains_all_is_legal()
     ensures { ExplainsAllIsLegal }
 {}
 
-/// An order that is cut, and cut again at an earlier message, is the order cut at the earlier one.
+/// Entries that are each placed rightly, cut, and cut again at that message or an earlier one, are the entries cut there.
 pub fn cut_again()
     ensures { CutAgain }
 {}

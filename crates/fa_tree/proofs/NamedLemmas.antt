@@ -20,7 +20,7 @@ use Rattle.fa_tree.specs.Bindings.{AreBound, nodes_after, given_in}
 use Rattle.fa_tree.specs.Outcomes.{Outcome, outcome, count_written}
 use Rattle.fa_tree.specs.Outcomes.Outcome.{Fails, Succeeds, Unanswered}
 use Rattle.fa_tree.specs.Steps.{tree_after, setting, outcome_checks, checks_of_files, Steps}
-use Rattle.fa_tree.specs.Laws.{ReadingEditsNothing, NoEditsLeaveOpen, EachOpenByItself, NamesKeepFiles, GivenNamesStand}
+use Rattle.fa_tree.specs.Laws.{ReadingEditsNothing, WithoutEditsOpenStays, EachOpenByItself, NamesKeepFiles, GivenNamesStand}
 use Rattle.fa_tree.proofs.NodeLemmas.{node_total, node_same}
 use Rattle.fa_tree.proofs.NameLemmas.{get-each_open}
 use Rattle.fa_tree.proofs.ChangedLemmas.{stays_open}
@@ -141,8 +141,8 @@ reading_edits_nothing s x (Readdir r) reads = refl
 reading_edits_nothing s x (Readdirplus r) reads = refl
 reading_edits_nothing s x other reads = absurd reads
 
-pub no_edits_leave_open : NoEditsLeaveOpen
-no_edits_leave_open handles = stays_open handles
+pub without_edits_open_stays : WithoutEditsOpenStays
+without_edits_open_stays handles = stays_open handles
 
 pub each_open_by_itself : EachOpenByItself
 each_open_by_itself edits handles asked = get-each_open (open_after edits) handles asked

@@ -47,9 +47,9 @@ ReadingChangesNothing = (s : Store) (x : Resolved) (q : Question) (count : ℕ) 
 abbrev pub ReadingEditsNothing : Type 0
 ReadingEditsNothing = (s : Store) (x : Resolved) (body : PlainBody) → IsReadingRequest body → edits s x body ≡ []
 
--- No edits leave the open directories.
-abbrev pub NoEditsLeaveOpen : Type 0
-NoEditsLeaveOpen = (handles : FinMap nat_cmp OpenDirectory) → handles_after [] handles ≡ handles
+-- Where nothing is edited, the open directories stay as they are.
+abbrev pub WithoutEditsOpenStays : Type 0
+WithoutEditsOpenStays = (handles : FinMap nat_cmp OpenDirectory) → handles_after [] handles ≡ handles
 
 -- Edits change each open directory by itself.
 abbrev pub EachOpenByItself : Type 0

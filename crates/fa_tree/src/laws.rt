@@ -1,6 +1,6 @@
 //! What holds of steps. Each function does nothing: its contract is the law.
 
-ghost use Rattle.fa_tree.specs.Laws.{StepIsOne, StepsWhereAllHold, NoStepWhereOneFails, ReadingChangesNothing, ReadingEditsNothing, NoEditsLeaveOpen, EachOpenByItself, NamesKeepFiles, GivenNamesStand, BuildingKeepsTrees, ChangesKeepTrees, FilesStay};
+ghost use Rattle.fa_tree.specs.Laws.{StepIsOne, StepsWhereAllHold, NoStepWhereOneFails, ReadingChangesNothing, ReadingEditsNothing, WithoutEditsOpenStays, EachOpenByItself, NamesKeepFiles, GivenNamesStand, BuildingKeepsTrees, ChangesKeepTrees, FilesStay};
 
 /// From a tree a call leads to one tree at most.
 pub fn step_is_one()
@@ -27,9 +27,9 @@ pub fn reading_edits_nothing()
     ensures { ReadingEditsNothing }
 {}
 
-/// No edits leave the open directories.
-pub fn no_edits_leave_open()
-    ensures { NoEditsLeaveOpen }
+/// Where nothing is edited, the open directories stay as they are.
+pub fn without_edits_open_stays()
+    ensures { WithoutEditsOpenStays }
 {}
 
 /// Edits change each open directory by itself.

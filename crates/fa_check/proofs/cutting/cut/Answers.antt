@@ -10,7 +10,7 @@ use Rattle.fa_check.proofs.cutting.cut.Goals.{in-Some+in_ok-push, in_default}
 pub loop-entry-preserved : goal.loop-entry-preserved
 loop-entry-preserved c = λ messages is.
     let m = c.args.messages in
-    let xs = take c.front-end.result c.args.order.now in
+    let xs = take c.end_of_front-end.result c.args.order.now in
     let n = c.loop-entry.entry-index in
     elim c.match-left_of.branch [
       | in-Some+in_ok-push w ↦
@@ -23,6 +23,6 @@ loop-entry-preserved c = λ messages is.
 
 pub returns : goal.returns
 returns c = λ messages is.
-    let xs = take c.front-end.result c.args.order.now in
-    all_cut messages c.args.messages c.args.order.now c.loop-entry.left.items c.front-end.result (c.front-end.ensures.exact messages is)
+    let xs = take c.end_of_front-end.result c.args.order.now in
+    all_cut messages c.args.messages c.args.order.now c.loop-entry.left.items c.end_of_front-end.result (c.end_of_front-end.ensures.exact messages is)
     (subst (λ (ys : List Entry). AreLeft messages c.args.messages ys c.loop-entry.left.items) (take_all c.loop-entry.entry-index xs c.loop-entry-test.false) (c.loop-entry.invariant messages is))

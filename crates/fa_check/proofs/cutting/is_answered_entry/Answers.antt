@@ -4,7 +4,7 @@ use Rattle.std.proofs.lemmas.List.{length-map}
 use Rattle.std.proofs.lemmas.Option.{slice_get_within}
 use Rattle.fa_ledger.specs.Calls.{call_shown}
 use Rattle.fa_check.proofs.CuttingLemmas.{on_none, no_call, found_as, shown_not_done, done_test}
-use Rattle.fa_check.proofs.cutting.is_done.Goals as goal
+use Rattle.fa_check.proofs.cutting.is_answered_entry.Goals as goal
 
 pub returns-in_default : goal.returns-in_default
 returns-in_default c = λ messages is. (
