@@ -53,7 +53,8 @@ enum fuse_record_way { FUSE_RECORD_READ, FUSE_RECORD_WRITE };
 /* Protocol 7.31, and its flags of INIT without the two that this profile refuses. */
 #define FUSE_RECORD_MINOR 31u
 #define FUSE_RECORD_FLAGS (((1u << 27) - 1) & ~(uint32_t)(FUSE_WRITEBACK_CACHE | FUSE_POSIX_ACL))
-#define FUSE_RECORD_INIT_LENGTH (sizeof(struct fuse_in_header) + 16)
+/* The bytes of the struct that stands before the name in SETXATTR. */
+#define FUSE_RECORD_SETXATTR 8u
 /* Servers from this minor on know all requests that the kernel sends to one of minor 31, or may answer them by ENOSYS. */
 #define FUSE_RECORD_LEAST_MINOR 16u
 
@@ -419,6 +420,23 @@ static ssize_t fuse_record_send(int device, const struct iovec *parts, int count
     return sent;
 }
 
+/*
+ * The name of the extended attribute that a request sets, where that is an access control list: setting one sets the permission
+ * bits too, as of files that are made below a default one, and this profile takes SETXATTR as without effect. Else NULL.
+ */
+static const char *fuse_record_list_set(const struct fuse_in_header *header, const struct iovec *parts, int count, size_t length)
+{
+    static const char *const lists[] = {"system.posix_acl_access", "system.posix_acl_default"};
+    char request[sizeof *header + FUSE_RECORD_SETXATTR + sizeof "system.posix_acl_default" + 1] = "";
+    if (header->opcode != FUSE_SETXATTR)
+        return NULL;
+    fuse_record_copy(request, length < sizeof request ? length : sizeof request - 1, parts, count, false);
+    for (size_t i = 0; i < sizeof lists / sizeof *lists; i++)
+        if (strcmp(request + sizeof *header + FUSE_RECORD_SETXATTR, lists[i]) == 0)
+            return lists[i];
+    return NULL;
+}
+
 /* Records a request that was read, and says whether it is answered here, so that the server does not see it. */
 static bool fuse_record_request(int device, const struct iovec *parts, int count, size_t *length)
 {
@@ -435,10 +453,15 @@ static bool fuse_record_request(int device, const struct iovec *parts, int count
     if (header.opcode == FUSE_INIT)
         *length = fuse_record_show_init(parts, count, *length);
     struct fuse_record_place place = fuse_record_message(FUSE_RECORD_READ, parts, count, *length);
-    if (!(fuse_record_setup.refused >> header.opcode & 1))
+    bool refused = fuse_record_setup.refused >> header.opcode & 1;
+    const char *list = refused ? NULL : fuse_record_list_set(&header, parts, count, *length);
+    if (!refused && !list)
         return false;
-    fuse_record_note("message %" PRIu32 ": %s, unique %" PRIu64 ": answered ENOSYS in the server's place", place.message,
-                     fuse_record_name(header.opcode), header.unique);
+    if (list)
+        answer.error = -EOPNOTSUPP;
+    fuse_record_note("message %" PRIu32 ": %s%s%s, unique %" PRIu64 ": answered %s in the server's place", place.message,
+                     fuse_record_name(header.opcode), list ? " of " : "", list ? list : "", header.unique,
+                     list ? "EOPNOTSUPP" : "ENOSYS");
     fuse_record_send(device, &part, 1);
     return true;
 }

@@ -121,6 +121,28 @@ work_in_mount() { is_mounted && timeout 120 "$here/tests/work.sh" "$mnt"; }
 
 look_at_old() { [ "$(timeout 20 cat "$mnt/symbolic" "$mnt/second")" = $'here\nhere' ] && timeout 20 ls -lR "$mnt" > "$work/seen"; }
 
+# Copies and moves files into the mount with their permission bits, from the file system of the work folder.
+copy_in() {
+    mkdir -p "$work/elsewhere/folder"
+    echo text > "$work/elsewhere/program"
+    cp "$work/elsewhere/program" "$work/elsewhere/folder/secret"
+    chmod 755 "$work/elsewhere/program"
+    chmod 640 "$work/elsewhere/folder/secret"
+    chmod 2750 "$work/elsewhere/folder"
+    timeout 20 cp -p "$work/elsewhere/program" "$mnt/one" && timeout 20 cp -a "$work/elsewhere" "$mnt/two" &&
+        timeout 20 mv "$work/elsewhere/program" "$mnt/three" && timeout 20 mv "$work/elsewhere/folder" "$mnt/four" &&
+        [ "$(cd "$mnt" && timeout 20 stat -c %a one two/program two/folder two/folder/secret three four four/secret | tr '\n' ' ')" = \
+            "755 755 2750 640 755 2750 640 " ]
+}
+
+# Copies into the mount, takes it down, and has the session judged.
+copying_session() {
+    check "$1: files are copied and moved in, with their bits" copy_in
+    check "$1: is unmounted" stop
+    check "$1: access control lists are refused" logged "SETXATTR of system.posix_acl_access, .* answered EOPNOTSUPP in the server's"
+    check "$1: is legal" is_legal "$1"
+}
+
 # Works in the mount, takes it down, and has the session judged.
 whole_session() {
     check "$1: serves several processes" work_in_mount
@@ -207,6 +229,9 @@ fi
 if command -v bindfs > /dev/null; then
     # Two names of a file are two nodes here: without timeouts the kernel asks for the attributes of each.
     session bindfs bindfs -f -o hard_remove,attr_timeout=0,entry_timeout=0 "$lower" "$mnt"
+    fill_lower
+    check "bindfs, copied to: mounts" record --lower "$lower" -- bindfs -f -o hard_remove,attr_timeout=0,entry_timeout=0 "$lower" "$mnt" &&
+        copying_session "bindfs, copied to"
 else
     echo "recorder: skipped: bindfs is not installed"
 fi
@@ -216,6 +241,9 @@ own memory --
 whole_session memory
 check "memory, splicing: mounts" record -- "$work/memory-splicing" "$mnt" && whole_session "memory, splicing"
 check "memory, linked statically: mounts" record -- "$work/memory-static" "$mnt" && whole_session "memory, linked statically"
+
+own copied --
+copying_session "memory, copied to"
 
 # A server that ends in the middle of its work.
 own killed -- --die-after 200
