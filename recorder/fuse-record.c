@@ -1,9 +1,11 @@
-/* fuse-record: starts a FUSE server so that what it and the kernel say to each other is recorded. */
+/* fuse-record: starts a FUSE server so that what it and the kernel say to each other is recorded, and sums the recording up. */
 #define _GNU_SOURCE
 #include <ctype.h>
 #include <getopt.h>
 #include <libgen.h>
 #include <limits.h>
+#include <sys/file.h>
+#include <sys/prctl.h>
 #include <sys/wait.h>
 
 #include "fuse-record.h"
@@ -12,10 +14,38 @@ static const char usage[] =
     "usage: fuse-record [options] -o FILE -- SERVER WORDS..\n"
     "Starts SERVER and records its FUSE messages in FILE, and in FILE.log what it changed of them.\n"
     "  -o, --output FILE      the capture; its folder is not to be below the mount\n"
+    "  --force                replaces FILE, FILE.log and FILE.tree of an earlier recording\n"
     "  --lower DIR            writes the tree text of DIR to FILE.tree before the server starts\n"
     "  --refuse NAME[,NAME]   answers these operations with ENOSYS in the server's place\n"
     "  --keep-init            leaves INIT and its answer as they are\n"
-    "  --keep-refused         leaves in the capture what the kernel refused to take\n";
+    "  --keep-refused         leaves in the capture what the kernel refused to take\n"
+    "It ends with the status of SERVER, or 125 where no message was seen or requests were never answered.\n";
+
+/* How it ends where not as the server did. A server's own status 125 becomes 1. */
+enum { FAILED = 1, MISUSED = 2, NOT_WHOLE = 125, NO_SERVER = 127 };
+
+/* How long a server that has gone into the background is given for its first message: so many times 50 milliseconds. */
+enum { PATIENCE = 100 };
+
+/* A file that is written, and where that is kept which stood at its path, until the server has started. */
+struct output {
+    char path[PATH_MAX + 8];
+    char kept[PATH_MAX + 16];
+    bool made;
+};
+static struct output outputs[3];
+enum { CAPTURE, LOG, TREE };
+
+/* Takes away what was made, and puts back what stood there. */
+static void undo_outputs(void)
+{
+    for (int i = CAPTURE; i <= TREE; i++) {
+        if (outputs[i].made)
+            unlink(outputs[i].path);
+        if (outputs[i].kept[0])
+            rename(outputs[i].kept, outputs[i].path);
+    }
+}
 
 /* Says on standard error what keeps the server from being started, and ends. */
 __attribute__((noreturn, format(printf, 2, 3))) static void fail(int status, const char *format, ...)
@@ -26,6 +56,7 @@ __attribute__((noreturn, format(printf, 2, 3))) static void fail(int status, con
     vfprintf(stderr, format, words);
     fputc('\n', stderr);
     va_end(words);
+    undo_outputs();
     exit(status);
 }
 
@@ -36,7 +67,7 @@ static unsigned operation(const char *name)
         if (fuse_record_names[number] && strcasecmp(fuse_record_names[number], name) == 0 && number != FUSE_INIT &&
             number != FUSE_FORGET && number != FUSE_BATCH_FORGET && number != FUSE_NOTIFY_REPLY)
             return number;
-    fail(2, "%s: no operation that can be refused", name);
+    fail(MISUSED, "%s: no operation that can be refused", name);
 }
 
 /* The operations of a list of names, a bit each. */
@@ -48,47 +79,146 @@ static uint64_t operations(char *names)
     return found;
 }
 
-/* Makes an empty file that its owner alone can read, or empties one. */
-static int create(const char *path)
-{
-    struct stat found;
-    int file = open(path, O_WRONLY | O_CREAT | O_TRUNC | O_CLOEXEC, 0600);
-    if (file < 0)
-        fail(1, "%s: %s", path, strerror(errno));
-    if (fstat(file, &found) != 0 || !S_ISREG(found.st_mode))
-        fail(1, "%s: no regular file", path);
-    return file;
-}
-
 /* The path of a file beside this program, as fuse-tree is. */
 static void beside(char path[PATH_MAX], const char *name)
 {
     char program[PATH_MAX];
     ssize_t length = readlink("/proc/self/exe", program, sizeof program - 1);
     if (length < 0)
-        fail(1, "/proc/self/exe: %s", strerror(errno));
+        fail(FAILED, "/proc/self/exe: %s", strerror(errno));
     program[length] = '\0';
     if (snprintf(path, PATH_MAX, "%s/%s", dirname(program), name) >= PATH_MAX)
-        fail(1, "%s: %s", name, strerror(ENAMETOOLONG));
+        fail(FAILED, "%s: %s", name, strerror(ENAMETOOLONG));
 }
 
-/* Writes the tree text of a folder. */
-static void write_tree(const char *folder, const char *path)
+/* Whether an absolute path is that of a folder, or below it. */
+static bool is_within(const char *path, const char *folder)
+{
+    size_t length = strcmp(folder, "/") == 0 ? 0 : strlen(folder);
+    return strncmp(path, folder, length) == 0 && (path[length] == '/' || path[length] == '\0');
+}
+
+/* Finds the absolute path of the capture and of what stands beside it. The capture need not be there. */
+static void name_outputs(const char *output)
+{
+    char whole[PATH_MAX], copy[PATH_MAX], other[PATH_MAX], *path = outputs[CAPTURE].path;
+    if (!realpath(output, whole)) {
+        if (errno != ENOENT || strlen(output) >= sizeof copy)
+            fail(FAILED, "%s: %s", output, strerror(errno == ENOENT ? ENAMETOOLONG : errno));
+        strcpy(copy, output);
+        strcpy(other, output);
+        if (!realpath(dirname(copy), whole))
+            fail(FAILED, "%s: %s", output, strerror(errno));
+        size_t length = strlen(whole);
+        snprintf(whole + length, sizeof whole - length, "%s%s", length > 1 ? "/" : "", basename(other));
+    }
+    if (strlen(whole) + sizeof ".tree.XXXXXX" > FUSE_RECORD_PATH)
+        fail(FAILED, "%s: %s", output, strerror(ENAMETOOLONG));
+    strcpy(path, whole);
+    snprintf(outputs[LOG].path, sizeof outputs[LOG].path, "%s.log", whole);
+    snprintf(outputs[TREE].path, sizeof outputs[TREE].path, "%s.tree", whole);
+}
+
+/*
+ * Refuses a capture that the recording would change: within the folder that the server passes on, or below the mount. For that
+ * the last of the server's words is taken that names a folder.
+ */
+static void refuse_places(const char *lower, char **words)
+{
+    char folder[PATH_MAX], mount[PATH_MAX] = "";
+    struct stat found;
+    const char *path = outputs[CAPTURE].path;
+    if (lower && realpath(lower, folder) && is_within(path, folder))
+        fail(FAILED, "%s: is in the folder of --lower, which the server passes on", path);
+    for (char **word = words + 1; *words && *word; word++)
+        if (stat(*word, &found) == 0 && S_ISDIR(found.st_mode) && realpath(*word, folder))
+            strcpy(mount, folder);
+    if (mount[0] && is_within(path, mount))
+        fail(FAILED, "%s: is below %s, which is taken for the mount", path, mount);
+}
+
+/* Refuses to write over files of an earlier recording, unless it is forced to or that recorded no message. */
+static void refuse_files(bool forced)
+{
+    struct stat found;
+    int capture = open(outputs[CAPTURE].path, O_RDONLY | O_CLOEXEC | O_NONBLOCK);
+    if (capture >= 0) {
+        if (fstat(capture, &found) != 0 || !S_ISREG(found.st_mode))
+            fail(FAILED, "%s: no regular file", outputs[CAPTURE].path);
+        if (flock(capture, LOCK_EX | LOCK_NB) != 0)
+            fail(FAILED, "%s: a recorder that runs holds it", outputs[CAPTURE].path);
+        forced |= found.st_size == sizeof FUSE_RECORD_MAGIC - 1;
+        close(capture);
+    }
+    for (int i = CAPTURE; i <= TREE; i++) {
+        if (lstat(outputs[i].path, &found) != 0)
+            continue;
+        if (!S_ISREG(found.st_mode))
+            fail(FAILED, "%s: no regular file", outputs[i].path);
+        if (!forced)
+            fail(FAILED, "%s: is there already; --force replaces the capture, its log and its tree text", outputs[i].path);
+    }
+}
+
+/* Moves what stands at a path to one beside it. */
+static void keep(struct output *output)
+{
+    struct stat found;
+    if (lstat(output->path, &found) != 0)
+        return;
+    char kept[sizeof output->kept];
+    snprintf(kept, sizeof kept, "%s.XXXXXX", output->path);
+    int file = mkstemp(kept);
+    if (file < 0 || rename(output->path, kept) != 0)
+        fail(FAILED, "%s: %s", kept, strerror(errno));
+    close(file);
+    strcpy(output->kept, kept);
+}
+
+/* Makes a file that its owner alone can read. */
+static int create(struct output *output)
+{
+    int file = open(output->path, O_WRONLY | O_CREAT | O_EXCL | O_CLOEXEC, 0600);
+    if (file < 0)
+        fail(FAILED, "%s: %s", output->path, strerror(errno));
+    output->made = true;
+    return file;
+}
+
+/* Writes the tree text of a folder, by a program that has the signals from before. */
+static void write_tree(const char *folder, const sigset_t *before)
 {
     char program[PATH_MAX];
-    int status = 0, file = create(path);
+    int status = 0, file = create(&outputs[TREE]);
     beside(program, "fuse-tree");
     pid_t child = fork();
     if (child == 0) {
+        sigprocmask(SIG_SETMASK, before, NULL);
         dup2(file, STDOUT_FILENO);
         execl(program, program, folder, (char *)NULL);
-        fail(1, "%s: %s", program, strerror(errno));
+        fprintf(stderr, "fuse-record: %s: %s\n", program, strerror(errno));
+        _exit(FAILED);
     }
     if (child < 0 || waitpid(child, &status, 0) < 0)
-        fail(1, "%s: %s", program, strerror(errno));
+        fail(FAILED, "%s: %s", program, strerror(errno));
     if (status != 0)
-        fail(1, "%s: no tree text of %s", path, folder);
+        fail(FAILED, "%s: no tree text of %s", outputs[TREE].path, folder);
     close(file);
+}
+
+/* Makes the files anew, and holds the capture for as long as this descriptor of it is open. */
+static int make_outputs(const char *lower, const sigset_t *before)
+{
+    for (int i = CAPTURE; i <= TREE; i++)
+        keep(&outputs[i]);
+    int capture = create(&outputs[CAPTURE]);
+    if (flock(capture, LOCK_EX | LOCK_NB) != 0 ||
+        write(capture, FUSE_RECORD_MAGIC, sizeof FUSE_RECORD_MAGIC - 1) != sizeof FUSE_RECORD_MAGIC - 1)
+        fail(FAILED, "%s: %s", outputs[CAPTURE].path, strerror(errno));
+    close(create(&outputs[LOG]));
+    if (lower)
+        write_tree(lower, before);
+    return capture;
 }
 
 /* Makes the server load the library, before those that it is to load already. */
@@ -98,18 +228,293 @@ static void load_library(void)
     const char *others = getenv("LD_PRELOAD");
     beside(library, "fuse-record.so");
     if (access(library, R_OK) != 0)
-        fail(1, "%s: %s", library, strerror(errno));
+        fail(FAILED, "%s: %s", library, strerror(errno));
     if (strpbrk(library, " :"))
-        fail(1, "%s: LD_PRELOAD takes no path with a space or a colon", library);
-    snprintf(all, sizeof all, "%s%s%s", library, others ? ":" : "", others ? others : "");
+        fail(FAILED, "%s: LD_PRELOAD takes no path with a space or a colon", library);
+    if (snprintf(all, sizeof all, "%s%s%s", library, others ? ":" : "", others ? others : "") >= (int)sizeof all)
+        fail(FAILED, "LD_PRELOAD: %s", strerror(ENAMETOOLONG));
     setenv("LD_PRELOAD", all, 1);
+}
+
+/* A request that waits for its answer. */
+struct waiting {
+    uint64_t unique, node;
+    uint32_t operation, message;
+};
+
+/* What a capture has. Those that wait are in memory that grows. */
+struct sum {
+    uint32_t messages, requests, answers;
+    struct waiting *waiting;
+    size_t waits, room;
+};
+
+/* Whether an order names requests of this operation. */
+static bool is_in_orders(uint32_t operation)
+{
+    switch (operation) {
+    case FUSE_LOOKUP: case FUSE_GETATTR: case FUSE_SETATTR: case FUSE_READLINK: case FUSE_SYMLINK: case FUSE_MKNOD:
+    case FUSE_MKDIR: case FUSE_UNLINK: case FUSE_RMDIR: case FUSE_RENAME: case FUSE_LINK: case FUSE_OPEN: case FUSE_READ:
+    case FUSE_WRITE: case FUSE_OPENDIR: case FUSE_READDIR: case FUSE_CREATE: case FUSE_READDIRPLUS: return true;
+    default: return false;
+    }
+}
+
+static bool is_to_be_answered(uint32_t operation)
+{
+    return operation != FUSE_FORGET && operation != FUSE_BATCH_FORGET && operation != FUSE_INTERRUPT && operation != FUSE_NOTIFY_REPLY;
+}
+
+/* Counts a request, which waits from now on. */
+static void count_request(struct sum *sum, const struct fuse_in_header *header)
+{
+    sum->requests++;
+    if (!is_to_be_answered(header->opcode))
+        return;
+    if (sum->waits == sum->room) {
+        size_t room = 2 * sum->room + 64;
+        struct waiting *more = realloc(sum->waiting, room * sizeof *more);
+        if (!more)
+            return;
+        sum->waiting = more;
+        sum->room = room;
+    }
+    sum->waiting[sum->waits++] = (struct waiting){header->unique, header->nodeid, header->opcode, sum->messages};
+}
+
+/* Counts a message from the server, and takes off the request that it answers. A notification answers none. */
+static void count_answer(struct sum *sum, const struct fuse_out_header *header)
+{
+    if (header->unique == 0)
+        return;
+    sum->answers++;
+    for (size_t i = sum->waits; i-- > 0;) {
+        if (sum->waiting[i].unique != header->unique)
+            continue;
+        memmove(sum->waiting + i, sum->waiting + i + 1, (--sum->waits - i) * sizeof *sum->waiting);
+        return;
+    }
+}
+
+/* Counts the whole records of the capture. */
+static struct sum sum_up(void)
+{
+    struct sum sum = {0};
+    unsigned char head[FUSE_RECORD_HEAD];
+    FILE *capture = fopen(outputs[CAPTURE].path, "re");
+    if (!capture || fseek(capture, sizeof FUSE_RECORD_MAGIC - 1, SEEK_SET) != 0)
+        return sum;
+    for (; fread(head, sizeof head, 1, capture) == 1; sum.messages++) {
+        union {
+            struct fuse_in_header request;
+            struct fuse_out_header answer;
+        } header = {0};
+        uint32_t stated;
+        memcpy(&stated, head + 1, sizeof stated);
+        size_t length = le32toh(stated), wanted = head[0] == FUSE_RECORD_READ ? sizeof header.request : sizeof header.answer;
+        size_t taken = length < wanted ? length : wanted;
+        if (fread(&header, 1, taken, capture) != taken || fseek(capture, (long)(length - taken), SEEK_CUR) != 0)
+            break;
+        if (taken == wanted && head[0] == FUSE_RECORD_READ)
+            count_request(&sum, &header.request);
+        else if (taken == wanted)
+            count_answer(&sum, &header.answer);
+    }
+    fclose(capture);
+    return sum;
+}
+
+/* Whether the capture has a message. */
+static bool has_messages(void)
+{
+    struct stat found;
+    return stat(outputs[CAPTURE].path, &found) == 0 && found.st_size > (off_t)sizeof FUSE_RECORD_MAGIC - 1;
+}
+
+/* Writes one line to the log, and where it is to be said, on standard error. */
+__attribute__((format(printf, 2, 3))) static void tell(bool said, const char *format, ...)
+{
+    char line[PATH_MAX + 512] = "fuse-record: ";
+    const size_t before = strlen(line);
+    va_list words;
+    va_start(words, format);
+    vsnprintf(line + before, sizeof line - before - 1, format, words);
+    va_end(words);
+    strcat(line, "\n");
+    if (said)
+        fuse_record_say(line);
+    int log = open(outputs[LOG].path, O_WRONLY | O_APPEND | O_CLOEXEC);
+    struct iovec part = {line + before, strlen(line) - before};
+    if (log >= 0) {
+        fuse_record_write(log, &part, 1, -1);
+        close(log);
+    }
+}
+
+/* How the server ended, of which this is the status of wait. */
+static const char *how_it_ended(int ended)
+{
+    static char words[80];
+    if (WIFSIGNALED(ended))
+        snprintf(words, sizeof words, "was ended by signal %d (%s)", WTERMSIG(ended), strsignal(WTERMSIG(ended)));
+    else
+        snprintf(words, sizeof words, "ended with status %d", WEXITSTATUS(ended));
+    return words;
+}
+
+/* The status to end with as the server did. */
+static int status_of(int ended)
+{
+    if (WIFSIGNALED(ended))
+        return 128 + WTERMSIG(ended);
+    return WEXITSTATUS(ended) == NOT_WHOLE ? FAILED : WEXITSTATUS(ended);
+}
+
+/* Tells at the end what was recorded, and answers the status to end with. */
+static int tell_sum(int ended)
+{
+    struct sum sum = sum_up();
+    char fault[200] = "";
+    size_t unnamed = 0, missed = 0;
+    for (size_t i = 0; i < sum.waits; i++) {
+        const struct waiting *request = &sum.waiting[i];
+        unnamed += !is_in_orders(request->operation);
+        /* No program waits for these two: a file system is unmounted before they are answered, and no answer taken then. */
+        bool waited_for = request->operation != FUSE_RELEASE && request->operation != FUSE_RELEASEDIR;
+        missed += waited_for || WIFSIGNALED(ended);
+        tell(false, "message %" PRIu32 ": %s of node %" PRIu64 ", unique %" PRIu64 ": never answered", request->message,
+             fuse_record_name(request->operation), request->node, request->unique);
+    }
+    if (sum.messages == 0)
+        snprintf(fault, sizeof fault, ": no message was seen, and the server %s", how_it_ended(ended));
+    else if (missed > 0)
+        snprintf(fault, sizeof fault, ": the server %s with requests unanswered", how_it_ended(ended));
+    tell(true, "%s: %" PRIu32 " messages, %" PRIu32 " requests, %" PRIu32 " answers; %zu requests were never answered, %zu of them of "
+               "operations that no order names%s",
+         outputs[CAPTURE].path, sum.messages, sum.requests, sum.answers, sum.waits, unnamed, fault);
+    free(sum.waiting);
+    return fault[0] ? NOT_WHOLE : status_of(ended);
+}
+
+/*
+ * Three processes: the one that was started follows the watcher, which it forks, and ends as that says; the watcher is the parent of
+ * the server, and of all that the server leaves behind, so that it sees the end of a server that goes into the background. The two
+ * hand on the signals that they are sent, but for those of a terminal, which the server has got too.
+ */
+static void choose_signals(sigset_t *signals)
+{
+    static const int handed_on[] = {SIGTERM, SIGINT, SIGHUP, SIGQUIT, SIGUSR1, SIGUSR2};
+    sigemptyset(signals);
+    sigaddset(signals, SIGCHLD);
+    sigaddset(signals, SIGRTMIN);
+    for (size_t i = 0; i < sizeof handed_on / sizeof *handed_on; i++)
+        sigaddset(signals, handed_on[i]);
+}
+
+static void hand_on(pid_t child, const siginfo_t *signal)
+{
+    if (child > 0 && signal->si_signo != SIGCHLD && signal->si_signo != SIGRTMIN && signal->si_code <= 0)
+        kill(child, signal->si_signo);
+}
+
+/* Starts the server, and answers when it has begun, or ends where it can't. */
+static pid_t start(char **words, const sigset_t *before)
+{
+    int began[2], error;
+    if (pipe2(began, O_CLOEXEC) != 0)
+        fail(FAILED, "a pipe: %s", strerror(errno));
+    pid_t server = fork();
+    if (server == 0) {
+        sigprocmask(SIG_SETMASK, before, NULL);
+        umask(0);
+        execvp(words[0], words);
+        error = errno;
+        while (write(began[1], &error, sizeof error) < 0 && errno == EINTR)
+            ;
+        _exit(NO_SERVER);
+    }
+    if (server < 0)
+        fail(FAILED, "%s: %s", words[0], strerror(errno));
+    close(began[1]);
+    if (read(began[0], &error, sizeof error) == sizeof error)
+        fail(NO_SERVER, "%s: %s", words[0], strerror(error));
+    close(began[0]);
+    for (int i = CAPTURE; i <= TREE; i++)
+        if (outputs[i].kept[0])
+            unlink(outputs[i].kept);
+    return server;
+}
+
+/* Lets the first process end, since the server goes on in the background: with its status, or that of no message. */
+static void hand_back(pid_t first, int ended)
+{
+    struct stat error;
+    int status = status_of(ended);
+    if (!has_messages()) {
+        tell(true, "%s: no message was seen in the %d seconds since the server went into the background", outputs[CAPTURE].path,
+             PATIENCE / 20);
+        status = NOT_WHOLE;
+    }
+    /* Nobody is to wait for the end of a pipe that is held here. Standard error stays where it is a terminal or a file. */
+    close(STDIN_FILENO);
+    close(STDOUT_FILENO);
+    if (!isatty(STDERR_FILENO) && (fstat(STDERR_FILENO, &error) != 0 || !S_ISREG(error.st_mode)))
+        close(STDERR_FILENO);
+    if (chdir("/") == 0 && getppid() == first)
+        sigqueue(first, SIGRTMIN, (union sigval){.sival_int = status});
+}
+
+/* Starts the server and waits for the end of all its processes. Answers the status to end with. */
+static int watch(pid_t first, char **words, const sigset_t *signals, const sigset_t *before)
+{
+    const struct timespec moment = {0, 50000000};
+    int ended = 0, moments = 0;
+    bool handed_back = false;
+    prctl(PR_SET_CHILD_SUBREAPER, 1);
+    prctl(PR_SET_PDEATHSIG, SIGTERM);
+    pid_t server = start(words, before);
+    for (;;) {
+        siginfo_t got;
+        int status;
+        pid_t child;
+        if (sigtimedwait(signals, &got, server > 0 || handed_back ? NULL : &moment) > 0)
+            hand_on(server, &got);
+        while ((child = waitpid(-1, &status, WNOHANG)) > 0) {
+            if (child == server || (server == 0 && !WIFSIGNALED(ended)))
+                ended = status;
+            if (child == server)
+                server = 0;
+        }
+        if (child < 0)
+            return tell_sum(ended);
+        if (server == 0 && !handed_back && (has_messages() || ++moments > PATIENCE)) {
+            hand_back(first, ended);
+            handed_back = true;
+        }
+    }
+}
+
+/* Waits for the watcher, or for its word that the server has gone into the background. Answers the status to end with. */
+static int follow(pid_t watcher, const sigset_t *signals)
+{
+    for (;;) {
+        siginfo_t got;
+        int status, number = sigwaitinfo(signals, &got);
+        if (number == SIGRTMIN && got.si_pid == watcher)
+            return got.si_value.sival_int;
+        if (waitpid(watcher, &status, WNOHANG) == watcher)
+            return WIFEXITED(status) ? WEXITSTATUS(status) : FAILED;
+        if (number > 0)
+            hand_on(watcher, &got);
+    }
 }
 
 int main(int count, char **words)
 {
-    enum { LOWER = 256, REFUSE, KEEP_INIT, KEEP_REFUSED };
+    enum { LOWER = 256, REFUSE, FORCE, KEEP_INIT, KEEP_REFUSED };
     static const struct option options[] = {
         {"output", required_argument, NULL, 'o'},
+        {"force", no_argument, NULL, FORCE},
         {"lower", required_argument, NULL, LOWER},
         {"refuse", required_argument, NULL, REFUSE},
         {"keep-init", no_argument, NULL, KEEP_INIT},
@@ -119,42 +524,44 @@ int main(int count, char **words)
     };
     const char *output = NULL, *lower = NULL;
     uint64_t refused = 0;
+    bool forced = false;
     unsetenv("FUSE_RECORD_KEEP_INIT");
     unsetenv("FUSE_RECORD_KEEP_REFUSED");
     for (int option; (option = getopt_long(count, words, "+o:h", options, NULL)) != -1;) {
         switch (option) {
         case 'o': output = optarg; break;
+        case FORCE: forced = true; break;
         case LOWER: lower = optarg; break;
         case REFUSE: refused |= operations(optarg); break;
         case KEEP_INIT: setenv("FUSE_RECORD_KEEP_INIT", "1", 1); break;
         case KEEP_REFUSED: setenv("FUSE_RECORD_KEEP_REFUSED", "1", 1); break;
         case 'h': fputs(usage, stdout); return 0;
-        default: fputs(usage, stderr); return 2;
+        default: fputs(usage, stderr); return MISUSED;
         }
     }
     if (!output || optind == count) {
         fputs(usage, stderr);
-        return 2;
+        return MISUSED;
     }
 
-    char path[PATH_MAX], other[PATH_MAX + 8], mask[20];
-    int capture = create(output);
-    if (!realpath(output, path) || strlen(path) + sizeof ".tree" > sizeof path)
-        fail(1, "%s: %s", output, strerror(errno ? errno : ENAMETOOLONG));
-    if (write(capture, FUSE_RECORD_MAGIC, sizeof FUSE_RECORD_MAGIC - 1) != sizeof FUSE_RECORD_MAGIC - 1)
-        fail(1, "%s: %s", path, strerror(errno));
-    close(capture);
-    snprintf(other, sizeof other, "%s.log", path);
-    close(create(other));
-    if (lower) {
-        snprintf(other, sizeof other, "%s.tree", path);
-        write_tree(lower, other);
-    }
+    char mask[20];
+    sigset_t signals, before;
+    name_outputs(output);
+    refuse_places(lower, words + optind);
+    refuse_files(forced);
+    signal(SIGCHLD, SIG_DFL);
+    choose_signals(&signals);
+    sigprocmask(SIG_BLOCK, &signals, &before);
+    int capture = make_outputs(lower, &before);
     snprintf(mask, sizeof mask, "%" PRIx64, refused);
-    setenv("FUSE_RECORD", path, 1);
+    setenv("FUSE_RECORD", outputs[CAPTURE].path, 1);
     setenv("FUSE_RECORD_REFUSE", mask, 1);
     load_library();
-    umask(0);
-    execvp(words[optind], words + optind);
-    fail(127, "%s: %s", words[optind], strerror(errno));
+    pid_t first = getpid(), watcher = fork();
+    if (watcher < 0)
+        fail(FAILED, "a process: %s", strerror(errno));
+    if (watcher == 0)
+        return watch(first, words + optind, &signals, &before);
+    close(capture);
+    return follow(watcher, &signals);
 }

@@ -196,17 +196,22 @@ __attribute__((format(printf, 1, 2))) static void fuse_record_note(const char *f
     fuse_record_unlock();
 }
 
-/* Says why the recording has ended, on standard error where that takes a line at once, and in the log. */
-static void fuse_record_tell_end(const char *cause)
+/* Says a line on standard error, where that takes it at once. */
+static void fuse_record_say(const char *line)
+{
+    struct pollfd error = {.fd = STDERR_FILENO, .events = POLLOUT};
+    struct iovec part = {(void *)line, strlen(line)};
+    if (poll(&error, 1, 0) == 1 && error.revents & POLLOUT)
+        fuse_record_write(STDERR_FILENO, &part, 1, -1);
+}
+
+/* Says why the recording has ended with this many messages, on standard error and in the log. */
+static void fuse_record_tell_end(const char *cause, uint32_t messages)
 {
     char line[512];
-    uint32_t messages = fuse_record_setup.progress->messages;
-    struct pollfd error = {.fd = STDERR_FILENO, .events = POLLOUT};
-    int length = snprintf(line, sizeof line, "fuse-record: %.300s: %s: the recording ends with %" PRIu32 " messages\n",
-                          fuse_record_setup.capture.path, cause, messages);
-    struct iovec part = {line, (size_t)length < sizeof line ? (size_t)length : sizeof line};
-    if (length > 0 && poll(&error, 1, 0) == 1 && error.revents & POLLOUT)
-        fuse_record_write(STDERR_FILENO, &part, 1, -1);
+    snprintf(line, sizeof line, "fuse-record: %.300s: %s: the recording ends with %" PRIu32 " messages\n",
+             fuse_record_setup.capture.path, cause, messages);
+    fuse_record_say(line);
     fuse_record_note("%s: the recording ends with %" PRIu32 " messages", cause, messages);
 }
 
@@ -275,7 +280,7 @@ static struct fuse_record_place fuse_record_parts(enum fuse_record_way way, cons
         place.offset = 0;
     fuse_record_unlock();
     if (cause)
-        fuse_record_tell_end(cause);
+        fuse_record_tell_end(cause, place.message);
     return place;
 }
 
@@ -288,10 +293,11 @@ static struct fuse_record_place fuse_record_message(enum fuse_record_way way, co
     if (!joined.iov_base) {
         fuse_record_lock();
         bool ended = fuse_record_setup.progress->ended;
+        uint32_t messages = fuse_record_setup.progress->messages;
         fuse_record_setup.progress->ended = true;
         fuse_record_unlock();
         if (!ended)
-            fuse_record_tell_end(strerror(ENOMEM));
+            fuse_record_tell_end(strerror(ENOMEM), messages);
         return (struct fuse_record_place){0, 0};
     }
     fuse_record_copy(joined.iov_base, length, parts, count, false);

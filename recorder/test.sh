@@ -58,10 +58,10 @@ finish() {
 
 is_mounted() { grep -qs " $mnt " /proc/self/mounts; }
 
-# Starts a server under fuse-record and waits for its mount: record [OPTIONS] -- SERVER WORDS..
+# Starts a server under fuse-record and waits for its mount: record_on [OPTIONS] -- SERVER WORDS..
 # It is to stay in the foreground; its process is the last of servers.
-record() {
-    rm -f "$work"/a.cap* "$work/a.order" "$work/errors"
+record_on() {
+    rm -f "$work/a.order" "$work/errors"
     "$work/recorder/fuse-record" -o "$capture" "$@" 2> "$work/errors" &
     servers+=($!)
     for _ in $(seq 100); do
@@ -72,11 +72,32 @@ record() {
     return 1
 }
 
+# The same without what was recorded before.
+record() {
+    rm -f "$work"/a.cap*
+    record_on "$@"
+}
+
+# Waits for the last server, and keeps its status.
+ended_server() {
+    timeout 20 tail --pid="${servers[-1]}" -f /dev/null || return
+    status=0
+    wait "${servers[-1]}" || status=$?
+    unset 'servers[-1]'
+}
+
 # Takes the mount down and waits for its server.
 stop() {
     timeout 20 umount "$mnt" 2> /dev/null || timeout 20 umount -l "$mnt"
-    timeout 20 tail --pid="${servers[-1]}" -f /dev/null && unset 'servers[-1]'
+    ended_server
 }
+
+# The recording ended with this status, and its line on standard error, the last one there, with these words.
+ends() {
+    [ "$status" -eq "$1" ] || { echo "recorder: status $status" >&2; return 1; }
+    tail -n 1 "$work/errors" | grep -q "^fuse-record: $capture: [0-9]* messages, [0-9]* requests, [0-9]* answers; $2"
+}
+unanswered="[0-9]* requests were never answered, [0-9]* of them of operations that no order names"
 
 # Prints the verdict on the capture and the order that is proposed for it.
 verdict() {
@@ -147,6 +168,7 @@ copying_session() {
 whole_session() {
     check "$1: serves several processes" work_in_mount
     check "$1: is unmounted" stop
+    check "$1: ends well" ends 0 "$unanswered\$"
     check "$1: is legal" is_legal "$1"
 }
 
@@ -249,7 +271,78 @@ copying_session "memory, copied to"
 own killed -- --die-after 200
 ! work_in_mount 2> /dev/null
 stop
+check "killed: is told" ends 125 "[1-9]$unanswered: the server was ended by signal 9 (Killed) with requests unanswered\$"
+check "killed: the request is told" logged "message [0-9]*: [A-Z]* of node .*: never answered" 1
 check "killed: is legal" is_legal "memory, killed"
+
+# A server of which nothing is recorded: one that makes its system calls itself.
+check "the server without the recorder compiles" "${CC:-cc}" "${flags[@]}" -static -o "$work/memory-unseen" "$here/tests/memory.c"
+check "unseen: mounts" record -- "$work/memory-unseen" "$mnt"
+check "unseen: serves" timeout 20 ls "$mnt"
+check "unseen: is unmounted" stop
+check "unseen: is told" ends 125 "$unanswered: no message was seen, and the server ended with status 0\$"
+
+# Servers that go into the background: fuse-record ends when the first message is there, and tells the rest when they end.
+in_background() {
+    rm -f "$work"/a.cap*
+    status=0
+    timeout 20 "$work/recorder/fuse-record" -o "$capture" -- sh -c "'$1' '$mnt' > '$work/seen' 2>&1 &" 2> "$work/errors" || status=$?
+    is_mounted
+}
+told() {
+    for _ in $(seq 100); do
+        ! grep -q "^fuse-record: $capture: .* messages, .*$1" "$work/errors" || return 0
+        sleep 0.05
+    done
+    return 1
+}
+check "background: mounts" in_background "$work/memory"
+check "background: fuse-record ends" [ "$status" -eq 0 ]
+check "background: serves" work_in_mount
+check "background: has told nothing" [ ! -s "$work/errors" ]
+timeout 20 umount "$mnt"
+check "background: is told at the end" told "$unanswered\$"
+check "background: is legal" is_legal "memory, in the background"
+check "background, unseen: mounts" in_background "$work/memory-unseen"
+check "background, unseen: fuse-record ends with its own status" [ "$status" -eq 125 ]
+check "background, unseen: says so" grep -q "no message was seen in the 5 seconds since" "$work/errors"
+timeout 20 umount "$mnt"
+check "background, unseen: is told at the end" told "$unanswered: no message was seen, and the server ended with status 0\$"
+
+# No capture is lost: it is held while it is recorded, and stays whole where the next recording is refused or does not begin.
+own first --
+timeout 20 sh -c "echo text > '$mnt/name'"
+check "held: by the recorder that runs" refuses 1 "a.cap: a recorder that runs holds it" --force -o "$capture" -- "$work/memory" "$mnt"
+check "held: is unmounted" stop
+echo "of the first" > "$capture.tree"
+sums() { (cd "$work" && cksum a.cap*); }
+before="$(sums)"
+is_as_before() { [ "$(sums)" = "$before" ]; }
+check "there: is refused" refuses 1 "a.cap: is there already" -o "$capture" -- "$work/memory" "$mnt"
+check "there: with a server that is not there" refuses 127 "No such file" --force -o "$capture" -- "$work/none"
+check "there: with a folder that is not there" refuses 1 "no tree text of" --force --lower "$work/none" -o "$capture" -- true
+check "there: is whole" is_as_before
+mv "$capture" "$work/b"
+check "there: so is a log alone" refuses 1 "a.cap.log: is there already" -o "$capture" -- "$work/memory" "$mnt"
+mv "$work/b" "$capture"
+check "forced: mounts" record_on --force -- "$work/memory" "$mnt"
+whole_session "memory, forced"
+check "forced: no tree text of the first is left" [ "$(cd "$work" && echo a.cap*)" = "a.cap a.cap.log" ]
+# Nor does it stand where the recording would change it.
+mkdir -p "$mnt/deep" "$lower/deep"
+check "below: the mount" refuses 1 "is below $mnt, which is taken for the mount" -o "$mnt/deep/a.cap" -- "$work/memory" "$mnt"
+check "below: the folder" refuses 1 "is in the folder of --lower" --lower "$lower" -o "$lower/deep/a.cap" -- "$work/memory" "$mnt"
+check "below: nothing is left there" [ -z "$(ls "$mnt/deep" "$lower/deep" | grep cap)" ]
+# An empty recording is no loss.
+check "empty: is told" refuses 125 "no message was seen" --force -o "$capture" -- true
+check "empty: gives way" refuses 125 "no message was seen" -o "$capture" -- true
+
+# A signal that fuse-record gets is the server's.
+own signalled --
+kill -TERM "${servers[-1]}"
+check "signalled: ends" ended_server
+check "signalled: as the server ends" ends 0 "$unanswered\$"
+! is_mounted || timeout 20 umount -l "$mnt"
 
 # A planted bug: a name that is there is denied.
 own denied -- --deny name
@@ -285,7 +378,7 @@ stop
 check "init: the kernel's own" judged "memory with the kernel's INIT" "fault: message 1: code 24: *"
 
 # A full disk, and a limit of the file's size, end the recording and not the server.
-ended() { [ "$(wc -l < "$work/errors")" -eq 1 ] && grep -q "fuse-record: .*$1: the recording ends with [0-9]* messages" "$work/errors"; }
+ended() { [ "$(wc -l < "$work/errors")" -eq 2 ] && grep -q "fuse-record: .*$1: the recording ends with [0-9]* messages" "$work/errors"; }
 mkdir "$work/small"
 check "full: a small disk" mount -t tmpfs -o size=128k none "$work/small"
 capture="$work/small/a.cap"
@@ -298,6 +391,7 @@ umount "$work/small"
 capture="$work/a.cap"
 # The same with standard error to a file, and to a pipe that nobody reads.
 limited() {
+    rm -f "$work"/a.cap*
     ( ulimit -f 100; trap - EXIT; exec "$work/recorder/fuse-record" -o "$capture" -- "$work/memory" "$mnt" 2>&5 ) &
     servers+=($!)
     for _ in $(seq 100); do
