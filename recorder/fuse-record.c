@@ -221,7 +221,7 @@ static int make_outputs(const char *lower, const sigset_t *before)
     return capture;
 }
 
-/* Makes the server load the library, before those that it is to load already. */
+/* Makes the server load the library, behind those that it is to load already: that of a sanitizer has to be the first. */
 static void load_library(void)
 {
     char library[PATH_MAX], all[2 * PATH_MAX];
@@ -231,7 +231,7 @@ static void load_library(void)
         fail(FAILED, "%s: %s", library, strerror(errno));
     if (strpbrk(library, " :"))
         fail(FAILED, "%s: LD_PRELOAD takes no path with a space or a colon", library);
-    if (snprintf(all, sizeof all, "%s%s%s", library, others ? ":" : "", others ? others : "") >= (int)sizeof all)
+    if (snprintf(all, sizeof all, "%s%s%s", others ? others : "", others ? ":" : "", library) >= (int)sizeof all)
         fail(FAILED, "LD_PRELOAD: %s", strerror(ENAMETOOLONG));
     setenv("LD_PRELOAD", all, 1);
 }

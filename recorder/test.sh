@@ -8,6 +8,7 @@ examples=/usr/share/doc/libfuse3-dev/examples
 passed=0
 failed=0
 servers=()
+under=(env) # what fuse-record is started by
 
 skip_all() {
     echo "recorder: skipped: $1"
@@ -62,7 +63,7 @@ is_mounted() { grep -qs " $mnt " /proc/self/mounts; }
 # It is to stay in the foreground; its process is the last of servers.
 record_on() {
     rm -f "$work/a.order" "$work/errors"
-    "$work/recorder/fuse-record" -o "$capture" "$@" 2> "$work/errors" &
+    "${under[@]}" "$work/recorder/fuse-record" -o "$capture" "$@" 2> "$work/errors" &
     servers+=($!)
     for _ in $(seq 100); do
         is_mounted && return 0
@@ -263,6 +264,15 @@ own memory --
 whole_session memory
 check "memory, splicing: mounts" record -- "$work/memory-splicing" "$mnt" && whole_session "memory, splicing"
 check "memory, linked statically: mounts" record -- "$work/memory-static" "$mnt" && whole_session "memory, linked statically"
+
+# A server that a sanitizer watches, whose library the user preloads.
+if "${CC:-cc}" "${flags[@]}" -fsanitize=address -o "$work/memory-watched" "$here/tests/memory.c" 2> "$work/errors"; then
+    under=(env "LD_PRELOAD=$("${CC:-cc}" -print-file-name=libasan.so)")
+    check "memory, with AddressSanitizer: mounts" record -- "$work/memory-watched" "$mnt" && whole_session "memory, with AddressSanitizer"
+    under=(env)
+else
+    echo "recorder: skipped: a server with AddressSanitizer: $(tail -n 1 "$work/errors")"
+fi
 
 own copied --
 copying_session "memory, copied to"
