@@ -53,7 +53,7 @@ static void print_reply(const unsigned char *message, size_t length)
 
 int main(int count, char **words)
 {
-    unsigned char head[FUSE_RECORD_HEAD], message[SHOWN];
+    unsigned char head[FUSE_RECORD_HEAD] = {0}, message[SHOWN];
     char magic[sizeof FUSE_RECORD_MAGIC] = "";
     if (count != 2) {
         fputs("usage: fuse-messages FILE\n", stderr);
@@ -64,11 +64,17 @@ int main(int count, char **words)
         fprintf(stderr, "fuse-messages: %s: no capture\n", words[1]);
         return 1;
     }
-    for (uint32_t number = 0; fread(head, sizeof head, 1, capture) == 1; number++) {
-        uint32_t stated;
+    struct stat found;
+    uint32_t number = 0;
+    off_t left = fstat(fileno(capture), &found) == 0 ? found.st_size - (off_t)(sizeof magic - 1) : 0;
+    for (; left > 0; number++) {
+        uint32_t stated = 0;
+        bool read = fread(head, sizeof head, 1, capture) == 1;
         memcpy(&stated, head + 1, sizeof stated);
         size_t length = le32toh(stated), shown = length < sizeof message ? length : sizeof message;
-        if (fread(message, 1, shown, capture) != shown || fseek(capture, (long)(length - shown), SEEK_CUR) != 0)
+        left -= (off_t)(sizeof head + length);
+        if (!read || left < 0 || fread(message, 1, shown, capture) != shown ||
+            fseek(capture, (long)(length - shown), SEEK_CUR) != 0)
             break;
         printf("%" PRIu32 " ", number);
         if (head[0] == FUSE_RECORD_READ)
@@ -77,5 +83,8 @@ int main(int count, char **words)
             print_reply(message, length);
         putchar('\n');
     }
-    return fclose(stdout) == 0 ? 0 : 1;
+    bool printed = fclose(stdout) == 0, is_whole = left == 0;
+    if (!is_whole)
+        fprintf(stderr, "fuse-messages: %s: cut off behind %" PRIu32 " whole messages\n", words[1], number);
+    return printed && is_whole ? 0 : 1;
 }

@@ -49,6 +49,8 @@ enum fuse_record_way { FUSE_RECORD_READ, FUSE_RECORD_WRITE };
 /* The longest path of a capture, with its zero byte, and the most parts of a message that are written without a copy. */
 #define FUSE_RECORD_PATH 4096
 #define FUSE_RECORD_PARTS 16
+/* How many requests are kept to tell which one an answer was for that the kernel refused. */
+#define FUSE_RECORD_ASKED 4096u
 
 /* Protocol 7.31, and its flags of INIT without the two that this profile refuses. */
 #define FUSE_RECORD_MINOR 31u
@@ -87,7 +89,13 @@ struct fuse_record_file {
     ino_t inode;
 };
 
-/* How far the recording is, in memory that a process shares with those that fork from it. */
+/* A request that was recorded, and how many answers to it. */
+struct fuse_record_asked {
+    uint64_t unique, node;
+    uint32_t operation, answers;
+};
+
+/* How far the recording is, in memory that a process shares with those that fork from it. All of it is used under the lock. */
 struct fuse_record_progress {
     pthread_mutex_t lock;
     uint64_t length;   /* of the capture up to its last whole record */
@@ -95,6 +103,7 @@ struct fuse_record_progress {
     bool ended;        /* nothing is recorded any more */
     uint64_t init;     /* the unique of the INIT that waits for its answer */
     uint32_t minor;    /* of the kernel, as its INIT said */
+    struct fuse_record_asked asked[FUSE_RECORD_ASKED]; /* the latest requests, each at a place by its unique */
 };
 
 /* What fuse-record handed over, by the environment. */
@@ -258,6 +267,28 @@ static const char *fuse_record_add(const struct iovec *record, int count, size_t
     return ftruncate(capture, (off_t)progress->length) < 0 ? strerror(errno) : cause;
 }
 
+/* Where a request with this unique is kept. An INTERRUPT has that of the request it is to interrupt, but for its last bit. */
+static struct fuse_record_asked *fuse_record_asked(uint64_t unique)
+{
+    return &fuse_record_setup.progress->asked[(unique >> 1) % FUSE_RECORD_ASKED];
+}
+
+/* Keeps a request that was recorded, or that one was answered. The lock is held. */
+static void fuse_record_follow(enum fuse_record_way way, const struct iovec *parts, int count, size_t length)
+{
+    struct fuse_in_header request;
+    struct fuse_out_header answer;
+    if (way == FUSE_RECORD_READ && length >= sizeof request) {
+        fuse_record_copy(&request, sizeof request, parts, count, false);
+        if (request.opcode != FUSE_INTERRUPT)
+            *fuse_record_asked(request.unique) = (struct fuse_record_asked){request.unique, request.nodeid, request.opcode, 0};
+    } else if (way == FUSE_RECORD_WRITE && length >= sizeof answer) {
+        fuse_record_copy(&answer, sizeof answer, parts, count, false);
+        if (fuse_record_asked(answer.unique)->unique == answer.unique)
+            fuse_record_asked(answer.unique)->answers++;
+    }
+}
+
 /* Records the first bytes of the parts as one message, and answers where. */
 static struct fuse_record_place fuse_record_parts(enum fuse_record_way way, const struct iovec *parts, int count, size_t length)
 {
@@ -278,6 +309,8 @@ static struct fuse_record_place fuse_record_parts(enum fuse_record_way way, cons
     progress->ended |= cause != NULL;
     if (progress->ended)
         place.offset = 0;
+    else
+        fuse_record_follow(way, parts, count, length);
     fuse_record_unlock();
     if (cause)
         fuse_record_tell_end(cause, place.message);
@@ -317,8 +350,10 @@ static size_t fuse_record_show_init(const struct iovec *parts, int count, size_t
     if (length < sizeof init)
         return length;
     fuse_record_copy(&init, sizeof init, parts, count, false);
+    fuse_record_lock();
     progress->init = init.header.unique;
     progress->minor = init.minor;
+    fuse_record_unlock();
     if (fuse_record_setup.keeps_init || init.major != FUSE_KERNEL_VERSION || init.minor < FUSE_RECORD_MINOR)
         return length;
     uint32_t minor = init.minor, flags = init.flags;
@@ -338,12 +373,24 @@ struct fuse_record_init {
     unsigned char more[48];
 };
 
-/* Makes the answer of INIT one of 7.31 before the kernel sees it. */
-static void fuse_record_cut_init(struct fuse_record_init *answer)
+/* Whether a message with this unique answers the INIT that waits for it, and then the minor of the kernel. It waits no longer. */
+static bool fuse_record_answers_init(uint64_t unique, uint32_t *minor)
 {
     struct fuse_record_progress *progress = fuse_record_setup.progress;
+    fuse_record_lock();
+    bool answers = unique != 0 && unique == progress->init;
+    *minor = progress->minor;
+    if (answers)
+        progress->init = 0;
+    fuse_record_unlock();
+    return answers;
+}
+
+/* Makes the answer of INIT one of 7.31 before the kernel, which told its minor, sees it. */
+static void fuse_record_cut_init(struct fuse_record_init *answer, uint32_t told)
+{
     bool speaks = answer->header.error == 0 && answer->major == FUSE_KERNEL_VERSION && answer->minor >= FUSE_RECORD_LEAST_MINOR;
-    if (fuse_record_setup.keeps_init || !speaks || progress->minor < FUSE_RECORD_MINOR)
+    if (fuse_record_setup.keeps_init || !speaks || told < FUSE_RECORD_MINOR)
         return;
     uint32_t minor = answer->minor, flags = answer->flags;
     answer->minor = FUSE_RECORD_MINOR;
@@ -367,6 +414,27 @@ static bool fuse_record_was_taken(const struct fuse_out_header *header, size_t l
     return reply && header->unique != 0 && !of_interrupt && error != ENOENT && error != EPERM && error != ENODEV && error != EBADF;
 }
 
+/* What it usually means that the kernel refused a message: the answer to a request that is kept, or NULL. */
+static const char *fuse_record_meaning(const struct fuse_out_header *header, size_t length, int error,
+                                       const struct fuse_record_asked *asked)
+{
+    if (header->len != length)
+        return "its header tells another length";
+    if (header->unique == 0)
+        return error == ENOENT ? "the kernel knows nothing of what it names" : "the kernel does not take it";
+    if (header->error > 0 || header->error <= -512)
+        return "its error is no negative error number";
+    if (error != ENOENT)
+        return error == EPERM || error == ENODEV ? "the mount is gone" : "the kernel does not say why";
+    if (header->unique & 1)
+        return "it came too late: the request that was to be interrupted has its answer";
+    if (!asked)
+        return "no request of late had this unique";
+    if (asked->operation == FUSE_FORGET || asked->operation == FUSE_BATCH_FORGET)
+        return "this operation is to have no answer";
+    return asked->answers > 0 ? "it was answered before" : "the kernel had given the request up, as it does when it unmounts";
+}
+
 /*
  * Takes a message out of the capture that the kernel did not take. Others may stand behind it already, so a notification that
  * says nothing to this profile is put in its place, of the same length: the invalidation of an inode.
@@ -375,12 +443,23 @@ static void fuse_record_strike(struct fuse_record_place place, const struct fuse
 {
     struct fuse_out_header nothing = {.len = (uint32_t)length, .error = FUSE_NOTIFY_INVAL_INODE, .unique = 0};
     struct iovec part = {&nothing, sizeof nothing};
+    char what[80] = "an answer";
     fuse_record_lock();
     int capture = fuse_record_descriptor(&fuse_record_setup.capture);
     bool struck = fuse_record_write(capture, &part, 1, (int64_t)(place.offset + FUSE_RECORD_HEAD)) == sizeof nothing;
+    struct fuse_record_asked *kept = fuse_record_asked(header->unique), asked = *kept;
+    bool known = header->unique != 0 && asked.unique == (header->unique & ~UINT64_C(1));
+    if (known && asked.unique == header->unique && kept->answers > 0)
+        asked.answers = --kept->answers;
     fuse_record_unlock();
-    fuse_record_note("message %" PRIu32 ": the kernel refused it (%s): error %" PRId32 ", unique %" PRIu64 ", %zu bytes: %s",
-                     place.message, strerror(error), header->error, header->unique, length,
+    if (header->unique == 0)
+        snprintf(what, sizeof what, "a notification");
+    else if (known)
+        snprintf(what, sizeof what, "an answer to %s%s of node %" PRIu64, header->unique & 1 ? "INTERRUPT of " : "",
+                 fuse_record_name(asked.operation), asked.node);
+    fuse_record_note("message %" PRIu32 ": the kernel refused it (%s): %s, error %" PRId32 ", unique %" PRIu64 ", %zu bytes: %s; %s",
+                     place.message, strerror(error), what, header->error, header->unique, length,
+                     fuse_record_meaning(header, length, error, known ? &asked : NULL),
                      struck ? "it stands as a notification" : "it stands as it was written");
 }
 
@@ -395,21 +474,20 @@ static size_t fuse_record_total(const struct iovec *parts, int count)
 /* Records a message from the server, and writes it. A thread is cancelled before both or not at all. */
 static ssize_t fuse_record_send(int device, const struct iovec *parts, int count)
 {
-    struct fuse_record_progress *progress = fuse_record_setup.progress;
     struct fuse_record_init init;
     struct iovec cut = {&init, 0};
     struct fuse_out_header header = {0};
     struct fuse_record_place place = {0};
     size_t length = fuse_record_total(parts, count);
+    uint32_t minor;
     int cancels;
     pthread_testcancel();
     pthread_setcancelstate(PTHREAD_CANCEL_DISABLE, &cancels);
     fuse_record_copy(&header, sizeof header, parts, count, false);
-    if (header.unique != 0 && header.unique == progress->init && length <= sizeof init) {
-        progress->init = 0;
+    if (fuse_record_answers_init(header.unique, &minor) && length <= sizeof init) {
         memset(&init, 0, sizeof init);
         fuse_record_copy(&init, length, parts, count, false);
-        fuse_record_cut_init(&init);
+        fuse_record_cut_init(&init, minor);
         cut.iov_len = length;
         parts = &cut;
         count = 1;

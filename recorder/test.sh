@@ -1,14 +1,19 @@
 #!/usr/bin/env bash
-# Records sessions of real mounts and has the built program judge them: recorder/test.sh [PROGRAM].
+# Records sessions of real mounts and has the built program judge them: recorder/test.sh [--threads] [PROGRAM].
+# With --threads the recorder and what it records are built and run with ThreadSanitizer, which is to find nothing.
 # What cannot be tried on this machine is told as skipped, with its reason.
 set -uo pipefail
 here="$(cd "$(dirname "$0")" && pwd)"
+sanitizer=()
+if [ "${1:-}" = --threads ]; then
+    sanitizer=(-g -fsanitize=thread)
+    shift
+fi
 program="$(realpath "${1:-$here/../crates/fa_audit/out/fa_audit}")"
 examples=/usr/share/doc/libfuse3-dev/examples
 passed=0
 failed=0
 servers=()
-under=(env) # what fuse-record is started by
 
 skip_all() {
     echo "recorder: skipped: $1"
@@ -23,6 +28,9 @@ work="$(mktemp -d)"
 lower="$work/lower"
 mnt="$work/mnt"
 capture="$work/a.cap"
+# What fuse-record is started by.
+under=(env)
+[ ${#sanitizer[@]} -eq 0 ] || under=(env "LD_PRELOAD=$("${CC:-cc}" -print-file-name=libtsan.so)" "TSAN_OPTIONS=log_path=$work/races")
 
 # Takes down what was mounted, by its own path, and ends the servers.
 clean_up() {
@@ -53,9 +61,12 @@ check() {
 }
 
 finish() {
+    [ ${#sanitizer[@]} -eq 0 ] || check "no races are found" no_races
     echo "$passed passed, $failed failed"
     exit $((failed > 0))
 }
+
+no_races() { ! cat "$work"/races.* 2> /dev/null; }
 
 is_mounted() { grep -qs " $mnt " /proc/self/mounts; }
 
@@ -197,16 +208,17 @@ own() {
 }
 
 # Compiles a server of libfuse's package.
-compile_example() { "${CC:-cc}" -O2 -w -I/usr/include/fuse3 -I"$examples" -o "$@" -lfuse3 -pthread; }
+compile_example() { "${CC:-cc}" -O2 -w "${sanitizer[@]}" -I/usr/include/fuse3 -I"$examples" -o "$@" -lfuse3 -pthread; }
 
 cp -r "$here" "$work/recorder"
-flags=(-std=c11 -Wall -Wextra -Werror -O2)
+plain=(-std=c11 -Wall -Wextra -Werror -O2)
+flags=("${plain[@]}" "${sanitizer[@]}")
 mkdir "$mnt"
-check "the recorder compiles" make -s -B -C "$work/recorder" CFLAGS="-O2 -Werror" &&
+check "the recorder compiles" make -s -B -C "$work/recorder" CFLAGS="-O2 -Werror ${sanitizer[*]}" &&
     check "the server compiles" "${CC:-cc}" "${flags[@]}" -o "$work/memory" "$here/tests/memory.c" &&
     check "the server that splices compiles" "${CC:-cc}" "${flags[@]}" -DWITH_SPLICE -o "$work/memory-splicing" "$here/tests/memory.c" &&
     check "the server with the header compiles" \
-        "${CC:-cc}" "${flags[@]}" -static -pthread -DWITH_HEADER -o "$work/memory-static" "$here/tests/memory.c" ||
+        "${CC:-cc}" "${plain[@]}" -static -pthread -DWITH_HEADER -o "$work/memory-static" "$here/tests/memory.c" ||
     finish
 # Where not even a mount without the recorder is allowed, there is nothing to try.
 "$work/memory" "$mnt" 2> "$work/errors" &
@@ -266,7 +278,9 @@ check "memory, splicing: mounts" record -- "$work/memory-splicing" "$mnt" && who
 check "memory, linked statically: mounts" record -- "$work/memory-static" "$mnt" && whole_session "memory, linked statically"
 
 # A server that a sanitizer watches, whose library the user preloads.
-if "${CC:-cc}" "${flags[@]}" -fsanitize=address -o "$work/memory-watched" "$here/tests/memory.c" 2> "$work/errors"; then
+if [ ${#sanitizer[@]} -gt 0 ]; then
+    echo "recorder: skipped: a server with AddressSanitizer, which is not for use beside another"
+elif "${CC:-cc}" "${flags[@]}" -fsanitize=address -o "$work/memory-watched" "$here/tests/memory.c" 2> "$work/errors"; then
     under=(env "LD_PRELOAD=$("${CC:-cc}" -print-file-name=libasan.so)")
     check "memory, with AddressSanitizer: mounts" record -- "$work/memory-watched" "$mnt" && whole_session "memory, with AddressSanitizer"
     under=(env)
@@ -286,7 +300,7 @@ check "killed: the request is told" logged "message [0-9]*: [A-Z]* of node .*: n
 check "killed: is legal" is_legal "memory, killed"
 
 # A server of which nothing is recorded: one that makes its system calls itself.
-check "the server without the recorder compiles" "${CC:-cc}" "${flags[@]}" -static -o "$work/memory-unseen" "$here/tests/memory.c"
+check "the server without the recorder compiles" "${CC:-cc}" "${plain[@]}" -static -o "$work/memory-unseen" "$here/tests/memory.c"
 check "unseen: mounts" record -- "$work/memory-unseen" "$mnt"
 check "unseen: serves" timeout 20 ls "$mnt"
 check "unseen: is unmounted" stop
@@ -296,7 +310,7 @@ check "unseen: is told" ends 125 "$unanswered: no message was seen, and the serv
 in_background() {
     rm -f "$work"/a.cap*
     status=0
-    timeout 20 "$work/recorder/fuse-record" -o "$capture" -- sh -c "'$1' '$mnt' > '$work/seen' 2>&1 &" 2> "$work/errors" || status=$?
+    timeout 20 "${under[@]}" "$work/recorder/fuse-record" -o "$capture" -- sh -c "'$1' '$mnt' > '$work/seen' 2>&1 &" 2> "$work/errors" || status=$?
     is_mounted
 }
 told() {
@@ -347,6 +361,20 @@ check "below: nothing is left there" [ -z "$(ls "$mnt/deep" "$lower/deep" | grep
 check "empty: is told" refuses 125 "no message was seen" --force -o "$capture" -- true
 check "empty: gives way" refuses 125 "no message was seen" -o "$capture" -- true
 
+# What is left of a capture that was cut is printed, and that it was cut.
+cut_at() {
+    head -c "$1" "$capture" > "$work/b"
+    ! "$work/recorder/fuse-messages" "$work/b" > "$work/seen" 2> "$work/errors" &&
+        grep -q ": cut off behind $2 whole messages" "$work/errors" && [ "$(wc -l < "$work/seen")" -eq "$2" ]
+}
+own messages --
+timeout 20 ls "$mnt" > "$work/seen"
+stop
+count="$("$work/recorder/fuse-messages" "$capture" | wc -l)"
+check "messages: a whole capture" "$work/recorder/fuse-messages" "$capture" > "$work/seen"
+check "messages: a byte less" cut_at -1 "$((count - 1))"
+check "messages: in the first length" cut_at 11 0
+
 # A signal that fuse-record gets is the server's.
 own signalled --
 kill -TERM "${servers[-1]}"
@@ -367,8 +395,13 @@ check "denied: is not shown at that LOOKUP" judged "memory with a denied name" "
 own twice -- --answer-twice name
 timeout 20 ls "$mnt/name" 2> /dev/null
 stop
-check "twice: the second answer is told" logged "the kernel refused it (No such file or directory)"
+check "twice: the second answer is told" logged "refused it (No such file or directory): an answer to LOOKUP of node 1, .*: it was answered before; it"
 check "twice: and no part of the capture" judged "memory that answers twice" "legal: 1* messages, *"
+own forgetful -- --answer-forget
+timeout 20 sh -c "echo text > '$mnt/name'; rm '$mnt/name'"
+stop
+check "forgetful: the answer is told" logged "refused it (No such file or directory): an answer to FORGET of node .*: this operation is to have no"
+check "forgetful: and no part of the capture" judged "memory that answers FORGET" "legal: [1-9]* messages, *"
 own kept --keep-refused -- --answer-twice name
 timeout 20 ls "$mnt/name" 2> /dev/null
 stop
@@ -402,7 +435,7 @@ capture="$work/a.cap"
 # The same with standard error to a file, and to a pipe that nobody reads.
 limited() {
     rm -f "$work"/a.cap*
-    ( ulimit -f 100; trap - EXIT; exec "$work/recorder/fuse-record" -o "$capture" -- "$work/memory" "$mnt" 2>&5 ) &
+    ( ulimit -f 100; trap - EXIT; exec "${under[@]}" "$work/recorder/fuse-record" -o "$capture" -- "$work/memory" "$mnt" 2>&5 ) &
     servers+=($!)
     for _ in $(seq 100); do
         is_mounted && return 0

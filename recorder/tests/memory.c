@@ -9,6 +9,7 @@
  *   --deny NAME           a bug: a LOOKUP that would find NAME does so once, and from then on says ENOENT
  *   --answer-twice NAME   a bug: the answer to a LOOKUP of NAME is written twice
  *   --answer-short NAME   a bug: the success of a LOOKUP of NAME lacks its last bytes
+ *   --answer-forget       a bug: FORGET and BATCH_FORGET are answered
  *   --die-after N         ends by SIGKILL when the N-th request was read, before it is answered
  *
  * It serves until it is unmounted, or SIGTERM or SIGINT comes, and then ends with status 0.
@@ -118,6 +119,7 @@ static struct {
     const char *denied;
     const char *answered_twice;
     const char *answered_short;
+    bool answers_forget;
     uint64_t deadly; /* the request to die at, 0 for none */
 } options;
 
@@ -462,7 +464,7 @@ static void forget(struct file *file, uint64_t lookups)
 static int do_forget(struct request *request)
 {
     forget(request->file, request->asked.forget.nlookup);
-    return NO_ANSWER;
+    return options.answers_forget ? 0 : NO_ANSWER;
 }
 
 static int do_batch_forget(struct request *request)
@@ -475,7 +477,7 @@ static int do_batch_forget(struct request *request)
         memcpy(&item, request->rest + place * sizeof item, sizeof item);
         forget(file_of(item.nodeid), item.nlookup);
     }
-    return NO_ANSWER;
+    return options.answers_forget ? 0 : NO_ANSWER;
 }
 
 static int do_getattr(struct request *request)
@@ -949,7 +951,8 @@ static void mount_device(void)
 
 static _Noreturn void refuse_words(void)
 {
-    fputs("usage: memory [--timeout SECONDS] [--deny NAME] [--answer-twice NAME] [--answer-short NAME] [--die-after N] MOUNTPOINT\n", stderr);
+    fputs("usage: memory [--timeout SECONDS] [--deny NAME] [--answer-twice NAME] [--answer-short NAME] [--answer-forget] "
+          "[--die-after N] MOUNTPOINT\n", stderr);
     exit(EXIT_FAILURE);
 }
 
@@ -969,6 +972,7 @@ static void read_words(int count, char **words)
         { "deny", required_argument, NULL, 'd' },
         { "answer-twice", required_argument, NULL, 'a' },
         { "answer-short", required_argument, NULL, 's' },
+        { "answer-forget", no_argument, NULL, 'f' },
         { "die-after", required_argument, NULL, 'k' },
         { 0 },
     };
@@ -982,6 +986,8 @@ static void read_words(int count, char **words)
             options.answered_twice = optarg;
         else if (option == 's')
             options.answered_short = optarg;
+        else if (option == 'f')
+            options.answers_forget = true;
         else if (option == 'k')
             options.deadly = number_of(optarg);
         else
