@@ -202,6 +202,11 @@ check "a file of 16777216 bytes" printed
 truncate -s 16777217 large/f
 run large
 check "a file of 16777217 bytes" refused 1 "fuse-tree: large/f: more than 16777216 bytes"
+check "nothing is printed of it" [ ! -s found ]
+mkdir -m 755 large/a
+echo before > large/a/a
+run large
+check "nor of what stands before it" [ ! -s found ]
 
 # What cannot be read. No file is closed to root.
 run missing
@@ -225,6 +230,10 @@ for name in root deep; do
     ./fuse-tree "$name" > /dev/full 2> errors || status=$?
     check "output of $name that fails" refused 1 "fuse-tree: standard output: No space left on device"
 done
+
+# A call for help.
+run --help
+check "help" [ "$status $(head -n 1 found)" = "0 usage: fuse-tree DIR" ]
 
 # Another number of words than one.
 run

@@ -19,6 +19,9 @@
 #define MOST_FILE_BYTES 16777216
 #define MOST_OPEN_FILES 4096
 
+static const char usage[] = "usage: fuse-tree DIR\n";
+static const char too_long[] = "more than 16777216 bytes";
+
 /* A file that has several names, and the path below the root at which it was met first. */
 struct first_name {
     dev_t device;
@@ -104,7 +107,7 @@ static void write_content(struct walk *walk, int directory, const char *path)
     while ((count = checked(path, read(file, walk->bytes, sizeof walk->bytes))) > 0) {
         total += count;
         if (total > MOST_FILE_BYTES) {
-            refuse(path, "more than 16777216 bytes");
+            refuse(path, too_long);
         }
         write_hex(walk->bytes, count);
     }
@@ -240,6 +243,25 @@ static DIR *open_directory(int above, const char *name, const char *path, int fl
     return directory;
 }
 
+/* Refuses a file above the limit in a directory or below it. Closes it. */
+static void check_sizes(DIR *directory, const char *path)
+{
+    struct stat status;
+    char **paths = read_paths(directory, path);
+    for (char **below = paths; *below != NULL; below++) {
+        checked(*below, fstatat(dirfd(directory), name_of(*below), &status, AT_SYMLINK_NOFOLLOW));
+        if (S_ISREG(status.st_mode) && status.st_size > MOST_FILE_BYTES) {
+            refuse(*below, too_long);
+        }
+        if (S_ISDIR(status.st_mode)) {
+            check_sizes(open_directory(dirfd(directory), name_of(*below), *below, O_NOFOLLOW), *below);
+        }
+        free(*below);
+    }
+    free(paths);
+    closedir(directory);
+}
+
 /* Writes a line for each name in a directory, and behind that of a directory those of what is in it. Closes it. */
 static void write_names(struct walk *walk, DIR *directory, const char *path)
 {
@@ -254,10 +276,11 @@ static void write_names(struct walk *walk, DIR *directory, const char *path)
     closedir(directory);
 }
 
-/* Writes the tree text of a folder. */
+/* Writes the tree text of a folder, where it has no file above the limit. */
 static void write_tree(struct walk *walk, const char *folder)
 {
     struct stat status;
+    check_sizes(open_directory(AT_FDCWD, folder, folder, 0), folder);
     DIR *root = open_directory(AT_FDCWD, folder, folder, 0);
     checked(folder, fstat(dirfd(root), &status));
     walk->root_length = strlen(folder) + (folder[strlen(folder) - 1] != '/');
@@ -282,8 +305,13 @@ static void limit_open_files(void)
 int main(int count, char **words)
 {
     struct walk walk = {0};
+    if (count == 2 && strcmp(words[1], "--help") == 0) {
+        fputs(usage, stdout);
+        puts("Prints the tree text of a folder, or of a mount. Files may have 16777216 bytes.");
+        return 0;
+    }
     if (count != 2) {
-        fputs("usage: fuse-tree DIR\n", stderr);
+        fputs(usage, stderr);
         return 2;
     }
     limit_open_files();

@@ -207,8 +207,20 @@ own() {
     check "$name: mounts" record "${options[@]}" -- "$work/memory" "$@" "$mnt" || finish
 }
 
-# Compiles a server of libfuse's package.
-compile_example() { "${CC:-cc}" -O2 -w "${sanitizer[@]}" -I/usr/include/fuse3 -I"$examples" -o "$@" -lfuse3 -pthread; }
+# A session of a server on the folder lower, with one command in the mount: left_out NAME COMMAND SERVER WORDS..
+# An operation succeeds in it that is left out, and that is a fault where it is not refused.
+left_out() {
+    local name="$1" command="$2"
+    shift 2
+    fill_lower
+    check "$name: mounts" record --lower "$lower" -- "$@" || return
+    (cd "$mnt" && timeout 20 sh -c "$command") > "$work/seen" 2>&1
+    check "$name: is unmounted" stop
+    check "$name: is a fault" judged "$name" "fault: message *: code 32: *"
+}
+
+# Compiles a server of libfuse's package, with all that it can do.
+compile_example() { "${CC:-cc}" -O2 -w -DHAVE_POSIX_FALLOCATE -DHAVE_COPY_FILE_RANGE "${sanitizer[@]}" -I/usr/include/fuse3 -I"$examples" -o "$@" -lfuse3 -pthread; }
 
 cp -r "$here" "$work/recorder"
 plain=(-std=c11 -Wall -Wextra -Werror -O2)
@@ -253,6 +265,8 @@ if [ -e "$examples/passthrough_ll.c" ]; then
     check "passthrough_ll compiles" compile_example "$work/passthrough_ll" "$examples/passthrough_ll.c"
     session passthrough_ll "$work/passthrough_ll" -f -o "source=$lower" "$mnt"
     check "passthrough_ll: an operation is refused" logged "FALLOCATE.*answered ENOSYS in the server's place"
+    left_out "passthrough_ll, FALLOCATE" "fallocate -l 100 room" "$work/passthrough_ll" -f -o "source=$lower" "$mnt"
+    left_out "passthrough_ll, COPY_FILE_RANGE" "cp second third" "$work/passthrough_ll" -f -o "source=$lower" "$mnt"
     # The same with a descriptor for each thread, and with answers that are spliced.
     sed '/if(conn->capable & FUSE_CAP_EXPORT_SUPPORT)/i conn->want |= conn->capable & FUSE_CAP_SPLICE_WRITE;' \
         "$examples/passthrough_ll.c" > "$work/splicing.c"
@@ -267,8 +281,45 @@ if command -v bindfs > /dev/null; then
     fill_lower
     check "bindfs, copied to: mounts" record --lower "$lower" -- bindfs -f -o hard_remove,attr_timeout=0,entry_timeout=0 "$lower" "$mnt" &&
         copying_session "bindfs, copied to"
+    if command -v lsattr > /dev/null; then
+        left_out "bindfs, IOCTL" "lsattr second" bindfs -f -o hard_remove "$lower" "$mnt"
+    else
+        echo "recorder: skipped: bindfs, IOCTL: lsattr is not installed"
+    fi
 else
     echo "recorder: skipped: bindfs is not installed"
+fi
+
+# A server with an image: its tree text is that of a mount before.
+image_tree() {
+    truncate -s 16M "$work/image"
+    mkfs.ext4 -q "$work/image" || return
+    for round in make look; do
+        fuse2fs -f -o fakeroot "$work/image" "$mnt" > "$work/seen" 2>&1 &
+        servers+=($!)
+        for _ in $(seq 100); do
+            is_mounted && break
+            sleep 0.05
+        done
+        if [ "$round" = make ]; then
+            timeout 20 sh -c "mkdir -m 700 '$mnt/folder' && echo kept > '$mnt/folder/kept'"
+        else
+            timeout 20 "$work/recorder/fuse-tree" "$mnt" > "$work/image.tree"
+        fi || return
+        stop || return
+    done
+    grep -q "^f 644 folder/kept 6b6570740a$" "$work/image.tree"
+}
+if command -v fuse2fs > /dev/null && command -v mkfs.ext4 > /dev/null; then
+    check "image: the tree text of a mount" image_tree
+    check "image: mounts" record --refuse FALLOCATE -- fuse2fs -f -o fakeroot "$work/image" "$mnt"
+    check "image: serves what was there" [ "$(cat "$mnt/folder/kept")" = kept ]
+    timeout 20 sh -c "cd '$mnt' && echo more >> folder/kept && mv folder other && mkdir folder && cat other/kept" > "$work/seen"
+    check "image: is unmounted" stop
+    cp "$work/image.tree" "$capture.tree"
+    check "image: is legal" judged "fuse2fs with the tree of a mount before" "legal: [1-9]* messages, *"
+else
+    echo "recorder: skipped: a server with an image: fuse2fs is not installed"
 fi
 
 # The tests' own server: by read and writev, by splice both ways, and with the header.
