@@ -9,6 +9,7 @@
 #include <errno.h>
 #include <fcntl.h>
 #include <search.h>
+#include <stdbool.h>
 #include <stdio.h>
 #include <stdlib.h>
 #include <string.h>
@@ -37,7 +38,7 @@ struct walk {
 };
 
 /* Says on standard error what was refused and why, and ends the program. */
-static _Noreturn void refuse(const char *path, const char *cause)
+__attribute__((noreturn)) static void refuse(const char *path, const char *cause)
 {
     fprintf(stderr, "fuse-tree: %s: %s\n", path, cause);
     exit(1);
@@ -46,9 +47,8 @@ static _Noreturn void refuse(const char *path, const char *cause)
 /* Gives what a system call returned. Where it failed, refuses the path. */
 static ssize_t checked(const char *path, ssize_t result)
 {
-    if (result < 0) {
+    if (result < 0)
         refuse(path, strerror(errno));
-    }
     return result;
 }
 
@@ -56,9 +56,8 @@ static ssize_t checked(const char *path, ssize_t result)
 static void *resize(const char *path, void *block, size_t size)
 {
     block = realloc(block, size);
-    if (block == NULL) {
+    if (!block)
         refuse(path, strerror(ENOMEM));
-    }
     return block;
 }
 
@@ -66,9 +65,8 @@ static void *resize(const char *path, void *block, size_t size)
 static void end_line(void)
 {
     putchar('\n');
-    if (ferror(stdout)) {
+    if (ferror(stdout))
         refuse("standard output", strerror(errno));
-    }
 }
 
 /* Writes a path below the root, each byte of its names as itself or percent-encoded. */
@@ -76,11 +74,10 @@ static void write_path(const char *path)
 {
     for (; *path != '\0'; path++) {
         unsigned char byte = (unsigned char)*path;
-        if (byte >= 0x21 && byte <= 0x7E && byte != '%') {
+        if (byte >= 0x21 && byte <= 0x7E && byte != '%')
             putchar(byte);
-        } else {
+        else
             printf("%%%02X", byte);
-        }
     }
 }
 
@@ -106,14 +103,12 @@ static void write_content(struct walk *walk, int directory, const char *path)
     size_t count, total = 0;
     while ((count = checked(path, read(file, walk->bytes, sizeof walk->bytes))) > 0) {
         total += count;
-        if (total > MOST_FILE_BYTES) {
+        if (total > MOST_FILE_BYTES)
             refuse(path, too_long);
-        }
         write_hex(walk->bytes, count);
     }
-    if (total == 0) {
+    if (total == 0)
         putchar('-');
-    }
     close(file);
 }
 
@@ -127,9 +122,8 @@ static void write_target(struct walk *walk, int directory, const char *path)
 static int compare_files(const void *left, const void *right)
 {
     const struct first_name *one = left, *other = right;
-    if (one->device != other->device) {
+    if (one->device != other->device)
         return one->device < other->device ? -1 : 1;
-    }
     return (one->inode > other->inode) - (one->inode < other->inode);
 }
 
@@ -142,12 +136,10 @@ static const char *earlier_path(struct walk *walk, const char *path, const struc
     name->inode = status->st_ino;
     strcpy(name->path, below);
     struct first_name **kept = tsearch(name, &walk->first_names, compare_files);
-    if (kept == NULL) {
+    if (!kept)
         refuse(path, strerror(ENOMEM));
-    }
-    if (*kept == name) {
+    if (*kept == name)
         return NULL;
-    }
     free(name);
     return (*kept)->path;
 }
@@ -166,19 +158,18 @@ static char letter_of(mode_t mode)
 }
 
 /* Writes the line of a file in a directory, and tells whether it is a directory itself. */
-static int write_line(struct walk *walk, int directory, const char *path)
+static bool write_line(struct walk *walk, int directory, const char *path)
 {
     struct stat status;
     checked(path, fstatat(directory, name_of(path), &status, AT_SYMLINK_NOFOLLOW));
-    int is_directory = S_ISDIR(status.st_mode);
+    bool is_directory = S_ISDIR(status.st_mode);
     const char *earlier = status.st_nlink > 1 && !is_directory ? earlier_path(walk, path, &status) : NULL;
-    if (earlier != NULL) {
+    if (earlier)
         fputs("h ", stdout);
-    } else {
+    else
         printf("%c %03o ", letter_of(status.st_mode), (unsigned)status.st_mode & 0777);
-    }
     write_path(path + walk->root_length);
-    if (earlier != NULL) {
+    if (earlier) {
         putchar(' ');
         write_path(earlier);
     } else if (S_ISREG(status.st_mode)) {
@@ -197,9 +188,8 @@ static char *path_in(const char *directory, const char *name)
 {
     char *path;
     const char *slash = directory[strlen(directory) - 1] == '/' ? "" : "/";
-    if (asprintf(&path, "%s%s%s", directory, slash, name) < 0) {
+    if (asprintf(&path, "%s%s%s", directory, slash, name) < 0)
         refuse(directory, strerror(ENOMEM));
-    }
     return path;
 }
 
@@ -215,18 +205,16 @@ static char **read_paths(DIR *directory, const char *path)
     char **paths = resize(path, NULL, room * sizeof *paths);
     const struct dirent *entry;
     while (errno = 0, (entry = readdir(directory)) != NULL) {
-        if (strcmp(entry->d_name, ".") == 0 || strcmp(entry->d_name, "..") == 0) {
+        if (strcmp(entry->d_name, ".") == 0 || strcmp(entry->d_name, "..") == 0)
             continue;
-        }
         if (count + 1 == room) {
             room *= 2;
             paths = resize(path, paths, room * sizeof *paths);
         }
         paths[count++] = path_in(path, entry->d_name);
     }
-    if (errno != 0) {
+    if (errno != 0)
         refuse(path, strerror(errno));
-    }
     qsort(paths, count, sizeof *paths, compare_paths);
     paths[count] = NULL;
     return paths;
@@ -237,9 +225,8 @@ static DIR *open_directory(int above, const char *name, const char *path, int fl
 {
     int descriptor = checked(path, openat(above, name, O_RDONLY | O_DIRECTORY | flags));
     DIR *directory = fdopendir(descriptor);
-    if (directory == NULL) {
+    if (!directory)
         refuse(path, strerror(errno));
-    }
     return directory;
 }
 
@@ -248,14 +235,12 @@ static void check_sizes(DIR *directory, const char *path)
 {
     struct stat status;
     char **paths = read_paths(directory, path);
-    for (char **below = paths; *below != NULL; below++) {
+    for (char **below = paths; *below; below++) {
         checked(*below, fstatat(dirfd(directory), name_of(*below), &status, AT_SYMLINK_NOFOLLOW));
-        if (S_ISREG(status.st_mode) && status.st_size > MOST_FILE_BYTES) {
+        if (S_ISREG(status.st_mode) && status.st_size > MOST_FILE_BYTES)
             refuse(*below, too_long);
-        }
-        if (S_ISDIR(status.st_mode)) {
+        if (S_ISDIR(status.st_mode))
             check_sizes(open_directory(dirfd(directory), name_of(*below), *below, O_NOFOLLOW), *below);
-        }
         free(*below);
     }
     free(paths);
@@ -266,10 +251,9 @@ static void check_sizes(DIR *directory, const char *path)
 static void write_names(struct walk *walk, DIR *directory, const char *path)
 {
     char **paths = read_paths(directory, path);
-    for (char **below = paths; *below != NULL; below++) {
-        if (write_line(walk, dirfd(directory), *below)) {
+    for (char **below = paths; *below; below++) {
+        if (write_line(walk, dirfd(directory), *below))
             write_names(walk, open_directory(dirfd(directory), name_of(*below), *below, O_NOFOLLOW), *below);
-        }
         free(*below);
     }
     free(paths);
@@ -316,8 +300,7 @@ int main(int count, char **words)
     }
     limit_open_files();
     write_tree(&walk, words[1]);
-    if (fclose(stdout) != 0) {
+    if (fclose(stdout) != 0)
         refuse("standard output", strerror(errno));
-    }
     return 0;
 }

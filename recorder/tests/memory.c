@@ -132,14 +132,14 @@ static struct {
     struct file **files;  /* by their numbers; NULL where a file is gone */
     size_t file_room;
     uint64_t last_number;
-} server = { .device = -1 };
+} server = {.device = -1};
 
 static volatile sig_atomic_t stopped;
 
 /* ---- the device */
 
 /* The device is closed first, so that no request can wait for this process while it takes the mount away. */
-static _Noreturn void leave(int status)
+__attribute__((noreturn)) static void leave(int status)
 {
     if (server.device >= 0)
         close(server.device);
@@ -148,7 +148,7 @@ static _Noreturn void leave(int status)
     exit(status);
 }
 
-static _Noreturn void fail(const char *what)
+__attribute__((noreturn)) static void fail(const char *what)
 {
     fprintf(stderr, "memory: %s: %s\n", what, strerror(errno));
     leave(EXIT_FAILURE);
@@ -160,7 +160,7 @@ static _Noreturn void fail(const char *what)
 
 static ssize_t receive(int device, void *bytes, size_t size)
 {
-    struct iovec part = { bytes, size };
+    struct iovec part = {bytes, size};
     return fuse_record(FUSE_RECORD_READ, device, &part, 1);
 }
 
@@ -174,7 +174,7 @@ static ssize_t send_parts(int device, const struct iovec *parts, int count)
 /* A pipe with room for the longest message, which is empty between two. */
 static int *pipe_between(void)
 {
-    static int ends[2] = { -1, -1 };
+    static int ends[2] = {-1, -1};
     if (ends[0] < 0 && (pipe2(ends, O_CLOEXEC) != 0 || fcntl(ends[1], F_SETPIPE_SZ, 4 * MOST_WRITTEN) < 0))
         fail("a pipe");
     return ends;
@@ -211,7 +211,7 @@ static ssize_t send_parts(int device, const struct iovec *parts, int count)
 static void *resized(void *bytes, size_t size)
 {
     void *moved = realloc(bytes, size);
-    if (moved == NULL)
+    if (!moved)
         fail("no memory");
     return moved;
 }
@@ -307,7 +307,7 @@ static void add_entry(struct file *directory, const char *name, struct file *fil
         directory->entry_room = 2 * directory->entry_room + 8;
         directory->entries = resized(directory->entries, directory->entry_room * sizeof *directory->entries);
     }
-    directory->entries[directory->entry_count++] = (struct entry){ ++directory->last_cookie, file, copy_of(name) };
+    directory->entries[directory->entry_count++] = (struct entry){++directory->last_cookie, file, copy_of(name)};
     mark_modified(directory);
     file->names++;
     file->changed = now();
@@ -359,14 +359,14 @@ static void reply(const struct request *request, int error)
         .error = -error,
         .unique = request->header.unique,
     };
-    struct iovec parts[] = { { &header, sizeof header }, { request->answer, body_size } };
+    struct iovec parts[] = {{&header, sizeof header}, {request->answer, body_size}};
     for (int time = 0; time < request->times; time++) {
         /*
          * ENOENT: nobody waits for it, or no longer. ENODEV: the mount is gone, which the next read tells too. EINVAL: a
          * planted bug.
          */
-        if (send_parts(server.device, parts, body_size == 0 ? 1 : 2) < 0 && errno != ENOENT && errno != ENODEV
-            && (errno != EINVAL || options.answered_short == NULL))
+        if (send_parts(server.device, parts, body_size == 0 ? 1 : 2) < 0 && errno != ENOENT && errno != ENODEV &&
+            (errno != EINVAL || !options.answered_short))
             fail("writing an answer");
     }
 }
@@ -405,7 +405,7 @@ static struct fuse_entry_out looked_up(struct file *file)
 static struct fuse_open_out opened(struct file *file)
 {
     file->opens++;
-    return (struct fuse_open_out){ .fh = ++server.last_handle };
+    return (struct fuse_open_out){.fh = ++server.last_handle};
 }
 
 static int answer_entry(struct request *request, struct file *file)
@@ -435,7 +435,7 @@ static int do_init(struct request *request)
 
 static bool is_named(const char *wanted, const char *name)
 {
-    return wanted != NULL && strcmp(wanted, name) == 0;
+    return wanted && strcmp(wanted, name) == 0;
 }
 
 static int do_lookup(struct request *request)
@@ -443,7 +443,7 @@ static int do_lookup(struct request *request)
     struct entry *entry = find_entry(request->file, request->name);
     if (is_named(options.answered_twice, request->name))
         request->times = 2;
-    if (entry == NULL)
+    if (!entry)
         return strlen(request->name) > NAME_MAX ? ENAMETOOLONG : ENOENT;
     if (is_named(options.denied, request->name) && server.times_found++ > 0)
         return ENOENT;
@@ -455,7 +455,7 @@ static int do_lookup(struct request *request)
 
 static void forget(struct file *file, uint64_t lookups)
 {
-    if (file == NULL)
+    if (!file)
         return;
     file->lookups -= lookups < file->lookups ? lookups : file->lookups;
     free_if_unused(file);
@@ -491,7 +491,7 @@ static int do_getattr(struct request *request)
 
 static struct timespec time_asked(bool is_now, uint64_t seconds, uint32_t nanoseconds)
 {
-    return is_now ? now() : (struct timespec){ .tv_sec = (time_t)seconds, .tv_nsec = nanoseconds };
+    return is_now ? now() : (struct timespec){.tv_sec = (time_t)seconds, .tv_nsec = nanoseconds};
 }
 
 static int do_setattr(struct request *request)
@@ -568,7 +568,7 @@ static int do_mkdir(struct request *request)
 static int do_unlink(struct request *request)
 {
     struct entry *entry = find_entry(request->file, request->name);
-    if (entry == NULL)
+    if (!entry)
         return ENOENT;
     if (S_ISDIR(entry->file->mode))
         return EISDIR;
@@ -579,7 +579,7 @@ static int do_unlink(struct request *request)
 static int do_rmdir(struct request *request)
 {
     struct entry *entry = find_entry(request->file, request->name);
-    if (entry == NULL)
+    if (!entry)
         return ENOENT;
     if (!S_ISDIR(entry->file->mode))
         return ENOTDIR;
@@ -621,22 +621,22 @@ static int moving_error(const struct entry *old, const struct file *directory, c
 static int do_rename(struct request *request)
 {
     struct file *directory = file_of(request->asked.rename.newdir);
-    if (directory == NULL)
+    if (!directory)
         return ESTALE;
     if (!S_ISDIR(directory->mode))
         return ENOTDIR;
     struct entry *old = find_entry(request->file, request->name);
     struct entry *replaced = find_entry(directory, request->second_text);
-    if (old == NULL)
+    if (!old)
         return ENOENT;
     struct file *moved = old->file;
-    if (replaced != NULL && replaced->file == moved)
+    if (replaced && replaced->file == moved)
         return 0;
     int error = moving_error(old, directory, request->second_text);
     if (error != 0)
         return error;
     /* Each of these changes moves entries. The new name comes before the old one goes, so that the file is kept. */
-    if (replaced != NULL)
+    if (replaced)
         remove_entry(directory, replaced);
     add_entry(directory, request->second_text, moved);
     remove_entry(request->file, find_entry(request->file, request->name));
@@ -646,7 +646,7 @@ static int do_rename(struct request *request)
 static int do_link(struct request *request)
 {
     struct file *file = file_of(request->asked.link.oldnodeid);
-    if (file == NULL)
+    if (!file)
         return ESTALE;
     if (S_ISDIR(file->mode))
         return EPERM;
@@ -673,8 +673,8 @@ static int do_create(struct request *request)
 {
     const struct fuse_create_in *asked = &request->asked.create;
     struct entry *entry = find_entry(request->file, request->name);
-    struct file *file = entry == NULL ? NULL : entry->file;
-    if (file == NULL) {
+    struct file *file = entry ? entry->file : NULL;
+    if (!file) {
         int error = make(request, S_IFREG | (asked->mode & MODE_BITS), &file);
         if (error != 0)
             return error;
@@ -714,16 +714,16 @@ static int do_write(struct request *request)
         memcpy(file->bytes + asked->offset, request->rest, asked->size);
         mark_modified(file);
     }
-    request->body.written = (struct fuse_write_out){ .size = asked->size };
+    request->body.written = (struct fuse_write_out){.size = asked->size};
     return answer(request, &request->body.written, sizeof request->body.written);
 }
 
 static int do_statfs(struct request *request)
 {
-    request->body.system = (struct fuse_statfs_out){ .st = {
+    request->body.system = (struct fuse_statfs_out){.st = {
         .blocks = 1048576, .bfree = 1048576, .bavail = 1048576, .files = 1048576, .ffree = 1048576,
         .bsize = 4096, .frsize = 4096, .namelen = NAME_MAX,
-    } };
+    }};
     return answer(request, &request->body.system, sizeof request->body.system);
 }
 
@@ -762,9 +762,9 @@ static int do_readdir(struct request *request)
     static char bytes[MOST_WRITTEN];
     const struct fuse_read_in *asked = &request->asked.read;
     const struct file *directory = request->file;
-    struct listing listing = { asked->offset, bytes, 0, asked->size < sizeof bytes ? asked->size : sizeof bytes };
-    bool fits = list(&listing, COOKIE_OF_SELF, ".", directory->number, S_IFDIR)
-                && list(&listing, COOKIE_OF_PARENT, "..", directory->parent, S_IFDIR);
+    struct listing listing = {asked->offset, bytes, 0, asked->size < sizeof bytes ? asked->size : sizeof bytes};
+    bool fits = list(&listing, COOKIE_OF_SELF, ".", directory->number, S_IFDIR) &&
+                list(&listing, COOKIE_OF_PARENT, "..", directory->parent, S_IFDIR);
     for (size_t place = 0; fits && place < directory->entry_count; place++) {
         const struct entry *entry = &directory->entries[place];
         fits = list(&listing, entry->cookie, entry->name, entry->file->number, entry->file->mode);
@@ -809,33 +809,33 @@ static const struct {
     size_t size;
     int texts;
 } operations[] = {
-    [FUSE_LOOKUP] = { do_lookup, A_DIRECTORY, 0, 1 },
-    [FUSE_FORGET] = { do_forget, ANYTHING, sizeof(struct fuse_forget_in), 0 },
-    [FUSE_GETATTR] = { do_getattr, A_FILE, 0, 0 },
-    [FUSE_SETATTR] = { do_setattr, A_FILE, sizeof(struct fuse_setattr_in), 0 },
-    [FUSE_READLINK] = { do_readlink, A_FILE, 0, 0 },
-    [FUSE_SYMLINK] = { do_symlink, A_DIRECTORY, 0, 2 },
-    [FUSE_MKNOD] = { do_mknod, A_DIRECTORY, sizeof(struct fuse_mknod_in), 1 },
-    [FUSE_MKDIR] = { do_mkdir, A_DIRECTORY, sizeof(struct fuse_mkdir_in), 1 },
-    [FUSE_UNLINK] = { do_unlink, A_DIRECTORY, 0, 1 },
-    [FUSE_RMDIR] = { do_rmdir, A_DIRECTORY, 0, 1 },
-    [FUSE_RENAME] = { do_rename, A_DIRECTORY, sizeof(struct fuse_rename_in), 2 },
-    [FUSE_LINK] = { do_link, A_DIRECTORY, sizeof(struct fuse_link_in), 1 },
-    [FUSE_OPEN] = { do_open, A_REGULAR_FILE, sizeof(struct fuse_open_in), 0 },
-    [FUSE_READ] = { do_read, A_REGULAR_FILE, sizeof(struct fuse_read_in), 0 },
-    [FUSE_WRITE] = { do_write, A_REGULAR_FILE, sizeof(struct fuse_write_in), 0 },
-    [FUSE_STATFS] = { do_statfs, ANYTHING, 0, 0 },
-    [FUSE_RELEASE] = { do_release, A_FILE, 0, 0 },
-    [FUSE_FSYNC] = { do_nothing, ANYTHING, 0, 0 },
-    [FUSE_FLUSH] = { do_nothing, ANYTHING, 0, 0 },
-    [FUSE_INIT] = { do_init, ANYTHING, INIT_SIZE, 0 },
-    [FUSE_OPENDIR] = { do_open, A_DIRECTORY, sizeof(struct fuse_open_in), 0 },
-    [FUSE_READDIR] = { do_readdir, A_DIRECTORY, sizeof(struct fuse_read_in), 0 },
-    [FUSE_RELEASEDIR] = { do_release, A_FILE, 0, 0 },
-    [FUSE_CREATE] = { do_create, A_DIRECTORY, sizeof(struct fuse_create_in), 1 },
-    [FUSE_INTERRUPT] = { do_interrupt, ANYTHING, 0, 0 },
-    [FUSE_DESTROY] = { do_nothing, ANYTHING, 0, 0 },
-    [FUSE_BATCH_FORGET] = { do_batch_forget, ANYTHING, sizeof(struct fuse_batch_forget_in), 0 },
+    [FUSE_LOOKUP] = {do_lookup, A_DIRECTORY, 0, 1},
+    [FUSE_FORGET] = {do_forget, ANYTHING, sizeof(struct fuse_forget_in), 0},
+    [FUSE_GETATTR] = {do_getattr, A_FILE, 0, 0},
+    [FUSE_SETATTR] = {do_setattr, A_FILE, sizeof(struct fuse_setattr_in), 0},
+    [FUSE_READLINK] = {do_readlink, A_FILE, 0, 0},
+    [FUSE_SYMLINK] = {do_symlink, A_DIRECTORY, 0, 2},
+    [FUSE_MKNOD] = {do_mknod, A_DIRECTORY, sizeof(struct fuse_mknod_in), 1},
+    [FUSE_MKDIR] = {do_mkdir, A_DIRECTORY, sizeof(struct fuse_mkdir_in), 1},
+    [FUSE_UNLINK] = {do_unlink, A_DIRECTORY, 0, 1},
+    [FUSE_RMDIR] = {do_rmdir, A_DIRECTORY, 0, 1},
+    [FUSE_RENAME] = {do_rename, A_DIRECTORY, sizeof(struct fuse_rename_in), 2},
+    [FUSE_LINK] = {do_link, A_DIRECTORY, sizeof(struct fuse_link_in), 1},
+    [FUSE_OPEN] = {do_open, A_REGULAR_FILE, sizeof(struct fuse_open_in), 0},
+    [FUSE_READ] = {do_read, A_REGULAR_FILE, sizeof(struct fuse_read_in), 0},
+    [FUSE_WRITE] = {do_write, A_REGULAR_FILE, sizeof(struct fuse_write_in), 0},
+    [FUSE_STATFS] = {do_statfs, ANYTHING, 0, 0},
+    [FUSE_RELEASE] = {do_release, A_FILE, 0, 0},
+    [FUSE_FSYNC] = {do_nothing, ANYTHING, 0, 0},
+    [FUSE_FLUSH] = {do_nothing, ANYTHING, 0, 0},
+    [FUSE_INIT] = {do_init, ANYTHING, INIT_SIZE, 0},
+    [FUSE_OPENDIR] = {do_open, A_DIRECTORY, sizeof(struct fuse_open_in), 0},
+    [FUSE_READDIR] = {do_readdir, A_DIRECTORY, sizeof(struct fuse_read_in), 0},
+    [FUSE_RELEASEDIR] = {do_release, A_FILE, 0, 0},
+    [FUSE_CREATE] = {do_create, A_DIRECTORY, sizeof(struct fuse_create_in), 1},
+    [FUSE_INTERRUPT] = {do_interrupt, ANYTHING, 0, 0},
+    [FUSE_DESTROY] = {do_nothing, ANYTHING, 0, 0},
+    [FUSE_BATCH_FORGET] = {do_batch_forget, ANYTHING, sizeof(struct fuse_batch_forget_in), 0},
 };
 
 /* Copies the next part of the message, which need not be aligned; false where the message ends before. */
@@ -853,7 +853,7 @@ static bool take(struct request *request, void *part, size_t size)
 static bool take_text(struct request *request, const char **text)
 {
     const char *zero = memchr(request->rest, '\0', request->left);
-    if (zero == NULL)
+    if (!zero)
         return false;
     *text = request->rest;
     request->left -= (size_t)(zero + 1 - request->rest);
@@ -865,7 +865,7 @@ static int subject_error(enum subject subject, const struct file *file)
 {
     if (subject == ANYTHING)
         return 0;
-    if (file == NULL)
+    if (!file)
         return ESTALE;
     if (subject == A_DIRECTORY && !S_ISDIR(file->mode))
         return ENOTDIR;
@@ -878,11 +878,11 @@ static int subject_error(enum subject subject, const struct file *file)
 static int carry_out(struct request *request)
 {
     uint32_t opcode = request->header.opcode;
-    if (opcode >= sizeof operations / sizeof *operations || operations[opcode].act == NULL)
+    if (opcode >= sizeof operations / sizeof *operations || !operations[opcode].act)
         return ENOSYS;
-    if (!take(request, &request->asked, operations[opcode].size)
-        || (operations[opcode].texts >= 1 && !take_text(request, &request->name))
-        || (operations[opcode].texts >= 2 && !take_text(request, &request->second_text)))
+    if (!take(request, &request->asked, operations[opcode].size) ||
+        (operations[opcode].texts >= 1 && !take_text(request, &request->name)) ||
+        (operations[opcode].texts >= 2 && !take_text(request, &request->second_text)))
         return EPROTO;
     request->file = file_of(request->header.nodeid);
     int error = subject_error(operations[opcode].subject, request->file);
@@ -891,7 +891,7 @@ static int carry_out(struct request *request)
 
 static void handle(const char *message, size_t size)
 {
-    struct request request = { .rest = message, .left = size, .times = 1 };
+    struct request request = {.rest = message, .left = size, .times = 1};
     if (!take(&request, &request.header, sizeof request.header))
         return;
     int error = carry_out(&request);
@@ -929,7 +929,7 @@ static void stop(int signal_number)
 
 static void stop_at_signals(void)
 {
-    struct sigaction action = { .sa_handler = stop }; /* without SA_RESTART: it ends the read */
+    struct sigaction action = {.sa_handler = stop}; /* without SA_RESTART: it ends the read */
     sigemptyset(&action.sa_mask);
     sigaction(SIGTERM, &action, NULL);
     sigaction(SIGINT, &action, NULL);
@@ -949,7 +949,7 @@ static void mount_device(void)
     server.mounted = true;
 }
 
-static _Noreturn void refuse_words(void)
+__attribute__((noreturn)) static void refuse_words(void)
 {
     fputs("usage: memory [--timeout SECONDS] [--deny NAME] [--answer-twice NAME] [--answer-short NAME] [--answer-forget] "
           "[--die-after N] MOUNTPOINT\n", stderr);
@@ -968,13 +968,13 @@ static uint64_t number_of(const char *text)
 static void read_words(int count, char **words)
 {
     static const struct option known[] = {
-        { "timeout", required_argument, NULL, 't' },
-        { "deny", required_argument, NULL, 'd' },
-        { "answer-twice", required_argument, NULL, 'a' },
-        { "answer-short", required_argument, NULL, 's' },
-        { "answer-forget", no_argument, NULL, 'f' },
-        { "die-after", required_argument, NULL, 'k' },
-        { 0 },
+        {"timeout", required_argument, NULL, 't'},
+        {"deny", required_argument, NULL, 'd'},
+        {"answer-twice", required_argument, NULL, 'a'},
+        {"answer-short", required_argument, NULL, 's'},
+        {"answer-forget", no_argument, NULL, 'f'},
+        {"die-after", required_argument, NULL, 'k'},
+        {0},
     };
     int option;
     while ((option = getopt_long(count, words, "", known, NULL)) != -1) {
