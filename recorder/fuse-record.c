@@ -137,6 +137,13 @@ static void refuse_places(const char *lower, char **words)
         fail(FAILED, "%s: is below %s, which is taken for the mount", path, mount);
 }
 
+/* Holds a capture as long as this descriptor is open, where its file system can. Refuses one that another recorder holds. */
+static void hold(int capture)
+{
+    if (flock(capture, LOCK_EX | LOCK_NB) != 0 && errno == EWOULDBLOCK)
+        fail(FAILED, "%s: a recorder that runs holds it", outputs[CAPTURE].path);
+}
+
 /* Refuses to write over files of an earlier recording, unless it is forced to or that recorded no message. */
 static void refuse_files(bool forced)
 {
@@ -145,8 +152,7 @@ static void refuse_files(bool forced)
     if (capture >= 0) {
         if (fstat(capture, &found) != 0 || !S_ISREG(found.st_mode))
             fail(FAILED, "%s: no regular file", outputs[CAPTURE].path);
-        if (flock(capture, LOCK_EX | LOCK_NB) != 0)
-            fail(FAILED, "%s: a recorder that runs holds it", outputs[CAPTURE].path);
+        hold(capture);
         forced |= found.st_size == sizeof FUSE_RECORD_MAGIC - 1;
         close(capture);
     }
@@ -212,8 +218,8 @@ static int make_outputs(const char *lower, const sigset_t *before)
     for (int i = CAPTURE; i <= TREE; i++)
         keep(&outputs[i]);
     int capture = create(&outputs[CAPTURE]);
-    if (flock(capture, LOCK_EX | LOCK_NB) != 0 ||
-        write(capture, FUSE_RECORD_MAGIC, sizeof FUSE_RECORD_MAGIC - 1) != sizeof FUSE_RECORD_MAGIC - 1)
+    hold(capture);
+    if (write(capture, FUSE_RECORD_MAGIC, sizeof FUSE_RECORD_MAGIC - 1) != sizeof FUSE_RECORD_MAGIC - 1)
         fail(FAILED, "%s: %s", outputs[CAPTURE].path, strerror(errno));
     close(create(&outputs[LOG]));
     if (lower)
@@ -262,7 +268,8 @@ static bool is_in_orders(uint32_t operation)
 
 static bool is_to_be_answered(uint32_t operation)
 {
-    return operation != FUSE_FORGET && operation != FUSE_BATCH_FORGET && operation != FUSE_INTERRUPT && operation != FUSE_NOTIFY_REPLY;
+    return operation != FUSE_FORGET && operation != FUSE_BATCH_FORGET && operation != FUSE_INTERRUPT &&
+           operation != FUSE_NOTIFY_REPLY;
 }
 
 /* Counts a request, which waits from now on. */
@@ -389,17 +396,18 @@ static int tell_sum(int ended)
         snprintf(fault, sizeof fault, ": no message was seen, and the server %s", how_it_ended(ended));
     else if (missed > 0)
         snprintf(fault, sizeof fault, ": the server %s with requests unanswered", how_it_ended(ended));
-    tell(true, "%s: %" PRIu32 " messages, %" PRIu32 " requests, %" PRIu32 " answers; %zu requests were never answered, %zu of them of "
-               "operations that no order names%s",
+    tell(true,
+         "%s: %" PRIu32 " messages, %" PRIu32 " requests, %" PRIu32 " answers; "
+         "%zu requests were never answered, %zu of them of operations that no order names%s",
          outputs[CAPTURE].path, sum.messages, sum.requests, sum.answers, sum.waits, unnamed, fault);
     free(sum.waiting);
     return fault[0] ? NOT_WHOLE : status_of(ended);
 }
 
 /*
- * Three processes: the one that was started follows the watcher, which it forks, and ends as that says; the watcher is the parent of
- * the server, and of all that the server leaves behind, so that it sees the end of a server that goes into the background. The two
- * hand on the signals that they are sent, but for those of a terminal, which the server has got too.
+ * Three processes: the one that was started follows the watcher, which it forks, and ends as that says; the watcher is the parent
+ * of the server, and of all that the server leaves behind, so that it sees the end of a server that goes into the background. The
+ * two hand on the signals that they are sent, but for those of a terminal, which the server has got too.
  */
 static void choose_signals(sigset_t *signals)
 {
@@ -469,7 +477,7 @@ static int watch(pid_t first, char **words, const sigset_t *signals, const sigse
 {
     const struct timespec moment = {0, 50000000};
     int ended = 0, moments = 0;
-    bool handed_back = false;
+    bool failed = false, handed_back = false;
     prctl(PR_SET_CHILD_SUBREAPER, 1);
     prctl(PR_SET_PDEATHSIG, SIGTERM);
     pid_t server = start(words, before);
@@ -480,14 +488,23 @@ static int watch(pid_t first, char **words, const sigset_t *signals, const sigse
         if (sigtimedwait(signals, &got, server > 0 || handed_back ? NULL : &moment) > 0)
             hand_on(server, &got);
         while ((child = waitpid(-1, &status, WNOHANG)) > 0) {
-            if (child == server || (server == 0 && !WIFSIGNALED(ended)))
+            /* Of several processes the first that did not end well. */
+            if (child == server || (server == 0 && ended == 0))
                 ended = status;
-            if (child == server)
+            if (child == server) {
                 server = 0;
+                failed = status != 0;
+            }
         }
         if (child < 0)
             return tell_sum(ended);
-        if (server == 0 && !handed_back && (has_messages() || ++moments > PATIENCE)) {
+        if (server > 0 || handed_back)
+            continue;
+        /* What a server leaves behind that failed is no server in the background. */
+        moments++;
+        if (failed && moments > PATIENCE)
+            return tell_sum(ended);
+        if (!failed && (has_messages() || moments > PATIENCE)) {
             hand_back(first, ended);
             handed_back = true;
         }
@@ -503,7 +520,7 @@ static int follow(pid_t watcher, const sigset_t *signals)
         if (number == SIGRTMIN && got.si_pid == watcher)
             return got.si_value.sival_int;
         if (waitpid(watcher, &status, WNOHANG) == watcher)
-            return WIFEXITED(status) ? WEXITSTATUS(status) : FAILED;
+            return WIFEXITED(status) ? WEXITSTATUS(status) : FAILED; /* somebody has ended the watcher by a signal */
         if (number > 0)
             hand_on(watcher, &got);
     }

@@ -74,7 +74,7 @@ is_mounted() { grep -qs " $mnt " /proc/self/mounts; }
 # It is to stay in the foreground; its process is the last of servers.
 record_on() {
     rm -f "$work/a.order" "$work/errors"
-    "${under[@]}" "$work/recorder/fuse-record" -o "$capture" "$@" 2> "$work/errors" &
+    "${under[@]}" "$work/recorder/fuse-record" -o "$capture" "$@" > /dev/null 2> "$work/errors" &
     servers+=($!)
     for _ in $(seq 100); do
         is_mounted && return 0
@@ -349,6 +349,22 @@ stop
 check "killed: is told" ends 125 "[1-9]$unanswered: the server was ended by signal 9 (Killed) with requests unanswered\$"
 check "killed: the request is told" logged "message [0-9]*: [A-Z]* of node .*: never answered" 1
 check "killed: is legal" is_legal "memory, killed"
+
+# A crash in an operation that is not judged: the verdict is legal, with nothing left out, so the end has to tell it.
+own crashed -- --die-at 45
+timeout 20 sh -c "echo text > '$mnt/name'; mv -n '$mnt/name' '$mnt/other'" 2> /dev/null
+stop
+check "crashed: is told" ends 125 "1 requests were never answered, 1 of them of .*: the server was ended by signal 9 (Killed) with requests un"
+check "crashed: in RENAME2" logged "message [0-9]*: RENAME2 of node 1, unique .*: never answered" 1
+check "crashed: is legal" judged "memory, killed in RENAME2" "legal: [1-9]* messages, *, 0 left out"
+
+# A server that fails and leaves a process behind has ended, and is not in the background.
+failing() {
+    status=0
+    timeout 20 "${under[@]}" "$work/recorder/fuse-record" --force -o "$capture" -- sh -c "sleep 0.5 & exit 3" 2> "$work/errors" || status=$?
+}
+failing
+check "failing: is told" ends 125 "$unanswered: no message was seen, and the server ended with status 3"
 
 # A server of which nothing is recorded: one that makes its system calls itself.
 check "the server without the recorder compiles" "${CC:-cc}" "${plain[@]}" -static -o "$work/memory-unseen" "$here/tests/memory.c"

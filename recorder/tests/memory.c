@@ -10,6 +10,7 @@
  *   --answer-twice NAME   a bug: the answer to a LOOKUP of NAME is written twice
  *   --answer-short NAME   a bug: the success of a LOOKUP of NAME lacks its last bytes
  *   --answer-forget       a bug: FORGET and BATCH_FORGET are answered
+ *   --die-at N            ends by SIGKILL when a request with this opcode was read, before it is answered
  *   --die-after N         ends by SIGKILL when the N-th request was read, before it is answered
  *
  * It serves until it is unmounted, or SIGTERM or SIGINT comes, and then ends with status 0.
@@ -120,6 +121,7 @@ static struct {
     const char *answered_twice;
     const char *answered_short;
     bool answers_forget;
+    uint64_t deadly_operation; /* the opcode to die at, 0 for none */
     uint64_t deadly; /* the request to die at, 0 for none */
 } options;
 
@@ -894,6 +896,8 @@ static void handle(const char *message, size_t size)
     struct request request = {.rest = message, .left = size, .times = 1};
     if (!take(&request, &request.header, sizeof request.header))
         return;
+    if (request.header.opcode == options.deadly_operation)
+        raise(SIGKILL);
     int error = carry_out(&request);
     if (error != NO_ANSWER)
         reply(&request, error);
@@ -952,7 +956,7 @@ static void mount_device(void)
 __attribute__((noreturn)) static void refuse_words(void)
 {
     fputs("usage: memory [--timeout SECONDS] [--deny NAME] [--answer-twice NAME] [--answer-short NAME] [--answer-forget] "
-          "[--die-after N] MOUNTPOINT\n", stderr);
+          "[--die-at N] [--die-after N] MOUNTPOINT\n", stderr);
     exit(EXIT_FAILURE);
 }
 
@@ -973,6 +977,7 @@ static void read_words(int count, char **words)
         {"answer-twice", required_argument, NULL, 'a'},
         {"answer-short", required_argument, NULL, 's'},
         {"answer-forget", no_argument, NULL, 'f'},
+        {"die-at", required_argument, NULL, 'o'},
         {"die-after", required_argument, NULL, 'k'},
         {0},
     };
@@ -988,6 +993,8 @@ static void read_words(int count, char **words)
             options.answered_short = optarg;
         else if (option == 'f')
             options.answers_forget = true;
+        else if (option == 'o')
+            options.deadly_operation = number_of(optarg);
         else if (option == 'k')
             options.deadly = number_of(optarg);
         else
