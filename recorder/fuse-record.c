@@ -27,10 +27,11 @@ enum { FAILED = 1, MISUSED = 2, NOT_WHOLE = 125, NO_SERVER = 127 };
 /* How long a server that has gone into the background is given for its first message: so many times 50 milliseconds. */
 enum { PATIENCE = 100 };
 
-/* A file that is written, and where that is kept which stood at its path, until the server has started. */
+/* A file that is made, its descriptor, and where that is kept which stood at its path, until the server has started. */
 struct output {
     char path[PATH_MAX + 8];
     char kept[PATH_MAX + 16];
+    int file;
     bool made;
 };
 static struct output outputs[3];
@@ -144,6 +145,13 @@ static void hold(int capture)
         fail(FAILED, "%s: a recorder that runs holds it", outputs[CAPTURE].path);
 }
 
+/* Whether a file is a capture without a message. */
+static bool is_empty(int file)
+{
+    char magic[sizeof FUSE_RECORD_MAGIC] = "";
+    return pread(file, magic, sizeof magic, 0) == sizeof magic - 1 && memcmp(magic, FUSE_RECORD_MAGIC, sizeof magic - 1) == 0;
+}
+
 /* Refuses to write over files of an earlier recording, unless it is forced to or that recorded no message. */
 static void refuse_files(bool forced)
 {
@@ -153,7 +161,7 @@ static void refuse_files(bool forced)
         if (fstat(capture, &found) != 0 || !S_ISREG(found.st_mode))
             fail(FAILED, "%s: no regular file", outputs[CAPTURE].path);
         hold(capture);
-        forced |= found.st_size == sizeof FUSE_RECORD_MAGIC - 1;
+        forced |= is_empty(capture);
         close(capture);
     }
     for (int i = CAPTURE; i <= TREE; i++) {
@@ -184,11 +192,11 @@ static void keep(struct output *output)
 /* Makes a file that its owner alone can read. */
 static int create(struct output *output)
 {
-    int file = open(output->path, O_WRONLY | O_CREAT | O_EXCL | O_CLOEXEC, 0600);
-    if (file < 0)
+    output->file = open(output->path, O_RDWR | O_APPEND | O_CREAT | O_EXCL | O_CLOEXEC, 0600);
+    if (output->file < 0)
         fail(FAILED, "%s: %s", output->path, strerror(errno));
     output->made = true;
-    return file;
+    return output->file;
 }
 
 /* Writes the tree text of a folder, by a program that has the signals from before. */
@@ -212,8 +220,8 @@ static void write_tree(const char *folder, const sigset_t *before)
     close(file);
 }
 
-/* Makes the files anew, and holds the capture for as long as this descriptor of it is open. */
-static int make_outputs(const char *lower, const sigset_t *before)
+/* Makes the files anew, and holds the capture. */
+static void make_outputs(const char *lower, const sigset_t *before)
 {
     for (int i = CAPTURE; i <= TREE; i++)
         keep(&outputs[i]);
@@ -221,10 +229,9 @@ static int make_outputs(const char *lower, const sigset_t *before)
     hold(capture);
     if (write(capture, FUSE_RECORD_MAGIC, sizeof FUSE_RECORD_MAGIC - 1) != sizeof FUSE_RECORD_MAGIC - 1)
         fail(FAILED, "%s: %s", outputs[CAPTURE].path, strerror(errno));
-    close(create(&outputs[LOG]));
+    create(&outputs[LOG]);
     if (lower)
         write_tree(lower, before);
-    return capture;
 }
 
 /* Makes the server load the library, behind those that it is to load already: that of a sanitizer has to be the first. */
@@ -303,39 +310,40 @@ static void count_answer(struct sum *sum, const struct fuse_out_header *header)
     }
 }
 
-/* Counts the whole records of the capture. */
+/* Counts the whole records of the capture. Its path is not asked for: what was mounted may stand above it. */
 static struct sum sum_up(void)
 {
     struct sum sum = {0};
-    unsigned char head[FUSE_RECORD_HEAD];
-    FILE *capture = fopen(outputs[CAPTURE].path, "re");
-    if (!capture || fseek(capture, sizeof FUSE_RECORD_MAGIC - 1, SEEK_SET) != 0)
-        return sum;
-    for (; fread(head, sizeof head, 1, capture) == 1; sum.messages++) {
-        union {
-            struct fuse_in_header request;
-            struct fuse_out_header answer;
-        } header = {0};
+    struct {
+        unsigned char head[FUSE_RECORD_HEAD];
+        unsigned char message[sizeof(struct fuse_in_header)];
+    } record = {{0}, {0}};
+    struct stat found;
+    struct fuse_in_header request;
+    struct fuse_out_header answer;
+    off_t size = fstat(outputs[CAPTURE].file, &found) == 0 ? found.st_size : 0;
+    off_t at = sizeof FUSE_RECORD_MAGIC - 1;
+    for (; pread(outputs[CAPTURE].file, &record, sizeof record, at) >= (ssize_t)sizeof record.head; sum.messages++) {
         uint32_t stated;
-        memcpy(&stated, head + 1, sizeof stated);
-        size_t length = le32toh(stated), wanted = head[0] == FUSE_RECORD_READ ? sizeof header.request : sizeof header.answer;
-        size_t taken = length < wanted ? length : wanted;
-        if (fread(&header, 1, taken, capture) != taken || fseek(capture, (long)(length - taken), SEEK_CUR) != 0)
+        memcpy(&stated, record.head + 1, sizeof stated);
+        size_t length = le32toh(stated);
+        at += (off_t)(sizeof record.head + length);
+        if (at > size)
             break;
-        if (taken == wanted && head[0] == FUSE_RECORD_READ)
-            count_request(&sum, &header.request);
-        else if (taken == wanted)
-            count_answer(&sum, &header.answer);
+        memcpy(&request, record.message, sizeof request);
+        memcpy(&answer, record.message, sizeof answer);
+        if (record.head[0] == FUSE_RECORD_READ && length >= sizeof request)
+            count_request(&sum, &request);
+        else if (record.head[0] == FUSE_RECORD_WRITE && length >= sizeof answer)
+            count_answer(&sum, &answer);
     }
-    fclose(capture);
     return sum;
 }
 
 /* Whether the capture has a message. */
 static bool has_messages(void)
 {
-    struct stat found;
-    return stat(outputs[CAPTURE].path, &found) == 0 && found.st_size > (off_t)sizeof FUSE_RECORD_MAGIC - 1;
+    return !is_empty(outputs[CAPTURE].file);
 }
 
 /* Writes one line to the log, and where it is to be said, on standard error. */
@@ -350,12 +358,8 @@ __attribute__((format(printf, 2, 3))) static void tell(bool said, const char *fo
     strcat(line, "\n");
     if (said)
         fuse_record_say(line);
-    int log = open(outputs[LOG].path, O_WRONLY | O_APPEND | O_CLOEXEC);
     struct iovec part = {line + before, strlen(line) - before};
-    if (log >= 0) {
-        fuse_record_write(log, &part, 1, -1);
-        close(log);
-    }
+    fuse_record_write(outputs[LOG].file, &part, 1, -1);
 }
 
 /* How the server ended, of which this is the status of wait. */
@@ -569,7 +573,7 @@ int main(int count, char **words)
     signal(SIGCHLD, SIG_DFL);
     choose_signals(&signals);
     sigprocmask(SIG_BLOCK, &signals, &before);
-    int capture = make_outputs(lower, &before);
+    make_outputs(lower, &before);
     snprintf(mask, sizeof mask, "%" PRIx64, refused);
     setenv("FUSE_RECORD", outputs[CAPTURE].path, 1);
     setenv("FUSE_RECORD_REFUSE", mask, 1);
@@ -579,6 +583,6 @@ int main(int count, char **words)
         fail(FAILED, "a process: %s", strerror(errno));
     if (watcher == 0)
         return watch(first, words + optind, &signals, &before);
-    close(capture);
+    close(outputs[CAPTURE].file);
     return follow(watcher, &signals);
 }

@@ -426,6 +426,8 @@ check "below: the folder" refuses 1 "is in the folder of --lower" --lower "$lowe
 check "below: nothing is left there" [ -z "$(ls "$mnt/deep" "$lower/deep" | grep cap)" ]
 # An empty recording is no loss.
 check "empty: is told" refuses 125 "no message was seen" --force -o "$capture" -- true
+echo 1234567 > "$work/b"
+check "empty: another file of its length does not" refuses 1 "b: is there already" -o "$work/b" -- true
 check "empty: gives way" refuses 125 "no message was seen" -o "$capture" -- true
 
 # What is left of a capture that was cut is printed, and that it was cut.
