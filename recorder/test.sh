@@ -92,7 +92,7 @@ record() {
 
 # Waits for the last server, and keeps its status.
 ended_server() {
-    timeout 20 tail --pid="${servers[-1]}" -f /dev/null || return
+    timeout 20 tail -s 0.1 --pid="${servers[-1]}" -f /dev/null || return
     status=0
     wait "${servers[-1]}" || status=$?
     unset 'servers[-1]'
