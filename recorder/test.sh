@@ -301,6 +301,7 @@ image_tree() {
             is_mounted && break
             sleep 0.05
         done
+        is_mounted || return
         if [ "$round" = make ]; then
             timeout 20 sh -c "mkdir -m 700 '$mnt/folder' && echo kept > '$mnt/folder/kept'"
         else
@@ -311,13 +312,16 @@ image_tree() {
     grep -q "^f 644 folder/kept 6b6570740a$" "$work/image.tree"
 }
 if command -v fuse2fs > /dev/null && command -v mkfs.ext4 > /dev/null; then
-    check "image: the tree text of a mount" image_tree
-    check "image: mounts" record --refuse FALLOCATE -- fuse2fs -f -o fakeroot "$work/image" "$mnt"
-    check "image: serves what was there" [ "$(cat "$mnt/folder/kept")" = kept ]
-    timeout 20 sh -c "cd '$mnt' && echo more >> folder/kept && mv folder other && mkdir folder && cat other/kept" > "$work/seen"
-    check "image: is unmounted" stop
-    cp "$work/image.tree" "$capture.tree"
-    check "image: is legal" judged "fuse2fs with the tree of a mount before" "legal: [1-9]* messages, *"
+    work_on_image() {
+        timeout 20 sh -c "cd '$mnt' && cat folder/kept && echo more >> folder/kept && mv folder other && mkdir folder" > "$work/seen"
+    }
+    if check "image: the tree text of a mount" image_tree &&
+        check "image: mounts" record --refuse FALLOCATE -- fuse2fs -f -o fakeroot "$work/image" "$mnt"; then
+        check "image: serves what was there" work_on_image
+        check "image: is unmounted" stop
+        cp "$work/image.tree" "$capture.tree"
+        check "image: is legal" judged "fuse2fs with the tree of a mount before" "legal: [1-9]* messages, *"
+    fi
 else
     echo "recorder: skipped: a server with an image: fuse2fs is not installed"
 fi
