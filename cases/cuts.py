@@ -1,97 +1,93 @@
 #!/usr/bin/env python3
-"""Cuts each legal case of this folder at each of its messages, and has the built program judge what is left.
+"""Cuts each legal case at each of its messages, and has the built program judge what is left.
 
 usage: cases/cuts.py [PROGRAM] [--only TEXT]
 
-PROGRAM is crates/fa_audit/out/fa_audit of this repository unless it is named. With --only, only the cases whose names hold
-TEXT are cut. At each message number N, from 0 to one more than there are, `front --at N` has to write the first N whole records,
-and `check` has to call legal what `cut --at N` leaves of the order, on these, from the case's tree. Captures of more than 1 MiB
-are passed over. The first failures of each case are printed; the last line is 'N passed, M failed', where each case counts once,
-and the status is 1 where one failed or none was cut.
+PROGRAM is crates/fa_audit_program/out/fa_audit_program of this repository unless it is named. With --only, only the cases whose names, as
+FOLDER/NAME or FOLDER/NAME row N, hold TEXT are cut. At each message number N, from 0 to one more than there are, `front --at N`
+has to write the first N whole records, and `check` has to call legal what `cut --at N` leaves of the order, on these, from the
+case's tree. Captures of more than 1 MiB are passed over. The first failures of each case are printed; the last line is 'N passed,
+M failed', where each case counts once, and the status is 1 where one failed or none was cut.
 """
 import argparse
 import concurrent.futures
+import itertools
 import os
-import subprocess
+import signal
 import sys
 import tempfile
 
+import messages
 import run
 
-MAGIC = b"FUSECAP1"
-HEADER = 5
 PARTS = 8
 MOST_BYTES = 1 << 20
 
 
-def records(capture):
-    """Where each whole record of a capture ends, the first of them being the magic."""
-    ends = [len(MAGIC)]
-    while ends[-1] + HEADER <= len(capture):
-        length = int.from_bytes(capture[ends[-1] + 1 : ends[-1] + HEADER], "little")
-        ends.append(ends[-1] + HEADER + length)
-    return ends
+def written(program, words, path):
+    """Has the program write to this file, and end well. Starting it so takes half the time that `subprocess` takes."""
+    how = os.O_WRONLY | os.O_CREAT | os.O_TRUNC | os.O_APPEND
+    outputs = [(os.POSIX_SPAWN_OPEN, output, path, how, 0o600) for output in (1, 2)]
+    process = os.posix_spawn(program, [program, *words], os.environ, file_actions=outputs)
+    signal.alarm(run.SECONDS)
+    try:
+        _, status = os.waitpid(process, 0)
+    except TimeoutError:
+        os.kill(process, signal.SIGKILL)
+        os.waitpid(process, 0)
+        raise ValueError(f"{words[0]}: no end after {run.SECONDS} seconds") from None
+    finally:
+        signal.alarm(0)
+    data = run.content(path)
+    if status:
+        raise ValueError(f"{words[0]}: status {os.waitstatus_to_exitcode(status)}: {data[:200]!r}")
+    return data
 
 
-def written(program, words):
-    """What a call of the program writes, where it ends well."""
-    ran = subprocess.run([program, *words], cwd=run.HERE, stdin=subprocess.DEVNULL, capture_output=True, timeout=run.SECONDS)
-    if ran.returncode:
-        raise ValueError(f"{words[0]}: status {ran.returncode}: {(ran.stdout + ran.stderr)[:200]!r}")
-    return ran.stdout
+def late(*_):
+    raise TimeoutError
 
 
-def judged(program, at, files, front, room):
+def judged(program, at, options, front):
     """Cuts at one message, and has what is left judged."""
-    capture, order, tree = files
-    first = written(program, ["front", "--capture", capture, "--at", str(at)])
+    capture, order = (("--capture", options["--capture"]), ("--order", options["--order"]))
+    left = {"--capture": "left.capture", "--order": "left.order"}
+    first = written(program, ["front", *capture, "--at", str(at)], left["--capture"])
     if first != front:
         raise ValueError(f"front: {len(first)} bytes and not the {len(front)} of the first records")
-    left = written(program, ["cut", "--capture", capture, "--order", order, "--at", str(at)])
-    words = ["check"]
-    for option, data in (("capture", first), ("order", left)):
-        words += [f"--{option}", os.path.join(room, f"left.{option}")]
-        with open(words[-1], "wb") as opened:
-            opened.write(data)
-    return written(program, words + (["--tree", tree] if tree else []))
+    written(program, ["cut", *capture, *order, "--at", str(at)], left["--order"])
+    return written(program, ["check", *itertools.chain(*(options | left).items())], "left.line")
 
 
-def unpacked(file, room):
-    """A file of a case, unpacked into this folder where it is packed."""
-    if file is None or not file.endswith(".bz2"):
-        return file
-    room = os.path.join(room, os.path.basename(file))
-    os.mkdir(room)
-    return run.unpacked(file.encode(), room).decode()
-
-
-def cut(program, name, files, part):
+def cut(program, case, part):
     """What is wrong with a case that is cut at each of its messages, a line each; of the messages every eighth, from this one on.
     None where its capture is too large."""
     found = []
+    options = options_of(case)
     with tempfile.TemporaryDirectory() as room:
-        files = [unpacked(file, room) for file in files]
-        with open(os.path.join(run.HERE, files[0]), "rb") as opened:
-            data = opened.read()
+        folder = case.laid_out(room)
+        data = run.content(os.path.join(folder, options["--capture"]))
         if len(data) > MOST_BYTES:
             return None
-        ends = records(data)
+        ends = messages.ends(data)
+        os.chdir(folder)
         for at in range(part, len(ends) + 1, PARTS):
             count = min(at, len(ends) - 1)
             try:
-                line = judged(program, at, files, data[: ends[count]], room)
-            except (OSError, ValueError, subprocess.TimeoutExpired) as error:
+                line = judged(program, at, options, data[: ends[count]])
+            except (OSError, ValueError) as error:
                 line = str(error).encode()
             if not line.startswith(b"legal: %d messages, " % count):
-                found.append(f"{name}: cut at {at}: {line[:300]!r}")
+                found.append(f"{case.name}: cut at {at}: {line[:300]!r}")
+        os.chdir(run.HERE)
     return found
 
 
-def files_of(words):
-    """The capture, the order and the tree, if there is one, that a call of `check` names; None for another call."""
-    options = dict(zip(words[1::2], words[2::2]))
-    files = [options.get(option) for option in ("--capture", "--order", "--tree")]
-    return files if words[0] == "check" and all(files[:2]) else None
+def options_of(case):
+    """The capture, the order and the tree, if there is one, that a call of `check` names; nothing for another call."""
+    command, *words = [os.fsdecode(word) for word in case.words] or [""]
+    options = dict(zip(words[::2], words[1::2]))
+    return options if command == "check" and {"--capture", "--order"} <= set(options) else {}
 
 
 def main():
@@ -100,24 +96,20 @@ def main():
     parser.add_argument("--only", default="", metavar="TEXT", help="only the cases whose names hold this text")
     given = parser.parse_args()
     program = os.path.abspath(given.program)
-    files = {entry.name for entry in os.scandir(run.HERE) if entry.is_file()}
-    cases = {}
-    for file in sorted(files):
-        name = file[: -len(".expect")]
-        if file.endswith(".expect") and given.only in name and run.read(file).startswith(b"legal: "):
-            named = files_of([word.decode() for word in run.call_of(files, name)[0]])
-            if named:
-                cases[name] = named
-    parts = [(name, named, part) for name, named in cases.items() for part in range(PARTS)]
+    cases = [case for case in run.all_cases() if given.only in case.name]
+    legal = [case for case in cases if case.expected()[0].startswith(b"legal: ") and options_of(case)]
+    parts = [(case, part) for case in legal for part in range(PARTS)]
     failed, too_large = set(), set()
-    with concurrent.futures.ThreadPoolExecutor(os.cpu_count()) as pool:
-        for (name, _, _), found in zip(parts, pool.map(lambda part: cut(program, *part), parts)):
+    signal.signal(signal.SIGALRM, late)
+    with concurrent.futures.ProcessPoolExecutor(os.cpu_count()) as pool:
+        results = pool.map(cut, itertools.repeat(program), *zip(*parts)) if parts else []
+        for (case, _), found in zip(parts, results):
             if found is None:
-                too_large.add(name)
+                too_large.add(case.name)
             for line in (found or [])[:1]:
-                failed.add(name)
+                failed.add(case.name)
                 print(line)
-    passed = len(cases) - len(too_large) - len(failed)
+    passed = len(legal) - len(too_large) - len(failed)
     print(f"{passed} passed, {len(failed)} failed")
     return 1 if failed or not passed else 0
 

@@ -1,88 +1,194 @@
 #!/usr/bin/env python3
-"""Runs the built program on each case of this folder, and compares what it writes and how it ends.
+"""Runs the built program on each case of these folders, and compares what it writes and how it ends.
 
 usage: cases/run.py [PROGRAM] [--only TEXT]
 
-PROGRAM is crates/fa_audit/out/fa_audit of this repository unless it is named. With --only, only the cases whose names
-hold TEXT are run. README.md beside this script says what files a case has. Each failure is printed; the last line is
-'N passed, M failed', and the status is 1 where a case failed or none was run.
+PROGRAM is crates/fa_audit_program/out/fa_audit_program of this repository unless it is named. With --only, only the cases whose names, as
+FOLDER/NAME or FOLDER/NAME row N, hold TEXT are run. README.md beside this script says what files a case has. That
+`messages.py check` finds nothing wrong is one case more. Each failure is printed; the last line is 'N passed, M failed', and the
+status is 1 where a case failed or none was run.
 """
 import argparse
-import bz2
 import os
 import subprocess
 import sys
 import tempfile
 
+import messages
+import rows
+
 HERE = os.path.dirname(os.path.abspath(__file__))
-PROGRAM = os.path.join(HERE, "..", "crates", "fa_audit", "out", "fa_audit")
-OWN_FILES = {"run.py", "cuts.py", "README.md"}
+TOP = os.path.dirname(HERE)
+PROGRAM = os.path.join(TOP, "crates", "fa_audit_program", "out", "fa_audit_program")
 SECONDS = 60
 
 
-def file_of(files, name, kind):
-    """The file of this kind that a case has: its own, or that of the name without its last part, and so on."""
-    while name:
-        for file in (f"{name}.{kind}", f"{name}.{kind}.bz2"):
-            if file in files:
-                return file
-        name = name.rpartition(".")[0]
+def source_of(path):
+    """The file that has the bytes for this path: the file itself, its text, or its packed form."""
+    root, kind = os.path.splitext(path)
+    for source in (path, f"{path}.bz2", *([f"{root}.messages"] if kind == ".cap" else [])):
+        if os.path.isfile(source):
+            return source
     return None
 
 
-def read(file):
-    with open(os.path.join(HERE, file), "rb") as opened:
-        return opened.read()
+def content(source):
+    """The bytes that a file stands for."""
+    data = messages.bytes_of(source)
+    return messages.read(data.decode("ascii")) if source.endswith(".messages") else data
 
 
-def call_of(files, name):
-    """The words of a case's call, and the files that it has."""
-    if f"{name}.args" in files:
-        return read(f"{name}.args").splitlines(), [f"{name}.args"]
-    named = {kind: file_of(files, name, kind) for kind in ("cap", "order", "tree")}
-    words = [b"check"]
-    for option, kind in (("--capture", "cap"), ("--order", "order"), ("--tree", "tree")):
-        if named[kind]:
-            words += [option.encode(), named[kind].encode()]
-    return words, [file for file in named.values() if file]
+def path_in(word):
+    """The path in a word of a call, if it is one: the word, or what stands behind the equals sign of an option."""
+    return os.fsdecode(word.partition(b"=")[2] if word.startswith(b"--") else word)
 
 
-def unpacked(word, room):
-    """A word of a call, where a packed file is one that was unpacked into this folder."""
-    if not word.endswith(b".bz2"):
-        return word
-    with open(os.path.join(room, "unpacked"), "wb") as opened:
-        opened.write(bz2.decompress(read(word.decode())))
-    return opened.name.encode()
+class Case:
+    """A case by its name, FOLDER/NAME. `words` are those of its call, in its folder; `sources` are the files that have the bytes
+    of the paths in them, by path. `shown` are lines that a failure shows."""
+
+    shown = ()
+
+    def __init__(self, name):
+        self.name = name
+        self.folder, self.base = os.path.split(os.path.join(HERE, name))
+        self.words = self.own_words()
+        paths = {path_in(word) for word in self.words}
+        sources = {path: source_of(os.path.join(self.folder, path)) for path in paths if path}
+        self.sources = {path: source for path, source in sources.items() if source}
+
+    def own(self, kind):
+        """The bytes of the case's own file of this kind, if there is one."""
+        path = os.path.join(self.folder, f"{self.base}.{kind}")
+        return messages.bytes_of(path) if os.path.isfile(path) else None
+
+    def shared(self, kind):
+        """The file of this kind that the case has: its own, or that of the name without its last part, and so on."""
+        name = self.base
+        while name and not source_of(os.path.join(self.folder, f"{name}.{kind}")):
+            name = name.rpartition(".")[0]
+        return f"{name}.{kind}" if name else None
+
+    def own_words(self):
+        args = self.own("args")
+        if args is not None:
+            return args.splitlines()
+        words = [b"check"]
+        for option, kind in (("--capture", "cap"), ("--order", "order"), ("--tree", "tree")):
+            file = self.shared(kind)
+            if file:
+                words += [option.encode(), file.encode()]
+        return words
+
+    def expected(self):
+        """What has to be written, and the status."""
+        written, _, status = self.own("expect").rpartition(b"status ")
+        return written, int(status)
+
+    def files(self):
+        """The files that belong to the case."""
+        own = (os.path.join(self.folder, f"{self.base}.{kind}") for kind in ("expect", "args", "stderr", "output"))
+        return {*own, *(os.path.normpath(source) for source in self.sources.values())}
+
+    def laid_out(self, room):
+        """Writes the bytes of the case's files into this folder, as far apart as they lie in the repository. The answer is the
+        folder to call the program in."""
+        folder = os.path.join(room, os.path.relpath(self.folder, TOP))
+        os.makedirs(folder)
+        for path, source in self.sources.items():
+            target = os.path.normpath(os.path.join(folder, path))
+            os.makedirs(os.path.dirname(target), exist_ok=True)
+            with open(target, "wb") as opened:
+                opened.write(content(source))
+        return folder
 
 
-def run(program, words, output):
+class RowCase:
+    """A row as a case, FOLDER/NAME row N. Whether a capture is good is told by cutting the empty order, which leaves it."""
+
+    def __init__(self, path, number, row):
+        self.name = f"{os.path.relpath(path, HERE).removesuffix('.rows')} row {number}"
+        self.path, self.row, self.shown = path, row, row.own
+        files = ["--capture", "cap", "--order", "order"]
+        tree = ["--tree", "tree"] if row.tree() else []
+        self.words = ["cut", *files, "--at", "0"] if row.expected == "good" else ["check", *files, *tree]
+
+    def own(self, _):
+        """No file is of the row alone."""
+
+    def expected(self):
+        """What has to be written, and the status."""
+        written = rows.EMPTY_ORDER if self.row.expected == "good" else f"{self.row.expected}\n"
+        return written.encode("ascii"), self.row.status()
+
+    def files(self):
+        """The file that the row stands in."""
+        return {self.path}
+
+    def laid_out(self, room):
+        """Writes the bytes of the row's files into this folder, which is the answer."""
+        capture, order, tree = messages.read(self.row.messages()), self.row.order(), self.row.tree() or ""
+        for name, data in (("cap", capture), ("order", order.encode("ascii")), ("tree", tree.encode("ascii"))):
+            with open(os.path.join(room, name), "wb") as opened:
+                opened.write(data)
+        return room
+
+
+def files_of(kind):
+    """The names of the files of this kind, as FOLDER/NAME."""
+    for folder, _, files in sorted(os.walk(HERE)):
+        for file in sorted(files):
+            if file.endswith(kind):
+                yield os.path.relpath(os.path.join(folder, file), HERE).removesuffix(kind)
+
+
+def all_cases():
+    """All cases, and then all rows as cases."""
+    yield from (Case(name) for name in files_of(".expect"))
+    for name in files_of(".rows"):
+        path = os.path.join(HERE, f"{name}.rows")
+        for number, row in enumerate(rows.read(messages.bytes_of(path).decode("ascii")), 1):
+            yield RowCase(path, number, row)
+
+
+def run(program, words, folder, output):
     """Runs the program in this folder. What it writes goes to the file `output`, where one is named."""
-    how = {"cwd": HERE, "stdin": subprocess.DEVNULL, "stderr": subprocess.PIPE, "timeout": SECONDS}
+    how = {"cwd": folder, "stdin": subprocess.DEVNULL, "stderr": subprocess.PIPE, "timeout": SECONDS}
     if output is None:
         return subprocess.run([program, *words], stdout=subprocess.PIPE, **how)
     with open(output, "wb") as opened:
         return subprocess.run([program, *words], stdout=opened, **how)
 
 
-def differences(program, words, name, files):
+def differences(program, case):
     """What is not as the case expects it, a line each."""
-    expected, _, status = read(f"{name}.expect").rpartition(b"status ")
-    output = read(f"{name}.output").strip() if f"{name}.output" in files else None
+    output, error = case.own("output"), case.own("stderr")
     try:
+        expected, status = case.expected()
         with tempfile.TemporaryDirectory() as room:
-            ran = run(program, [unpacked(word, room) for word in words], output)
-    except (OSError, subprocess.TimeoutExpired) as error:
-        return [str(error)]
+            ran = run(program, case.words, case.laid_out(room), output and output.strip())
+    except (OSError, ValueError, subprocess.TimeoutExpired) as failure:
+        return [str(failure), *case.shown]
     found = []
     written = ran.stdout or b""
     if written != expected:
         found.append(f"standard output: expected {expected!r}, found {written[:400]!r}")
-    if ran.returncode != int(status):
-        found.append(f"status: expected {int(status)}, found {ran.returncode}")
-    if f"{name}.stderr" in files and ran.stderr != read(f"{name}.stderr"):
-        found.append(f"standard error: expected {read(f'{name}.stderr')!r}, found {ran.stderr[:400]!r}")
-    return found
+    if ran.returncode != status:
+        found.append(f"status: expected {status}, found {ran.returncode}")
+    if error is not None and ran.stderr != error:
+        found.append(f"standard error: expected {error!r}, found {ran.stderr[:400]!r}")
+    return [*found, *case.shown] if found else []
+
+
+def without_a_case(cases):
+    """The files that no case has."""
+    used = set().union(*(case.files() for case in cases))
+    for folder, folders, files in os.walk(HERE):
+        folders[:] = [name for name in folders if name != "__pycache__"]
+        for file in files:
+            path = os.path.join(folder, file)
+            if path not in used and file != "README.md" and not file.endswith(".py"):
+                yield os.path.relpath(path, HERE)
 
 
 def main():
@@ -91,23 +197,17 @@ def main():
     parser.add_argument("--only", default="", metavar="TEXT", help="only the cases whose names hold this text")
     given = parser.parse_args()
     program = os.path.abspath(given.program)
-    files = {entry.name for entry in os.scandir(HERE) if entry.is_file()}
-    names = sorted(file[: -len(".expect")] for file in files if file.endswith(".expect"))
-    used, passed, failed = set(OWN_FILES), 0, 0
-    for name in names:
-        words, its_files = call_of(files, name)
-        used |= {*its_files, f"{name}.expect", f"{name}.stderr", f"{name}.output"}
-        if given.only not in name:
-            continue
-        found = differences(program, words, name, files)
-        passed, failed = passed + (not found), failed + bool(found)
+    cases = list(all_cases())
+    results = [(case.name, differences(program, case)) for case in cases if given.only in case.name]
+    if given.only in "messages.py check":
+        results.append(("messages.py check", messages.check()))
+    results += [(file, ["no case has this file"]) for file in sorted(without_a_case(cases))]
+    for name, found in results:
         for line in found:
             print(f"{name}: {line}")
-    for file in sorted(files - used):
-        print(f"{file}: no case has this file")
-        failed += 1
-    print(f"{passed} passed, {failed} failed")
-    return 1 if failed or not passed else 0
+    failed = sum(1 for _, found in results if found)
+    print(f"{len(results) - failed} passed, {failed} failed")
+    return 1 if failed or failed == len(results) or not cases else 0
 
 
 if __name__ == "__main__":

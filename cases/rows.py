@@ -1,0 +1,44 @@
+"""Short cases, many in a file: reads the text of a NAME.rows. README.md beside this says what such a text has."""
+
+STATUS = {"good": 0, "legal": 0, "fault": 1, "not shown": 2, "tree": 3, "order": 3}
+EMPTY_ORDER = "fuse-order 1\nend\n"
+
+
+class Row:
+    """A row: its own lines, of which the last is what is expected, and all lines in front of that, those that the rows of the text
+    share first."""
+
+    def __init__(self, shared, own):
+        self.own, self.lines, self.expected = own, shared + own[:-1], own[-1] if own else ""
+
+    def behind(self, word):
+        """What stands behind this word on the lines that begin with it."""
+        return [line[len(word) :] for line in self.lines if line.startswith(word)]
+
+    def messages(self):
+        """The text of the capture."""
+        return "".join(f"{line}\n" for line in self.lines if not line.startswith(("tree ", "order ")))
+
+    def tree(self):
+        """The tree text, if the row has a tree."""
+        files = self.behind("tree ")
+        return "\n".join(["fuse-tree 1", "root 755", *files, "end", ""]) if files else None
+
+    def order(self):
+        """The order text."""
+        entries = ", ".join(self.behind("order "))
+        return "\n".join(["fuse-order 1", *(entries.split(", ") if entries else []), "end", ""])
+
+    def status(self):
+        """The status of a call that prints what is expected."""
+        word = self.expected.partition(":")[0]
+        if word not in STATUS:
+            raise ValueError("the row does not end with what is expected")
+        return STATUS[word]
+
+
+def read(text):
+    """The rows of a text."""
+    blocks = (block.split("\n") for block in text.strip("\n").split("\n\n"))
+    shared, *rows = [[line for line in block if line and not line.startswith("#")] for block in blocks]
+    return [Row(shared, own) for own in rows]
