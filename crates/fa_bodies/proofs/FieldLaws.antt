@@ -1,13 +1,15 @@
 -- Fields are read as they are spelled, and bytes have one reading.
-use Rattle.std.proofs.Common.{◌≡◌, ◌≢◌, ℕ, suc, ◌+◌, ◌^◌, ◌<◌, ◌≤◌, List, [], ◌∷◌, ◌++◌, length, get_or, take, drop, All, append_assoc, refl, sym, ap, ◌∙◌, arith, inl, inr}
+use Rattle.std.proofs.Common.{◌≡◌, ◌≢◌, ℕ, ◌+◌, ◌^◌, ◌<◌, ◌≤◌, List, [], ◌∷◌, ◌++◌, length, get_or, take, drop, All, append_assoc, refl, sym, ap, ◌∙◌, arith, inl, inr}
 use Rattle.std.specs.Prelude.{ℤ}
 use Rattle.std.specs.Int.{w32, w64, cast_unsigned, cast_signed, from_le_bytes}
 use Rattle.std.specs.Int.RustNames.{FitsSigned}
 use Rattle.std.proofs.lemmas.Bool.{cases_lt}
-use Rattle.std.proofs.lemmas.List.{take_at, drop_at, take-append-drop, length-append, length-take, get_or-take, get_or_past}
+use Rattle.std.proofs.lemmas.List.{take-append-drop, length-append, length-take, get_or-take, get_or_past}
 use Rattle.std.proofs.lemmas.Nat.{le_bytes_4, le_bytes_8, from_le_bytes-to_le_bytes_4, from_le_bytes-to_le_bytes_8}
 use Rattle.std.proofs.lemmas.Int.{to_z-of_z}
 use Rattle.std.proofs.Math.Facts.{Fits-of_z}
+use Rattle.std.proofs.lemmas.List.Elements.{All-tail}
+use Rattle.fa_capture.proofs.CallerLemmas.{one_front}
 use Rattle.byteorder.specs.Endian.{little_number}
 use Rattle.fa_bodies.specs.Names.{HasNoZero, IsNameByte}
 use Rattle.fa_bodies.specs.Fields.{Field, BeginsWith, byte_count, le32, le64}
@@ -68,17 +70,6 @@ signed-one x y p q e =
 
 -- ---- several fields
 
--- two fronts that are as long as one another, of one list
-pub fronts-one : (x y a b : List ℕ) → length x ≡ length y → x ++ a ≡ y ++ b → (x ≡ y) × (a ≡ b)
-fronts-one x y a b len e = (
-  sym (take_at x a (length x) refl) ∙ ap (take (length x)) e ∙ take_at y b (length x) (sym len),
-  sym (drop_at x a (length x) refl) ∙ ap (drop (length x)) e ∙ drop_at y b (length x) (sym len),
-)
-
--- what holds of each element of a list holds of each behind the first
-each_behind : (P : ℕ → Type 0) (x : ℕ) (xs : List ℕ) → All P (x ∷ xs) → All P xs
-each_behind P x xs each k d less = each (suc k) d (omega (arith, less))
-
 -- bytes without a zero byte end at the first one
 pub ended-one : (x y a b : List ℕ) → HasNoZero x → HasNoZero y → x ++ 0 ∷ a ≡ y ++ 0 ∷ b → (x ≡ y) × (a ≡ b)
 ended-one [] [] a b p q e = (refl, cc)
@@ -87,13 +78,13 @@ ended-one (c ∷ x) [] a b p q e = let first : c ≡ 0 = cc in absurd (p 0 0 (om
 ended-one (c ∷ x) (d ∷ y) a b p q e =
     let first : c ≡ d = cc in
     let later : x ++ 0 ∷ a ≡ y ++ 0 ∷ b = cc in
-    let others = ended-one x y a b (each_behind (λ n. n ≢ 0) c x p) (each_behind (λ n. n ≢ 0) d y q) later in
+    let others = ended-one x y a b (All-tail (λ n. n ≢ 0) c x p) (All-tail (λ n. n ≢ 0) d y q) later in
     (rw (first, others.0) refl, others.1)
 
 -- a list with a zero byte in it has one
 pub zero-inside : (x a : List ℕ) → HasNoZero (x ++ 0 ∷ a) → ⊥
 zero-inside [] a h = h 0 0 (omega arith) refl
-zero-inside (c ∷ x) a h = zero-inside x a (each_behind (λ n. n ≢ 0) c (x ++ 0 ∷ a) h)
+zero-inside (c ∷ x) a h = zero-inside x a (All-tail (λ n. n ≢ 0) c (x ++ 0 ∷ a) h)
 
 -- a name has no zero byte
 pub name-no-zero : (name : List ℕ) → All IsNameByte name → HasNoZero name
@@ -114,25 +105,25 @@ Alike _ _ = ⊥
 pub fields-one : (fs gs : List Field) (bytes r s : List ℕ) → Alike fs gs → BeginsWith bytes fs r → BeginsWith bytes gs s → (fs ≡ gs) × (r ≡ s)
 fields-one [] [] bytes r s alike p q = (refl, sym p ∙ q)
 fields-one (U32 m ∷ fs) (U32 n ∷ gs) bytes r s alike p q =
-    let parts = fronts-one (le32 m) (le32 n) p.1 q.1 (length-le32 m ∙ sym (length-le32 n)) (sym p.2 ∙ q.2) in
+    let parts = one_front (le32 m) (le32 n) p.1 q.1 (length-le32 m ∙ sym (length-le32 n)) (sym p.2 ∙ q.2) in
     let value : m ≡ n = le32-one m n p.0 q.0 parts.0 in
     let moved : BeginsWith p.1 gs s = rw parts.1 q.3 in
     let others = fields-one fs gs p.1 r s alike p.3 moved in
     (rw (value, others.0) refl, others.1)
 fields-one (U64 m ∷ fs) (U64 n ∷ gs) bytes r s alike p q =
-    let parts = fronts-one (le64 m) (le64 n) p.1 q.1 (length-le64 m ∙ sym (length-le64 n)) (sym p.2 ∙ q.2) in
+    let parts = one_front (le64 m) (le64 n) p.1 q.1 (length-le64 m ∙ sym (length-le64 n)) (sym p.2 ∙ q.2) in
     let value : m ≡ n = le64-one m n p.0 q.0 parts.0 in
     let moved : BeginsWith p.1 gs s = rw parts.1 q.3 in
     let others = fields-one fs gs p.1 r s alike p.3 moved in
     (rw (value, others.0) refl, others.1)
 fields-one (I32 x ∷ fs) (I32 y ∷ gs) bytes r s alike p q =
-    let parts = fronts-one (le32 (cast_unsigned w32 x)) (le32 (cast_unsigned w32 y)) p.1 q.1 (length-le32 (cast_unsigned w32 x) ∙ sym (length-le32 (cast_unsigned w32 y))) (sym p.2 ∙ q.2) in
+    let parts = one_front (le32 (cast_unsigned w32 x)) (le32 (cast_unsigned w32 y)) p.1 q.1 (length-le32 (cast_unsigned w32 x) ∙ sym (length-le32 (cast_unsigned w32 y))) (sym p.2 ∙ q.2) in
     let value : x ≡ y = signed-one x y p.0 q.0 parts.0 in
     let moved : BeginsWith p.1 gs s = rw parts.1 q.3 in
     let others = fields-one fs gs p.1 r s alike p.3 moved in
     (rw (value, others.0) refl, others.1)
 fields-one (Unread j ∷ fs) (Unread k ∷ gs) bytes r s alike p q =
-    let parts = fronts-one p.0 q.0 p.1 q.1 (p.2 ∙ alike.0 ∙ sym q.2) (sym p.3 ∙ q.3) in
+    let parts = one_front p.0 q.0 p.1 q.1 (p.2 ∙ alike.0 ∙ sym q.2) (sym p.3 ∙ q.3) in
     let moved : BeginsWith p.1 gs s = rw parts.1 q.4 in
     let others = fields-one fs gs p.1 r s alike.1 p.4 moved in
     (rw (alike.0, others.0) refl, others.1)
@@ -210,4 +201,4 @@ pub rest-one : (fs gs : List Field) (bytes r s : List ℕ) → byte_count fs ≡
 rest-one fs gs bytes r s sized p q =
     let x = front-of fs bytes r p in
     let y = front-of gs bytes s q in
-    (fronts-one x.0 y.0 r s (x.1 ∙ sized ∙ sym y.1) (sym x.2 ∙ y.2)).1
+    (one_front x.0 y.0 r s (x.1 ∙ sized ∙ sym y.1) (sym x.2 ∙ y.2)).1

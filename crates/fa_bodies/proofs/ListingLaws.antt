@@ -8,6 +8,7 @@ use Rattle.std.specs.Int.{w32, cast_unsigned}
 use Rattle.std.proofs.lemmas.List.{take_at, drop_at, length-append, length-drop, drop-drop, length-take-le, take-append-drop}
 use Rattle.std.proofs.lemmas.Bool.{and_parts, and_from, not-true, eqb-false, ne_eqb, leb-true, leb-false, le-leb, cond_both, true≢false, false≢true}
 use Rattle.std.proofs.lemmas.List.Sums.{AllPass-from_list_all, list_all-from_AllPass}
+use Rattle.fa_capture.proofs.CallerLemmas.{one_front}
 use Rattle.fa_bodies.specs.declared.dirent.DirentHead.{DirentHead}
 use Rattle.fa_bodies.specs.declared.entry.EntryOut.{EntryOut}
 use Rattle.fa_bodies.specs.declared.names.TheConstants.{MAX_NAME}
@@ -17,7 +18,7 @@ use Rattle.fa_bodies.specs.Structs.{dirent_head, attr, entry_out}
 use Rattle.fa_bodies.specs.Names.{IsFilename}
 use Rattle.fa_bodies.specs.Dirents.{PlainDirent, HasEntry, IsPaddedName, IsDirent, AreEntries, HasNoDirent, HoldsEntries}
 use Rattle.fa_bodies.specs.Listing.{u32_in, u64_in, attributes_in, entry_out_in, is_listed_name, padded, first_dirent, first_entry, first_entries, entries_in}
-use Rattle.fa_bodies.proofs.FieldLaws.{IsBytes, u32_parts, length-fields, fields-one, fronts-one, then_fields}
+use Rattle.fa_bodies.proofs.FieldLaws.{IsBytes, u32_parts, length-fields, fields-one, then_fields}
 use Rattle.fa_bodies.proofs.StructLaws.{entry-one}
 use Rattle.fa_bodies.proofs.ItemLaws.{byte_in, u64_begins, IsBytes-drop}
 
@@ -110,9 +111,9 @@ head-one i o n k i' o' n' k' bytes r s p q =
 name-one : (bytes x y r s : List ℕ) → length x ≡ length y → IsPaddedName bytes x r → IsPaddedName bytes y s → (x ≡ y) × (r ≡ s)
 name-one bytes x y r s len p q =
     let e : x ++ (p.padding ++ r) ≡ y ++ (q.padding ++ s) = sym (append_assoc x p.padding r) ∙ sym p.spelled ∙ q.spelled ∙ append_assoc y q.padding s in
-    let names = fronts-one x y (p.padding ++ r) (q.padding ++ s) len e in
+    let names = one_front x y (p.padding ++ r) (q.padding ++ s) len e in
     let pads : length p.padding ≡ length q.padding = omega (arith, p.aligned, p.least, q.aligned, q.least, len) in
-    (names.0, (fronts-one p.padding q.padding r s pads names.1).1)
+    (names.0, (one_front p.padding q.padding r s pads names.1).1)
 
 -- a directory entry
 pub dirent-one : (plus : Bool) (bytes : List ℕ) (a b : PlainDirent) (r s : List ℕ) → IsDirent plus bytes a r → IsDirent plus bytes b s → (a ≡ b) × (r ≡ s)

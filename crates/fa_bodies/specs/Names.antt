@@ -18,9 +18,13 @@ pub record IsName (name : List ℕ) : Type 0 where
   pub not_dot : name ≢ codes "."
   pub not_dot_dot : name ≢ codes ".."
 
+-- none of the bytes is this one
+abbrev pub LacksByte : (byte : ℕ) → List ℕ → Type 0
+LacksByte byte bytes = All (λ b. b ≢ byte) bytes
+
 -- no byte is zero
 abbrev pub HasNoZero : List ℕ → Type 0
-HasNoZero bytes = All (λ b. b ≢ 0) bytes
+HasNoZero bytes = LacksByte 0 bytes
 
 -- The target of a symbolic link (POSIX symlink): one byte or more, none of them zero. Slashes, `.` and
 -- `..` may stand in it.

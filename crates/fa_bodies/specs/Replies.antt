@@ -45,6 +45,10 @@ reply_shown (declared.Listed walk) = Listed (entries_left walk)
 reply_shown (declared.Negotiated n) = InitAnswer n
 reply_shown declared.Skipped = Skipped
 
+-- the reply is an error
+abbrev pub IsError : PlainReply → Type 0
+IsError reply = (error : ℤ) × (reply ≡ Refused error)
+
 -- an error that a reply may have here: -999 to 0
 abbrev pub IsErrorValue : ℤ → Type 0
 IsErrorValue error = (negsuc 998 ≤ℤ error) × (error ≤ℤ pos 0)  -- negsuc 998 is -999

@@ -34,6 +34,22 @@ pub struct Negotiated {
     pub flags: InitFlags,
 }
 
+impl InitIn {
+    ghost use Rattle.std.specs.Prelude.{◌≡◌, ◌↔◌, ℕ};
+    ghost use Rattle.std.specs.Int.RustNames.{bit_and};
+    ghost use Rattle.fa_bodies.specs.Flags.{HasFlag, init_bits};
+
+    /// The flags that are agreed: those that the answer sets too.
+    ///
+    /// Takes no memory, in constant time.
+    pub fn agreed(&self, answer: &Negotiated) -> InitFlags
+        ensures bits { init_bits result ≡ bit_and (init_bits self.now.flags) (init_bits answer.now.flags) }
+        ensures both { (flag : ℕ) → HasFlag (init_bits result) flag ↔ (HasFlag (init_bits self.now.flags) flag × HasFlag (init_bits answer.now.flags) flag) }
+    {
+        InitFlags::from_bits_retain(self.flags.bits() & answer.flags.bits())
+    }
+}
+
 impl Block for InitIn {
     const LEN: usize = 16;
 

@@ -1,7 +1,7 @@
 //! Names and targets in requests.
 
 ghost use Rattle.std.specs.Prelude.{◌≡◌, ◌↔◌, ℕ, List, [], ◌∷◌, ◌++◌, IsTrue, IfSome, IfNone};
-ghost use Rattle.fa_bodies.specs.Names.{HasNoZero, IsFilename, IsName, IsTarget};
+ghost use Rattle.fa_bodies.specs.Names.{LacksByte, IsFilename, IsName, IsTarget};
 ghost use Rattle.fa_bodies.specs.Fields.{BeginsWith, IsSpelled};
 ghost use Rattle.fa_bodies.specs.Fields.Field.{Name, Target};
 
@@ -35,16 +35,17 @@ pub fn is_target(bytes: &[u8]) -> bool
     !bytes.is_empty() && bytes.iter().all(|b| *b != 0)
 }
 
-/// The bytes before the first zero byte, and those behind it.
-fn until_zero(bytes: &[u8]) -> Option<(&[u8], &[u8])>
-    ensures found { IfSome result
-        (λ r. HasNoZero r.0.now × (bytes.now ≡ r.0.now ++ 0 ∷ r.1.now)) }
-    ensures none { IfNone result (HasNoZero bytes.now) }
+/// The bytes before the first of this value, and those behind it.
+///
+/// Takes no memory, in time linear in the bytes.
+pub fn split_at_byte(bytes: &[u8], byte: u8) -> Option<(&[u8], &[u8])>
+    ensures found { IfSome result (λ r. LacksByte byte r.0.now × (bytes.now ≡ r.0.now ++ byte ∷ r.1.now)) }
+    ensures none { IfNone result (LacksByte byte bytes.now) }
 {
-    let end = bytes.iter().position(|b| *b == 0)?;
-    let (front, ended) = bytes.split_at(end);
-    let (_zero, behind) = ended.split_at(1);
-    Some((front, behind))
+    let place = bytes.iter().position(|b| *b == byte)?;
+    let (front, behind) = bytes.split_at(place);
+    let (_byte, rest) = behind.split_at(1);
+    Some((front, rest))
 }
 
 /// The name at the front of bytes, and what stands behind the zero byte that ends it.
@@ -53,7 +54,7 @@ pub(crate) fn name_at(bytes: &[u8]) -> Option<(&[u8], &[u8])>
     ensures none { IfNone result
         ((name rest : List ℕ) → BeginsWith bytes.now (Name name ∷ []) rest → ⊥) }
 {
-    let (name, rest) = until_zero(bytes)?;
+    let (name, rest) = split_at_byte(bytes, 0)?;
     if is_name(name) {
         Some((name, rest))
     } else {

@@ -1,8 +1,21 @@
 -- The lemmas for the crates above.
 
 -- ordered checks: the code that is told, lists of checks one after the other, and rules that are checked in two ways
-pub use Rattle.fa_capture.proofs.ChecksLemmas.{no_failure, one_failure, checks_either, fails_first, fails_behind, hold_both, hold_later, hold_front, lifted_failure, lifted_hold}
+pub use Rattle.fa_capture.proofs.ChecksLemmas.{no_failure, one_failure, checks_either, fails_first, fails_behind, hold_both, hold_later, hold_front, lifted_failure, lifted_hold, HaveNot, not_told}
 -- two readings of the same bytes agree
 pub use Rattle.fa_capture.proofs.ReadingLemmas.{one_reading_lem as one_reading}
 -- bytes have a reading
 pub use Rattle.fa_capture.proofs.ReadingThereLemmas.{reading_is_there}
+-- packets are as many as their messages
+pub use Rattle.fa_capture.proofs.ReadingLemmas.{messages_length}
+-- bytes with as many in front
+pub use Rattle.fa_capture.proofs.FramingLemmas.{one_front}
+-- lists: places, parts, elements, fronts
+pub use Rattle.fa_capture.proofs.ListLemmas.{get_of_front, get_in_front, get_from_drop, same_parts, longer_front, parts_at, contains_longer, contains_front}
+pub use Rattle.fa_capture.proofs.ListLemmas.{contains_cases, contains_first, contains_behind, contains_decided, counted_there, all_middle, pairs_before, pairs_behind}
+-- one element more
+pub use Rattle.fa_capture.proofs.ListLemmas.{get_kept, get_back, get_last, get_cases, take_before, take_all_before, snoc_cases, take_with_next, take_one_more}
+-- lists in order, and numbers that rise
+pub use Rattle.fa_capture.proofs.ListLemmas.{pairs_tail, same_order, first_least, rising_is_one, rising_within}
+-- what is written, what a search finds, and tables
+pub use Rattle.fa_capture.proofs.ListLemmas.{get_set_same, get_set_other, get_set_back, position_found, position_first, position_none, found_alike}

@@ -84,3 +84,17 @@ lifted_failure f g each (rule ∷ rules) code fails =
 pub lifted_hold : {S : Type 1} (f g : S → Type 0) → ((x : S) → (f x → g x) × (g x → f x)) → (rules : List (ℕ × S)) → AllHold (checks_of f rules) → AllHold (checks_of g rules)
 lifted_hold f g each [] hold = hold
 lifted_hold f g each (rule ∷ rules) hold = ((each rule.1).0 hold.0, lifted_hold f g each rules hold.1)
+
+-- none of these checks has the code
+abbrev pub HaveNot : ℕ → List (ℕ × Type 0) → Type 0
+HaveNot code [] = Unit {0}
+HaveNot code (check ∷ checks) = (code ≡ check.0 → ⊥) × HaveNot code checks
+
+-- so it is not told
+pub not_told : (code : ℕ) (checks : List (ℕ × Type 0)) → HaveNot code checks → FirstFailure checks code → ⊥
+not_told code [] others fails = fails
+not_told code (check ∷ checks) others fails =
+    elim fails [
+      | inl here ↦ others.0 here.1
+      | inr later ↦ not_told code checks others.1 later.1
+    ]

@@ -23,7 +23,7 @@ one_length a b x y a_fits b_fits e =
     (sym (from_le_bytes-to_le_bytes_4 a a_fits) ∙ ap (from_le_bytes w32) bytes ∙ from_le_bytes-to_le_bytes_4 b b_fits, rest)
 
 -- as many bytes in front
-one_front : (a b x y : List ℕ) → length a ≡ length b → a ++ x ≡ b ++ y → (a ≡ b) × (x ≡ y)
+pub one_front : (a b x y : List ℕ) → length a ≡ length b → a ++ x ≡ b ++ y → (a ≡ b) × (x ≡ y)
 one_front a b x y same e = (
   sym (take_at a x (length b) same) ∙ ap (take (length b)) e ∙ take_at b y (length b) refl,
   sym (drop_at a x (length b) same) ∙ ap (drop (length b)) e ∙ drop_at b y (length b) refl,

@@ -5,3 +5,4 @@ pub mod ReadingLemmas
 pub mod ReadingThereLemmas
 pub mod PullLemmas
 pub mod FrontLemmas
+pub mod ListLemmas

@@ -235,7 +235,7 @@ spelled_length bytes left ms spelled =
     let sum : length bytes ≡ length (capture_spelling ms) + length left = ap length spelled ∙ length-append (capture_spelling ms) left in
     omega (arith, sum)
 
-messages_length : (ps : List Packet) → length (messages ps) ≡ length ps
+pub messages_length : (ps : List Packet) → length (messages ps) ≡ length ps
 messages_length ps = length-map ps message
 
 -- what the place of a record is, by the packets before it

@@ -14,6 +14,13 @@ pub use Rattle.fa_check.proofs.VerdictLemmas.{verdict_is_one}
 pub use Rattle.fa_check.proofs.ThereLemmas.{verdict_is_there}
 -- a run leads to one tree
 pub use Rattle.fa_check.proofs.RunLemmas.{run_is_one, run_more, run_at}
+-- the calls of messages
+pub use Rattle.fa_check.proofs.MessageLemmas.{tree_is_call, call_answered, call_unanswered, call_of_message, asked_rise, one_place, one_answered}
+-- an order is valid exactly where each entry passes the checks of its place
+pub use Rattle.fa_check.proofs.OrderLemmas.{valid_where_each_is_placed, placed_valid, number_more, number_still, number_now}
+-- one entry more, and an order without a fault
+pub use Rattle.fa_check.proofs.EntryLemmas.{each_more, choice_allowed}
+pub use Rattle.fa_check.proofs.FaultLemmas.{placed_no_fault}
 -- an order has one cut
 pub use Rattle.fa_check.proofs.CutOneLemmas.{cut_is_one}
 -- what may come next, and what a replay says of it

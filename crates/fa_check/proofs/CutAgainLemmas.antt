@@ -3,18 +3,19 @@
 use Rattle.std.proofs.Common.{◌≡◌, ℕ, ◌<◌, ◌≤◌, List, [], ◌∷◌, ◌++◌, append_assoc, take, refl, sym, ap, subst, ◌∙◌, inl, inr, arith}
 use Rattle.std.specs.Prelude.{All, Contains, get_or}
 use Rattle.std.proofs.lemmas.List.Elements.{All-contains, Contains-append_cases, Contains-append_left, Contains-get_or}
+use Rattle.std.proofs.lemmas.List.{take-take}
 use Rattle.fa_capture.specs.Message.{Message}
+use Rattle.fa_capture.proofs.CallerLemmas.{get_of_front, contains_first, contains_behind}
 use Rattle.fa_bodies.specs.Requests.{PlainRequest}
 use Rattle.fa_bodies.specs.Replies.{PlainReply}
 use Rattle.fa_session.specs.Answers.{Answers, IsAnsweredBy, IsRepliedAt}
-use Rattle.fa_session.proofs.CallerLemmas.{get_of_front, answer_after}
-use Rattle.fa_ledger.proofs.CallerLemmas.{take_front, answers_of_front}
+use Rattle.fa_session.proofs.CallerLemmas.{answer_after}
+use Rattle.fa_ledger.proofs.CallerLemmas.{answers_of_front}
 use Rattle.fa_order.specs.declared.entry.Entry.{Entry}
 use Rattle.fa_check.specs.Orders.{IsTreeRequestAt}
 use Rattle.fa_check.specs.Faults.{EachPlaced}
 use Rattle.fa_check.specs.Cuts.{IsAnsweredBefore, IsRepliedLate, Goes, Stays, AreLeft, IsAnsweredEntry, IsCut}
 use Rattle.fa_check.specs.Laws.{CutAgain, NoOrderStays}
-use Rattle.fa_check.proofs.ListLemmas.{contains_first, contains_behind}
 use Rattle.fa_check.proofs.OrderLemmas.{number_of, number_in}
 use Rattle.fa_check.proofs.CutLemmas.{not_late, answered_of_front, answered_in_front, tree_of_front, tree_in_front}
 use Rattle.fa_check.proofs.CutLemmas.{stays_at, done_left, left_at, front_sent}
@@ -31,7 +32,7 @@ module _ (c : List Message) (k m : ℕ) (earlier : k ≤ m) where
       let q : ℕ = late.0 in
       let at : IsRepliedAt (take m c) q p r reply = late.1 in
       let below : q < m = (answers_of_front c m q p r (at.0, at.1, at.2)).0 in
-      let before : take q (take m c) ≡ take q c = take_front c q m (omega (arith, below)) in
+      let before : take q (take m c) ≡ take q c = take-take q m c (omega (arith, below)) in
       (q, (at.0, get_of_front c m q at.0 at.1, subst (λ (xs : List Message). Answers xs at.0 p r) before at.2, at.3), late.2)
 
   -- and it answers before m

@@ -6,6 +6,7 @@ use Rattle.std.proofs.lemmas.List.{length-append}
 use Rattle.std.proofs.lemmas.List.Elements.{All-contains, Contains-append_cases}
 use Rattle.fa_capture.specs.Checks.{AllHold}
 use Rattle.fa_capture.specs.Message.{Message}
+use Rattle.fa_capture.proofs.CallerLemmas.{contains_cases, contains_first, contains_behind, pairs_before, snoc_cases}
 use Rattle.fa_bodies.specs.Requests.{PlainRequest, PlainBody}
 use Rattle.fa_bodies.specs.Requests.PlainBody.{Lookup, Forget, Getattr, Readlink, Read, Write, Release, Flush, Init, Opendir, Readdir, Releasedir, BatchForget, Readdirplus, Passed}
 use Rattle.fa_bodies.specs.Replies.{PlainReply, IsSuccessBody, IsReply}
@@ -13,14 +14,13 @@ use Rattle.fa_bodies.proofs.CallerLemmas.{request_is_one}
 use Rattle.fa_session.specs.Answers.{AnswersAt, IsAnsweredBy, IsRepliedAt}
 use Rattle.fa_session.proofs.CallerLemmas.{one_request, answered_once, answered_asked, answer_after}
 use Rattle.fa_ledger.specs.Choices.{MayBePlaced}
-use Rattle.fa_ledger.specs.Kinds.{IsTreeRequest, IsReadingRequest}
+use Rattle.fa_ledger.specs.Kinds.{IsTreeRequest, IsReadingRequest, KeepsTree}
 use Rattle.fa_ledger.proofs.CallerLemmas.{asked_of_front, asked_in_front, answers_of_front, answers_in_front}
 use Rattle.fa_tree.specs.Outcomes.{count_by_reply}
 use Rattle.fa_order.specs.declared.entry.Entry.{Entry}
 use Rattle.fa_check.specs.Orders.{IsTreeRequestAt, numbers, IsChoice, IsValidOrder}
 use Rattle.fa_check.specs.Faults.{order_checks, EachPlaced, IsAnsweredUnplaced}
-use Rattle.fa_check.specs.Cuts.{IsAnsweredBefore, IsRepliedLate, LeavesNothing, wrote_without, Stays, AreLeft, IsAnsweredEntry, IsCut}
-use Rattle.fa_check.proofs.ListLemmas.{contains_cases, contains_first, contains_behind, pairs_before, snoc_cases}
+use Rattle.fa_check.specs.Cuts.{IsAnsweredBefore, IsRepliedLate, wrote_without, Stays, AreLeft, IsAnsweredEntry, IsCut}
 use Rattle.fa_check.proofs.OrderLemmas.{placed_precedence, placed_valid, number_of, number_in}
 
 -- ---- answers
@@ -61,13 +61,13 @@ stays_at c m e left (tree, inl same) = ap (λ (x : Entry). x.at) same.1
 stays_at c m e left (tree, inr lost) = ap (λ (x : Entry). x.at) lost.4
 
 -- a number that is left was there
-left_there : (c : List Message) (m : ℕ) (es left : List Entry) → AreLeft c m es left → (p : ℕ) → Contains (numbers left) p → Contains (numbers es) p
-left_there c m [] left are p has = subst (λ (xs : List Entry). Contains (numbers xs) p) are has
-left_there c m (e ∷ es) left (inl gone) p has = contains_behind e.at (numbers es) p (left_there c m es left gone.1 p has)
-left_there c m (e ∷ es) left (inr (f, rest, is, stays, are)) p has =
+numbers_left : (c : List Message) (m : ℕ) (es left : List Entry) → AreLeft c m es left → (p : ℕ) → Contains (numbers left) p → Contains (numbers es) p
+numbers_left c m [] left are p has = subst (λ (xs : List Entry). Contains (numbers xs) p) are has
+numbers_left c m (e ∷ es) left (inl gone) p has = contains_behind e.at (numbers es) p (numbers_left c m es left gone.1 p has)
+numbers_left c m (e ∷ es) left (inr (f, rest, is, stays, are)) p has =
     elim (contains_cases f.at (numbers rest) p (subst (λ (xs : List Entry). Contains (numbers xs) p) is has)) [
       | inl here ↦ subst (Contains (numbers (e ∷ es))) (sym (stays_at c m e f stays) ∙ here) (contains_first e.at (numbers es))
-      | inr behind ↦ contains_behind e.at (numbers es) p (left_there c m es rest are p behind)
+      | inr behind ↦ contains_behind e.at (numbers es) p (numbers_left c m es rest are p behind)
     ]
 
 -- one that was done before m is left
@@ -164,7 +164,7 @@ may_be_left opcode (Readdirplus r) bytes reply tree changes says = absurd (chang
 may_be_left opcode Passed bytes reply tree changes says = absurd tree
 may_be_left opcode other bytes reply tree changes says = refl
 
-reply_left : (r : PlainRequest) (bytes : List ℕ) (reply : PlainReply) → IsTreeRequest r.body → (LeavesNothing r reply → ⊥) → IsReply r bytes reply → MayBePlaced r.body (wrote_without r.body reply None)
+reply_left : (r : PlainRequest) (bytes : List ℕ) (reply : PlainReply) → IsTreeRequest r.body → (KeepsTree r reply → ⊥) → IsReply r bytes reply → MayBePlaced r.body (wrote_without r.body reply None)
 reply_left r bytes reply tree leaves is =
     elim is.body [
       | inl success ↦ may_be_left r.opcode r.body is.head.body_bytes reply tree (λ reads. leaves (inr reads)) success.1
@@ -180,7 +180,7 @@ module _ (c : List Message) (m : ℕ) (e : Entry) (choice : IsChoice c e) where
         choice.unanswered (λ q by. none q (by.0, answers_in_front c m q e.at by.0 (early q by) by.1)) r (asked_of_front c m e.at r asked).1;
   }
 
-  module _ (tree : IsTreeRequestAt c e.at) (r : PlainRequest) (reply : PlainReply) (late : IsRepliedLate c m e.at r reply) (leaves : LeavesNothing r reply → ⊥) where
+  module _ (tree : IsTreeRequestAt c e.at) (r : PlainRequest) (reply : PlainReply) (late : IsRepliedLate c m e.at r reply) (leaves : KeepsTree r reply → ⊥) where
     answers : AnswersAt c late.0 e.at r
     answers = replied_answers c late.0 e.at r reply late.1
 
@@ -255,7 +255,7 @@ module _ (c : List Message) (m : ℕ) (es cut : List Entry) (placed : EachPlaced
       let hold = front_placed of.before of.after of.entry of.parts in (
         subst (IsTreeRequestAt (take m c)) (sym at) (tree_in_front c m of.entry.at sent hold.0),
         (
-          (λ has. hold.1.0 (subst (Contains (numbers of.before)) at (left_there c m of.before earlier of.left f.at has))),
+          (λ has. hold.1.0 (subst (Contains (numbers of.before)) at (numbers_left c m of.before earlier of.left f.at has))),
           (
             (λ p q asked by before.
                 let tree : IsTreeRequestAt c p = tree_of_front c m p asked in

@@ -5,16 +5,17 @@ use Rattle.std.proofs.lemmas.Bool.{cases_lt}
 use Rattle.std.proofs.lemmas.Option.{same_Some}
 use Rattle.std.proofs.lemmas.List.Elements.{All-contains}
 use Rattle.fa_capture.specs.Message.{Message}
+use Rattle.fa_capture.proofs.CallerLemmas.{contains_first, contains_behind}
 use Rattle.fa_bodies.specs.Requests.{PlainRequest}
 use Rattle.fa_bodies.specs.Replies.{PlainReply, IsReply}
 use Rattle.fa_bodies.proofs.CallerLemmas.{request_is_one, reply_is_one}
 use Rattle.fa_session.specs.Answers.{AnswersAt, IsRepliedAt}
 use Rattle.fa_session.proofs.CallerLemmas.{one_request, answered_once, answered_asked}
+use Rattle.fa_ledger.specs.Kinds.{KeepsTree}
 use Rattle.fa_order.specs.declared.entry.Entry.{Entry}
 use Rattle.fa_check.specs.declared.verdict.Verdict.TheVariants.{Legal, Fault, NotShown}
-use Rattle.fa_check.specs.Cuts.{IsRepliedLate, LeavesNothing, wrote_without, Goes, StaysSame, Stays, AreLeft, IsAnsweredEntry, IsCut}
+use Rattle.fa_check.specs.Cuts.{IsRepliedLate, wrote_without, Goes, StaysSame, Stays, AreLeft, IsAnsweredEntry, IsCut}
 use Rattle.fa_check.specs.Laws.{CutIsOne, CutIsToldLegal}
-use Rattle.fa_check.proofs.ListLemmas.{contains_first, contains_behind}
 use Rattle.fa_check.proofs.FaultLemmas.{legal_has_no_fault}
 use Rattle.fa_check.proofs.CutRunLemmas.{cut_is_legal}
 
@@ -46,7 +47,7 @@ not_both c m e left (inl none) stays = none stays.0
 not_both c m e left (inr (r, reply, late, leaves)) (tree, inl same) = stays_early c m e left r reply same late
 not_both c m e left (inr (r, reply, late, leaves)) (tree, inr (s, other, later, keeps, is)) =
     let one = one_reply c m e.at r s reply other late later in
-    keeps (subst (λ (x : PlainReply). LeavesNothing s x) one.1 (subst (λ (x : PlainRequest). LeavesNothing x reply) one.0 leaves))
+    keeps (subst (λ (x : PlainReply). KeepsTree s x) one.1 (subst (λ (x : PlainRequest). KeepsTree x reply) one.0 leaves))
 
 -- one is left of it
 one_stays : (c : List Message) (m : ℕ) (e left other : Entry) → Stays c m e left → Stays c m e other → left ≡ other

@@ -4,10 +4,9 @@ use Rattle.std.proofs.Common.{◌≡◌, ◌⊎◌, ℕ, suc, ◌<◌, ◌≤◌
 use Rattle.std.specs.Prelude.{slice_get, Contains}
 use Rattle.std.specs.Option.{option_map_or}
 use Rattle.std.proofs.lemmas.Option.{slice_get_within, same_Some}
-use Rattle.std.proofs.lemmas.List.{length-take}
-use Rattle.fa_capture.specs.declared.codes.TheConstants.{UNKNOWN_HERE}
-use Rattle.fa_capture.specs.Checks.{FirstFailure}
+use Rattle.std.proofs.lemmas.List.{length-take, take-take}
 use Rattle.fa_capture.specs.Message.{Message}
+use Rattle.fa_capture.proofs.CallerLemmas.{contains_cases, contains_first, contains_behind}
 use Rattle.fa_bodies.specs.Dirents.{PlainDirent}
 use Rattle.fa_bodies.specs.Requests.{PlainRequest, PlainBody}
 use Rattle.fa_bodies.specs.Requests.PlainBody.{Write}
@@ -17,27 +16,24 @@ use Rattle.fa_session.specs.Answers.{AnswersAt, IsAnsweredBy, IsRepliedAt}
 use Rattle.fa_session.specs.Events.{PlainEvent, IsEvent}
 use Rattle.fa_session.specs.Events.PlainEvent.{Answered}
 use Rattle.fa_ledger.specs.Events.{AreEvents}
-use Rattle.fa_ledger.specs.Kinds.{IsReadingRequest}
+use Rattle.fa_ledger.specs.Kinds.{IsReadingRequest, KeepsTree}
 use Rattle.fa_ledger.specs.Listings.{offset_asked, IsListingIfAny}
 use Rattle.fa_ledger.specs.Calls.{PlainAnswer, PlainCall, IsHandleUsed, IsAnswerOf, HasAnswer}
-use Rattle.fa_ledger.proofs.CallerLemmas.{element_at, event_is_one, take_front, events_front, good_front, unanswered, call_in_front, call_cut_off, answers_at}
+use Rattle.fa_ledger.proofs.CallerLemmas.{element_at, event_is_one, events_front, good_front, unanswered, call_in_front, call_cut_off, answers_at, IsTreeAnswer, HasReply, lists_directory, handle_opened, call_replied}
 use Rattle.fa_tree.specs.State.{TreeState}
-use Rattle.fa_tree.specs.Resolved.{Resolved, resolved}
+use Rattle.fa_tree.specs.Resolved.{resolved}
 use Rattle.fa_tree.specs.Answers.{IsAnswerTo}
 use Rattle.fa_tree.specs.Outcomes.{outcome, outcome_by, count_by_reply, count_written}
 use Rattle.fa_tree.specs.Outcomes.Outcome.{Fails, Succeeds, Unanswered}
-use Rattle.fa_tree.specs.Steps.{checks_of_files, step_checks}
-use Rattle.fa_tree.proofs.CallerLemmas.{IsPartOf, whole_part, UsesKept, OpensNone, step_same, step_failed, step_read, step_lost, step_answers}
+use Rattle.fa_tree.proofs.CallerLemmas.{IsPartOf, whole_part, UsesKept, OpensNone, step_same, step_failed, step_read, step_lost, step_answers, unknown_by}
 use Rattle.fa_order.specs.declared.entry.Entry.{Entry}
 use Rattle.fa_check.specs.Orders.{IsTreeRequestAt, IsChoice}
 use Rattle.fa_check.specs.Runs.{IsListedFrom, IsCallAt, EntrySteps, Runs}
 use Rattle.fa_check.specs.Faults.{EachPlaced}
-use Rattle.fa_check.specs.Cuts.{IsAnsweredBefore, IsRepliedLate, LeavesNothing, wrote_without, Goes, Stays, AreLeft}
+use Rattle.fa_check.specs.Cuts.{IsAnsweredBefore, IsRepliedLate, wrote_without, Goes, Stays, AreLeft}
 use Rattle.fa_check.specs.Laws.{CutIsLegal, ExplainedIsLegalCut, LegalExplains, ExplainsAllIsLegal}
-use Rattle.fa_check.proofs.ListLemmas.{contains_cases, contains_first, contains_behind}
 use Rattle.fa_check.proofs.OrderLemmas.{valid_placed, placed_valid}
 use Rattle.fa_check.proofs.RunLemmas.{run_more}
-use Rattle.fa_check.proofs.NamingLemmas.{IsTreeAnswer, HasReply, lists_directory, handle_opened, call_replied}
 use Rattle.fa_check.proofs.UnknownLemmas.{step_known}
 use Rattle.fa_check.proofs.CutLemmas.{not_late, stays_at, front_placed, front_sent, cut_placed, cut_valid}
 
@@ -49,7 +45,7 @@ module _ (c : List Message) (m p : ℕ) (call : PlainCall) (so_far : List PlainD
 
   listed_front : IsListedFrom (take p (take m is.events)) call.request (offset_asked call.request.body) so_far
   listed_front =
-      subst (λ (before : List PlainEvent). IsListedFrom before call.request (offset_asked call.request.body) so_far) (sym (take_front is.events p m (omega (arith, below)))) is.listed
+      subst (λ (before : List PlainEvent). IsListedFrom before call.request (offset_asked call.request.body) so_far) (sym (take-take p m is.events (omega (arith, below)))) is.listed
 
   -- a call that is not answered late is one of them
   same_call : ((answer : PlainAnswer) → call.answer ≡ Some answer → answer.at < m) → IsCallAt (take m c) p call so_far
@@ -169,7 +165,7 @@ module _ (c : List Message) (m : ℕ) (whole new part : TreeState) (e : Entry) (
         (uses_before c m e.at step.call step.so_far step.of_request below) in
         (followed.0, record { call = step.call; so_far = step.so_far; of_request = of; steps = followed.1 }, followed.2)
 
-    stays_without : (r : PlainRequest) (reply : PlainReply) → IsRepliedLate c m e.at r reply → (LeavesNothing r reply → ⊥) → Follows (record { at = e.at; wrote = wrote_without r.body reply e.wrote })
+    stays_without : (r : PlainRequest) (reply : PlainReply) → IsRepliedLate c m e.at r reply → (KeepsTree r reply → ⊥) → Follows (record { at = e.at; wrote = wrote_without r.body reply e.wrote })
     stays_without r reply late leaves =
         let call = step.call in
         let has = late_reply c m e.at call step.so_far step.of_request r reply tree late in
@@ -207,12 +203,6 @@ run_front c first last (e ∷ es) later run =
     let rest = run_front c run.0 last es later run.2 in
     (rest.0, (run.0, run.1, rest.1))
 
--- behind the entries that are left before it, the part knows what the call of an entry names
-unknown_fails : (t : TreeState) (call : PlainCall) (wrote : Option ℕ) (so_far : List PlainDirent) → resolved t call ≡ None → FirstFailure (step_checks t call wrote so_far) UNKNOWN_HERE
-unknown_fails t call wrote so_far none =
-    let told : FirstFailure (checks_of_files t call (count_written call wrote) so_far None) UNKNOWN_HERE = inl ((λ never. never), refl) in
-    subst (λ (files : Option Resolved). FirstFailure (checks_of_files t call (count_written call wrote) so_far files) UNKNOWN_HERE) (sym none) told
-
 -- what holds of each entry of the front
 pub record IsInFront (c : List Message) (m : ℕ) (e : Entry) : Type 0 where
   pub below : e.at < m
@@ -220,11 +210,12 @@ pub record IsInFront (c : List Message) (m : ℕ) (e : Entry) : Type 0 where
   pub choice : IsChoice c e
 
 module _ (c : List Message) (m : ℕ) (first : TreeState) (cut : List Entry) (placed : EachPlaced (take m c) cut) where
+  -- behind the entries that are left before it, the part knows what the call of an entry names
   known_left : (earlier later : List Entry) (left : Entry) (part : TreeState) → cut ≡ earlier ++ left ∷ later → Runs first part (take m c) earlier
       → (call : PlainCall) (so_far : List PlainDirent) → IsCallAt (take m c) left.at call so_far → resolved part call ≡ None → ⊥
   known_left earlier later left part parts run call so_far of none =
       step_known (take m c) first part earlier left run (placed earlier later left parts).1.1.0
-      (record { call = call; so_far = so_far; of_request = of; fails = unknown_fails part call left.wrote so_far none })
+      (record { call = call; so_far = so_far; of_request = of; fails = unknown_by part call left.wrote so_far none })
 
   -- what is left of a run goes along with it
   cut_run : (es left earlier : List Entry) (whole part last : TreeState) → ((e : Entry) → Contains es e → IsInFront c m e) → AreLeft c m es left → cut ≡ earlier ++ left

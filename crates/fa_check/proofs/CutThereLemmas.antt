@@ -4,21 +4,21 @@ use Rattle.std.specs.Prelude.{All, map, slice_get}
 use Rattle.std.proofs.lemmas.Bool.{cases_lt}
 use Rattle.std.proofs.lemmas.List.Elements.{All-nil, All-cons}
 use Rattle.fa_capture.specs.Message.{Message}
+use Rattle.fa_capture.proofs.CallerLemmas.{contains_decided}
 use Rattle.fa_bodies.specs.Requests.{PlainRequest, PlainBody}
 use Rattle.fa_bodies.specs.Requests.PlainBody.{Lookup, Getattr, Readlink, Read, Opendir, Readdir, Readdirplus}
-use Rattle.fa_bodies.specs.Replies.{PlainReply}
+use Rattle.fa_bodies.specs.Replies.{PlainReply, IsError}
 use Rattle.fa_bodies.specs.Replies.PlainReply.{Refused}
 use Rattle.fa_session.specs.Answers.{IsAnsweredBy}
 use Rattle.fa_session.specs.Events.PlainEvent.{Answered}
 use Rattle.fa_session.proofs.CallerLemmas.{answered_once}
-use Rattle.fa_ledger.specs.Kinds.{IsReadingRequest}
+use Rattle.fa_ledger.specs.Kinds.{IsReadingRequest, KeepsTree}
 use Rattle.fa_ledger.specs.Calls.{PlainAnswer, PlainCall, IsAnswerOf, HasAnswer, AreCalls}
 use Rattle.fa_ledger.proofs.CallerLemmas.{calls_are_there, call_at, call_with, message_of, request_event}
 use Rattle.fa_order.specs.declared.entry.Entry.{Entry}
 use Rattle.fa_check.specs.Orders.{IsTreeRequestAt}
-use Rattle.fa_check.specs.Cuts.{IsRepliedLate, LeavesNothing, wrote_without, Goes, Stays, AreLeft, IsAnsweredEntry, IsCut}
+use Rattle.fa_check.specs.Cuts.{IsRepliedLate, wrote_without, Goes, Stays, AreLeft, IsAnsweredEntry, IsCut}
 use Rattle.fa_check.specs.Laws.{CutIsThere}
-use Rattle.fa_check.proofs.ListLemmas.{contains_decided}
 use Rattle.fa_check.proofs.MessageLemmas.{call_is_tree, call_answered, call_unanswered}
 
 -- ---- what is decided
@@ -33,11 +33,11 @@ reading_or_not (Readdir r) = inl tt
 reading_or_not (Readdirplus r) = inl tt
 reading_or_not other = inr (λ reads. reads)
 
-error_or_not : (reply : PlainReply) → ((error : _) × (reply ≡ Refused error)) ⊎ (((error : _) × (reply ≡ Refused error)) → ⊥)
+error_or_not : (reply : PlainReply) → IsError reply ⊎ (IsError reply → ⊥)
 error_or_not (Refused error) = inl (error, refl)
 error_or_not other = inr (λ fails. let is = fails.1 in absurd cc)
 
-leaves_or_not : (r : PlainRequest) (reply : PlainReply) → LeavesNothing r reply ⊎ (LeavesNothing r reply → ⊥)
+leaves_or_not : (r : PlainRequest) (reply : PlainReply) → KeepsTree r reply ⊎ (KeepsTree r reply → ⊥)
 leaves_or_not r reply =
     elim (error_or_not reply) [
       | inl error ↦ inl (inl error)
@@ -102,10 +102,10 @@ module _ (c : List Message) (calls : List PlainCall) (are : AreCalls c calls) (m
       entry_late : m ≤ answer.at → IsRepliedLate c m e.at call.request answer.reply
       entry_late late = subst (λ (n : ℕ). IsRepliedLate c m n call.request answer.reply) at (late_of place call answer there has late)
 
-      pub late_goes : m ≤ answer.at → LeavesNothing call.request answer.reply → Goes c m e
+      pub late_goes : m ≤ answer.at → KeepsTree call.request answer.reply → Goes c m e
       late_goes late leaves = inr (call.request, answer.reply, entry_late late, leaves)
 
-      pub late_stays : m ≤ answer.at → (LeavesNothing call.request answer.reply → ⊥) → Stays c m e (record { at = e.at; wrote = wrote_without call.request.body answer.reply e.wrote })
+      pub late_stays : m ≤ answer.at → (KeepsTree call.request answer.reply → ⊥) → Stays c m e (record { at = e.at; wrote = wrote_without call.request.body answer.reply e.wrote })
       late_stays late keeps = (call_tree, inr (call.request, answer.reply, entry_late late, keeps, refl))
 
     call_stays : Goes c m e ⊎ ((left : Entry) × Stays c m e left)

@@ -6,25 +6,22 @@ use Rattle.std.proofs.lemmas.Bool.{cases_lt, ltb-true, lt-ltb}
 use Rattle.std.proofs.lemmas.List.{length-map, take-append-drop}
 use Rattle.std.proofs.lemmas.Option.{slice_get_within, slice_get-get_or, same_Some}
 use Rattle.fa_capture.specs.Message.{Message}
+use Rattle.fa_capture.proofs.CallerLemmas.{take_one_more, get_from_drop}
 use Rattle.fa_ledger.specs.declared.call.Answer.{Answer}
 use Rattle.fa_ledger.specs.declared.call.Call.{Call}
 use Rattle.fa_ledger.specs.declared.calls.Calls.{Calls}
 use Rattle.fa_ledger.specs.Calls.{PlainCall, call_shown, answer_shown}
+use Rattle.fa_ledger.specs.Kinds.{KeepsTree}
 use Rattle.fa_tree.proofs.CallerLemmas.{shown_at}
 use Rattle.fa_order.specs.declared.entry.Entry.{Entry}
 use Rattle.fa_check.specs.Orders.{IsTreeRequestAt}
 use Rattle.fa_check.specs.Verdicts.{AreMessagesOf}
-use Rattle.fa_check.specs.Cuts.{LeavesNothing, wrote_without, Goes, Stays, AreLeft, IsAnsweredEntry, IsCut}
+use Rattle.fa_check.specs.Cuts.{wrote_without, Goes, Stays, AreLeft, IsAnsweredEntry, IsCut}
 use Rattle.fa_check.specs.parts.Cutting.{IsEndOfFrontUpTo, IsEndOfFront}
-use Rattle.fa_check.proofs.ListLemmas.{take_one_more, get_from_drop}
 use Rattle.fa_check.proofs.MessageLemmas.{tree_is_call}
 use Rattle.fa_check.proofs.CutThereLemmas.{open_stays, open_not_done, early_stays, early_done, late_not_done, late_goes, late_stays}
 
 -- ---- options
-
-pub is_none : {X : Type 0} (o : Option X) → ((x : X) → o ≡ Some x → ⊥) → o ≡ None
-is_none None other = refl
-is_none (Some x) other = absurd (other x refl)
 
 pub on_none : {X : Type 0} (o : Option X) (P : Type 0) → IfNone o P → ((x : X) → o ≡ Some x → ⊥) → P
 on_none None P holds other = holds
@@ -73,11 +70,11 @@ module _ (calls : Calls) (place m : ℕ) (e : Entry) (call : Call) (f : IsFoundA
     shown_late late =
         late_not_done c (map call_shown calls.list.items) is.are m place (call_shown call) e f.there f.asked (answer_shown answer) (ap (option_map answer_shown) has) late
 
-    pub shown_goes : m ≤ answer.at → LeavesNothing (call_shown call).request (answer_shown answer).reply → Goes c m e
+    pub shown_goes : m ≤ answer.at → KeepsTree (call_shown call).request (answer_shown answer).reply → Goes c m e
     shown_goes late leaves =
         late_goes c (map call_shown calls.list.items) is.are m place (call_shown call) e f.there f.asked (answer_shown answer) (ap (option_map answer_shown) has) late leaves
 
-    pub shown_stays : m ≤ answer.at → (LeavesNothing (call_shown call).request (answer_shown answer).reply → ⊥)
+    pub shown_stays : m ≤ answer.at → (KeepsTree (call_shown call).request (answer_shown answer).reply → ⊥)
         → Stays c m e (record { at = e.at; wrote = wrote_without (call_shown call).request.body (answer_shown answer).reply e.wrote })
     shown_stays late keeps =
         late_stays c (map call_shown calls.list.items) is.are m place (call_shown call) e f.there f.asked (answer_shown answer) (ap (option_map answer_shown) has) late keeps

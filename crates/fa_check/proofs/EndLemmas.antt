@@ -8,6 +8,7 @@ use Rattle.std.proofs.lemmas.List.Elements.{Contains-get_or}
 use Rattle.std.proofs.lemmas.Option.{slice_get_within, same_Some}
 use Rattle.fa_capture.specs.declared.codes.TheConstants.{ANSWERED_LEFT_OUT}
 use Rattle.fa_capture.specs.Message.{Message}
+use Rattle.fa_capture.proofs.CallerLemmas.{contains_cases, contains_first, contains_behind}
 use Rattle.fa_session.specs.Answers.{IsAnsweredBy, IsUnanswered}
 use Rattle.fa_ledger.specs.declared.calls.Calls.{Calls}
 use Rattle.fa_ledger.specs.Calls.{PlainAnswer, PlainCall, call_shown}
@@ -20,7 +21,6 @@ use Rattle.fa_check.specs.Verdicts.{AreMessagesOf, IsUnansweredUnplaced, Counts,
 use Rattle.fa_check.specs.Marks.{IsUnset, count_set}
 use Rattle.fa_check.specs.Replays.{IsCallOf, IsAnswerAt, IsReplayed}
 use Rattle.fa_check.specs.parts.Placing.{IsLeastLeft}
-use Rattle.fa_check.proofs.ListLemmas.{contains_cases, contains_first, contains_behind}
 use Rattle.fa_check.proofs.OrderLemmas.{valid_where_each_is_placed}
 use Rattle.fa_check.proofs.MarkLemmas.{set_or_unset, not_both}
 use Rattle.fa_check.proofs.MessageLemmas.{call_is_tree, tree_is_call, call_answered, call_unanswered, answered_call, asked_rise}

@@ -7,6 +7,7 @@ use Rattle.std.proofs.lemmas.Option.{slice_get_within, same_Some}
 use Rattle.fa_capture.specs.declared.codes.TheConstants.{CHOICE_NOT_ALLOWED}
 use Rattle.fa_capture.specs.Checks.{FirstFailure, AllHold}
 use Rattle.fa_capture.specs.Message.{Message}
+use Rattle.fa_capture.proofs.CallerLemmas.{get_set_same, get_set_other, get_set_back, snoc_cases}
 use Rattle.fa_bodies.specs.Requests.{PlainRequest}
 use Rattle.fa_session.specs.Answers.{IsRequestAt, IsAnsweredBy, IsUnanswered}
 use Rattle.fa_ledger.specs.declared.calls.Calls.{Calls}
@@ -26,7 +27,6 @@ use Rattle.fa_check.specs.Faults.{order_checks, EachPlaced}
 use Rattle.fa_check.specs.Marks.{IsSet, IsUnset}
 use Rattle.fa_check.specs.Replays.{IsCallOf, IsAnswerAt, AnswersUnplaced, IsPlacing, ArePlaced, IsReplayed, NextFails}
 use Rattle.fa_check.specs.parts.Placing.{place_checks}
-use Rattle.fa_check.proofs.ListLemmas.{get_set_same, get_set_other, get_set_back, snoc_cases}
 use Rattle.fa_check.proofs.OrderLemmas.{number_more, number_still, number_now}
 use Rattle.fa_check.proofs.RunLemmas.{run_more}
 use Rattle.fa_check.proofs.MarkLemmas.{set_or_unset, not_both}

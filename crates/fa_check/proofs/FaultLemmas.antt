@@ -3,14 +3,13 @@ use Rattle.std.proofs.Common.{◌≡◌, ℕ, ◌<◌, ◌≤◌, List, ◌∷�
 use Rattle.std.proofs.lemmas.Bool.{cases_lt}
 use Rattle.fa_capture.specs.Checks.{AllHold, FirstFailure}
 use Rattle.fa_capture.specs.Message.{Message}
-use Rattle.fa_capture.proofs.CallerLemmas.{no_failure, one_failure}
+use Rattle.fa_capture.proofs.CallerLemmas.{no_failure, one_failure, same_parts, longer_front}
 use Rattle.fa_tree.specs.State.{TreeState}
 use Rattle.fa_tree.specs.Steps.{step_checks}
 use Rattle.fa_order.specs.declared.entry.Entry.{Entry}
 use Rattle.fa_check.specs.Runs.{EntrySteps, Runs}
 use Rattle.fa_check.specs.Faults.{order_checks, EachPlaced, StepFails, EntryFails, IsEntryAtFault, LeavesOut, IsOrderAtFault}
 use Rattle.fa_check.specs.Laws.{LegalHasNoFault}
-use Rattle.fa_check.proofs.ListLemmas.{same_parts, longer_front}
 use Rattle.fa_check.proofs.OrderLemmas.{valid_where_each_is_placed}
 use Rattle.fa_check.proofs.RunLemmas.{call_one, run_is_one, run_at}
 

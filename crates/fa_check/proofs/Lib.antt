@@ -1,4 +1,3 @@
-pub mod ListLemmas
 pub mod OrderLemmas
 pub mod RunLemmas
 pub mod FaultLemmas
@@ -11,8 +10,6 @@ pub mod EndLemmas
 pub mod FrontLemmas
 pub mod VerdictLemmas
 pub mod ThereLemmas
-pub mod KnownLemmas
-pub mod NamingLemmas
 pub mod UnknownLemmas
 pub mod CutLemmas
 pub mod CutRunLemmas

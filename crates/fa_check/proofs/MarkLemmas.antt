@@ -4,9 +4,9 @@ use Rattle.std.specs.Prelude.{slice_get, position}
 use Rattle.std.proofs.lemmas.Bool.{cases_lt, cases_eq}
 use Rattle.std.proofs.lemmas.Option.{slice_get_within, slice_get-get_or}
 use Rattle.std.proofs.lemmas.List.{length-set, length-drop}
+use Rattle.fa_capture.proofs.CallerLemmas.{get_set_same, get_set_other, get_from_drop, position_found, position_first, position_none}
 use Rattle.fa_ledger.proofs.CallerLemmas.{element_at}
 use Rattle.fa_check.specs.Marks.{IsSet, IsUnset, IsFirstSet, count_set}
-use Rattle.fa_check.proofs.ListLemmas.{get_set_same, get_set_other, get_from_drop, position_found, position_first, position_none}
 
 -- ---- set or not
 

@@ -8,6 +8,7 @@ use Rattle.std.proofs.lemmas.List.{length-map}
 use Rattle.std.proofs.lemmas.List.Kept.{AllPairs-from_increasing}
 use Rattle.std.proofs.lemmas.Option.{slice_get_within, slice_get-map, get_or_from_slice_get, same_Some}
 use Rattle.fa_capture.specs.Message.{Message}
+use Rattle.fa_capture.proofs.CallerLemmas.{rising_within}
 use Rattle.fa_bodies.specs.Requests.{PlainRequest}
 use Rattle.fa_bodies.specs.Replies.{PlainReply}
 use Rattle.fa_session.specs.Answers.{IsRequestAt, Answers, AnswersAt, IsAnsweredBy, IsUnanswered}
@@ -19,15 +20,10 @@ use Rattle.fa_ledger.specs.Events.{AreEvents}
 use Rattle.fa_ledger.specs.Calls.{PlainAnswer, PlainCall, IsCall, HasAnswer, AreCalls}
 use Rattle.fa_ledger.specs.Listings.{offset_asked, IsListingIfAny}
 use Rattle.fa_ledger.specs.SoFar.{listing_so_far, listed_within, entries_answered, call_asked}
-use Rattle.fa_ledger.proofs.CallerLemmas.{element_at, call_at, call_with, answered_place}
-use Rattle.fa_ledger.proofs.CallLemmas.{answers_at}
-use Rattle.fa_ledger.proofs.CallStepLemmas.{message_of, request_event}
-use Rattle.fa_ledger.proofs.EventLemmas.{notice_no_reply}
-use Rattle.fa_ledger.proofs.SoFarLemmas.{calls_list_so_far}
+use Rattle.fa_ledger.proofs.CallerLemmas.{element_at, call_at, call_with, answered_place, answers_at, message_of, request_event, notice_no_reply, calls_list_so_far}
 use Rattle.fa_check.specs.Orders.{IsTreeRequestAt}
 use Rattle.fa_check.specs.Runs.{IsListedFrom, IsCallAt}
 use Rattle.fa_check.specs.Replays.{IsCallOf, IsAnswerAt}
-use Rattle.fa_check.proofs.ListLemmas.{rising_within}
 
 -- ---- events of messages
 

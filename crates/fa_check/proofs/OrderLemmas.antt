@@ -6,13 +6,13 @@ use Rattle.std.proofs.lemmas.List.{map-append}
 use Rattle.std.proofs.lemmas.List.Elements.{Contains-append_cases, Contains-append_left, Contains-push}
 use Rattle.fa_capture.specs.Checks.{AllHold}
 use Rattle.fa_capture.specs.Message.{Message}
+use Rattle.fa_capture.proofs.CallerLemmas.{contains_cases, contains_first, contains_behind, contains_longer, contains_front, contains_decided, parts_at, all_middle, pairs_before, pairs_behind}
 use Rattle.fa_session.specs.Answers.{IsAnsweredBy}
 use Rattle.fa_session.proofs.CallerLemmas.{answer_after}
 use Rattle.fa_order.specs.declared.entry.Entry.{Entry}
 use Rattle.fa_check.specs.Orders.{IsTreeRequestAt, numbers, IsChoice, IsValidOrder}
 use Rattle.fa_check.specs.Faults.{order_checks, EachPlaced, IsAnsweredUnplaced}
 use Rattle.fa_check.specs.Laws.{ValidWhereEachIsPlaced}
-use Rattle.fa_check.proofs.ListLemmas.{contains_cases, contains_first, contains_behind, contains_longer, contains_front, contains_decided, parts_at, all_middle, pairs_before, pairs_behind}
 
 -- ---- the numbers of entries
 

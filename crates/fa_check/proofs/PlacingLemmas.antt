@@ -7,16 +7,16 @@ use Rattle.std.proofs.lemmas.Option.{slice_get_within, same_Some}
 use Rattle.fa_capture.specs.declared.codes.TheConstants.{EARLIER_NOT_PLACED, CHOICE_NOT_ALLOWED}
 use Rattle.fa_capture.specs.Checks.{FirstFailure, AllHold}
 use Rattle.fa_capture.specs.Message.{Message}
+use Rattle.fa_capture.proofs.CallerLemmas.{get_set_same, get_set_other, get_set_back}
 use Rattle.fa_ledger.specs.Passing.{AreGood}
 use Rattle.fa_ledger.specs.Calls.{PlainAnswer, PlainCall, AreCalls}
 use Rattle.fa_ledger.specs.Choices.{Allows}
 use Rattle.fa_order.specs.declared.entry.Entry.{Entry}
 use Rattle.fa_check.specs.declared.placing.Placing.{Placing}
-use Rattle.fa_check.specs.declared.waiting.Waiting.{Waiting}
+use Rattle.fa_check.specs.declared.unplaced_answers.UnplacedAnswers.{UnplacedAnswers}
 use Rattle.fa_check.specs.Marks.{IsSet, IsUnset, AreUnset, IsFirstSet, count_set}
 use Rattle.fa_check.specs.Replays.{IsCallOf, IsAnswerAt, AnswersUnplaced, IsPlacing}
 use Rattle.fa_check.specs.parts.Placing.{AreAnswers, place_checks}
-use Rattle.fa_check.proofs.ListLemmas.{get_set_same, get_set_other, get_set_back}
 use Rattle.fa_check.proofs.MarkLemmas.{set_or_unset, not_both, count_below, count_more, count_none}
 use Rattle.fa_check.proofs.GoodLemmas as good_says
 
@@ -188,13 +188,13 @@ module _ (calls : List PlainCall) (messages : ℕ) (good : ∥ ((c : List Messag
       → t.marks.items ≡ set s.marks.items place true → t.waiting ≡ s.waiting → t.count ≡ s.count + 1 → IsPlacing calls messages t
   placed_still s t place call there none left shape marked same counted = record {
     sized = ap length marked ∙ length-set s.marks.items place true ∙ shape.sized;
-    wide = ap (λ (w : Waiting). length w.answers.items) same ∙ shape.wide;
+    wide = ap (λ (w : UnplacedAnswers). length w.answers.items) same ∙ shape.wide;
     few = shape.few;
     waiting = λ q.
-        subst (λ (w : Waiting). IsSet w.answers.items q ↔ AnswersUnplaced calls t.marks.items q) (sym same)
+        subst (λ (w : UnplacedAnswers). IsSet w.answers.items q ↔ AnswersUnplaced calls t.marks.items q) (sym same)
         (subst (λ ms. IsSet s.waiting.answers.items q ↔ AnswersUnplaced calls ms q) (sym marked)
         (waits_still s.marks.items s.waiting.answers.items place call there none left shape.waiting q));
-    front = subst (λ (w : Waiting). IsFirstSet w.answers.items w.front) (sym same) shape.front;
+    front = subst (λ (w : UnplacedAnswers). IsFirstSet w.answers.items w.front) (sym same) shape.front;
     counted = counted ∙ ap (λ n. n + 1) shape.counted ∙ sym (count_more s.marks.items place left) ∙ ap count_set (sym marked);
   }
 

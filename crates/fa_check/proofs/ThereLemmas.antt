@@ -7,15 +7,14 @@ use Rattle.std.proofs.lemmas.List.{length-append}
 use Rattle.std.proofs.lemmas.List.Kept.{AllPairs-from_increasing}
 use Rattle.fa_capture.specs.declared.codes.TheConstants.{ANSWERED_LEFT_OUT}
 use Rattle.fa_capture.specs.Message.{Message}
-use Rattle.fa_capture.proofs.CallerLemmas.{checks_either}
+use Rattle.fa_capture.proofs.CallerLemmas.{checks_either, contains_cases, contains_first, contains_behind, pairs_tail, first_least}
 use Rattle.fa_ledger.specs.Passing.{AreGood}
 use Rattle.fa_ledger.specs.Calls.{PlainCall, AreCalls}
 use Rattle.fa_ledger.specs.SoFar.{listing_so_far}
-use Rattle.fa_ledger.proofs.CallStepLemmas.{request_event}
-use Rattle.fa_ledger.proofs.CallerLemmas.{calls_are_there}
+use Rattle.fa_ledger.proofs.CallerLemmas.{calls_are_there, request_event}
 use Rattle.fa_tree.specs.State.{TreeState}
 use Rattle.fa_tree.specs.Steps.{Steps, step_checks}
-use Rattle.fa_tree.proofs.LawLemmas.{steps_where_all_hold}
+use Rattle.fa_tree.proofs.CallerLemmas.{steps_where_all_hold}
 use Rattle.fa_order.specs.declared.entry.Entry.{Entry}
 use Rattle.fa_check.specs.declared.verdict.Verdict.{Verdict}
 use Rattle.fa_check.specs.declared.verdict.Verdict.TheVariants.{Legal, NotShown}
@@ -23,7 +22,6 @@ use Rattle.fa_check.specs.Runs.{IsCallAt, Runs}
 use Rattle.fa_check.specs.Faults.{order_checks, EachPlaced, IsAnsweredUnplaced}
 use Rattle.fa_check.specs.Verdicts.{IsUnansweredUnplaced, IsVerdict}
 use Rattle.fa_check.specs.Laws.{VerdictIsThere}
-use Rattle.fa_check.proofs.ListLemmas.{contains_cases, contains_first, contains_behind, tail_pairs, first_least}
 use Rattle.fa_check.proofs.OrderLemmas.{valid_where_each_is_placed}
 use Rattle.fa_check.proofs.RunLemmas.{run_more}
 use Rattle.fa_check.proofs.MessageLemmas.{tree_is_call, call_of_message}
@@ -37,7 +35,7 @@ picked : (Such : ℕ → Type 0) (xs : List ℕ) → AllPairs (λ a b. a < b) xs
     → ((ys : List ℕ) → IsStrictlyIncreasing ys → ((p : ℕ) → Contains ys p → Contains xs p × Such p) → ((p : ℕ) → Contains xs p → Such p → Contains ys p) → ⊥) → ⊥
 picked Such [] rise not = not [] (λ k within. absurd (omega (arith, within))) (λ p has. absurd (omega (arith, has.1))) (λ p has such. absurd (omega (arith, has.1)))
 picked Such (x ∷ xs) rise not =
-    picked Such xs (tail_pairs x xs rise) (λ ys rises each complete.
+    picked Such xs (pairs_tail (λ a b. a < b) x xs rise) (λ ys rises each complete.
     let lacks : ¬ Such x = λ such.
     not (x ∷ ys) (cons_rises x ys rises (λ z has. first_least x xs z rise (each z has).0))
     (λ p has. elim (contains_cases x ys p has) [

@@ -7,6 +7,7 @@ use Rattle.std.proofs.lemmas.Option.{same_Some}
 use Rattle.std.specs.declared.alloc.AllocError.{AllocError}
 use Rattle.fa_capture.specs.declared.codes.TheConstants.{UNKNOWN_HERE}
 use Rattle.fa_capture.specs.Message.{Message}
+use Rattle.fa_capture.proofs.CallerLemmas.{contains_cases, not_told}
 use Rattle.fa_bodies.specs.Requests.{PlainBody}
 use Rattle.fa_bodies.specs.Requests.PlainBody.{Opendir}
 use Rattle.fa_bodies.specs.Replies.{PlainReply}
@@ -22,10 +23,11 @@ use Rattle.fa_ledger.specs.Counts.{nodes_given}
 use Rattle.fa_ledger.specs.Names.{name_at, nodes_named}
 use Rattle.fa_ledger.specs.Listings.{IsListingIfAny}
 use Rattle.fa_ledger.specs.Calls.{PlainAnswer, PlainCall, IsHandleUsed, IsAskedCall, OpensAnew, IsCall}
-use Rattle.fa_ledger.proofs.CallerLemmas.{events_are_one}
+use Rattle.fa_ledger.proofs.CallerLemmas.{events_are_one, IsTreeAnswer, IsNamedSince, IsOpenedBefore, HasReply, name_given, lists_directory, handle_opened, call_replied}
 use Rattle.fa_tree.specs.State.{TreeState, root}
 use Rattle.fa_tree.specs.Outcomes.{outcome, outcome_by}
 use Rattle.fa_tree.specs.Outcomes.Outcome.{Succeeds, Unanswered}
+use Rattle.fa_tree.proofs.CallerLemmas.{IsKnownIn, IsOpenedIn, UsesOpened, step_keeps_node, step_keeps_open, step_gives, step_opens, all_known, told_unknown}
 use Rattle.fa_order.specs.declared.entry.Entry.{Entry}
 use Rattle.fa_check.specs.declared.verdict.Verdict.{Verdict}
 use Rattle.fa_check.specs.declared.verdict.Verdict.TheVariants.{NotShown}
@@ -34,9 +36,6 @@ use Rattle.fa_check.specs.Runs.{EntrySteps, Runs}
 use Rattle.fa_check.specs.Faults.{order_checks, StepFails}
 use Rattle.fa_check.specs.Verdicts.{AreMessagesOf, IsVerdict}
 use Rattle.fa_check.specs.Laws.{NeverUnknownHere}
-use Rattle.fa_check.proofs.ListLemmas.{contains_cases}
-use Rattle.fa_check.proofs.KnownLemmas.{IsKnownIn, IsOpenedIn, UsesOpened, step_keeps_node, step_keeps_open, step_gives, step_opens, all_known, not_told, told_unknown}
-use Rattle.fa_check.proofs.NamingLemmas.{IsTreeAnswer, IsNamedSince, IsOpenedBefore, HasReply, name_given, lists_directory, handle_opened, call_replied}
 
 -- ---- runs
 

@@ -7,6 +7,7 @@ use Rattle.std.proofs.lemmas.List.{length-append, take_all}
 use Rattle.std.proofs.lemmas.Option.{slice_get-get_or}
 use Rattle.std.specs.declared.alloc.AllocError.{AllocError}
 use Rattle.fa_capture.specs.Message.{Message}
+use Rattle.fa_capture.proofs.CallerLemmas.{rising_is_one, take_one_more, parts_at}
 use Rattle.fa_ledger.specs.declared.calls.Calls.{Calls}
 use Rattle.fa_ledger.specs.Calls.{call_shown}
 use Rattle.fa_tree.specs.State.{TreeState}
@@ -22,15 +23,14 @@ use Rattle.fa_check.specs.Laws.{VerdictIsOne}
 use Rattle.fa_check.specs.Marks.{AreUnset}
 use Rattle.fa_check.specs.Replays.{IsPlacing, IsReplayed, NextFails}
 use Rattle.fa_check.specs.parts.Answers.{answer_to}
-use Rattle.fa_check.proofs.ListLemmas.{rising_same, take_one_more, parts_at}
 use Rattle.fa_check.proofs.MarkLemmas.{count_none}
 use Rattle.fa_check.proofs.FaultLemmas.{one_order_at_fault, legal_has_no_fault}
 
 -- a count is one
 count_is_one : (Such : ℕ → Type 0) (a b : ℕ) → Counts Such a → Counts Such b → a ≡ b
 count_is_one Such a b is too =
-    let same = rising_same is.all too.all is.rising too.rising (λ p there. too.complete p (is.each p there)) (λ p there. is.complete p (too.each p there)) in
-    sym is.number ∙ same ∙ too.number
+    let same = rising_is_one is.all too.all is.rising too.rising (λ p there. too.complete p (is.each p there)) (λ p there. is.complete p (too.each p there)) in
+    sym is.number ∙ ap length same ∙ too.number
 
 pub verdict_is_one : VerdictIsOne
 verdict_is_one c first es (Legal messages placed left) (Legal others entries unplaced) is too =

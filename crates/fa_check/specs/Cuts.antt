@@ -1,12 +1,11 @@
 -- An order cut at a message: what is left of it for the messages before that one.
-use Rattle.std.specs.Prelude.{◌≡◌, ◌⊎◌, ℕ, ℤ, ◌<◌, ◌≤◌, List, [], ◌∷◌, ◌++◌, All, Contains, Option, Some}
+use Rattle.std.specs.Prelude.{◌≡◌, ◌⊎◌, ℕ, ◌<◌, ◌≤◌, List, [], ◌∷◌, ◌++◌, All, Contains, Option, Some}
 use Rattle.fa_capture.specs.Message.{Message}
 use Rattle.fa_bodies.specs.Requests.{PlainRequest, PlainBody}
 use Rattle.fa_bodies.specs.Requests.PlainBody.{Lookup, Forget, Getattr, Setattr, Readlink, Symlink, Mknod, Mkdir, Unlink, Rmdir, Rename, Link, Open, Read, Write, Release, Flush, Init, Opendir, Readdir, Releasedir, Create, BatchForget, Readdirplus, Passed}
 use Rattle.fa_bodies.specs.Replies.{PlainReply}
-use Rattle.fa_bodies.specs.Replies.PlainReply.{Refused}
 use Rattle.fa_session.specs.Answers.{IsAnsweredBy, IsRepliedAt}
-use Rattle.fa_ledger.specs.Kinds.{IsReadingRequest}
+use Rattle.fa_ledger.specs.Kinds.{KeepsTree}
 use Rattle.fa_tree.specs.State.{TreeState}
 use Rattle.fa_tree.specs.Outcomes.{count_by_reply}
 use Rattle.fa_order.specs.declared.entry.Entry.{Entry}
@@ -21,10 +20,6 @@ IsAnsweredBefore c m p = (q : ℕ) × IsAnsweredBy c p q × (q < m)
 -- the request at p was answered late, at message m or behind it; this is the request, and its reply says this
 abbrev pub IsRepliedLate : List Message → (m p : ℕ) → PlainRequest → PlainReply → Type 0
 IsRepliedLate c m p r reply = (q : ℕ) × IsRepliedAt c q p r reply × (m ≤ q)
-
--- nothing is left of a request without this reply: the reply is an error, or the request only reads
-abbrev pub LeavesNothing : PlainRequest → PlainReply → Type 0
-LeavesNothing r reply = ((error : ℤ) × (reply ≡ Refused error)) ⊎ IsReadingRequest r.body
 
 -- what the entry of a request carries without its reply: a WRITE the count that the reply tells
 abbrev pub wrote_without : PlainBody → PlainReply → Option ℕ → Option ℕ
@@ -54,19 +49,19 @@ wrote_without (BatchForget count items) reply wrote = wrote
 wrote_without (Readdirplus r) reply wrote = wrote
 wrote_without Passed reply wrote = wrote
 
--- The entry goes: it names no tree request, or one that was answered late and of which nothing is left.
+-- The entry goes: it names no tree request, or one that was answered late and leaves the tree as it is.
 abbrev pub Goes : List Message → (m : ℕ) → Entry → Type 0
 Goes c m e =
-    (IsTreeRequestAt c e.at → ⊥) ⊎ ((r : PlainRequest) × (reply : PlainReply) × IsRepliedLate c m e.at r reply × LeavesNothing r reply)
+    (IsTreeRequestAt c e.at → ⊥) ⊎ ((r : PlainRequest) × (reply : PlainReply) × IsRepliedLate c m e.at r reply × KeepsTree r reply)
 
 -- The entry stays as it is: its request was not answered late, but before, or never.
 abbrev pub StaysSame : List Message → (m : ℕ) → (e left : Entry) → Type 0
 StaysSame c m e left = ((q : ℕ) → IsAnsweredBy c e.at q → q < m) × (left ≡ e)
 
--- The entry stays without its request's answer, which is late, and something is left of it.
+-- The entry stays without its request's answer, which is late: with that the request may have changed the tree.
 abbrev pub StaysUnanswered : List Message → (m : ℕ) → (e left : Entry) → Type 0
 StaysUnanswered c m e left =
-    (r : PlainRequest) × (reply : PlainReply) × IsRepliedLate c m e.at r reply × (LeavesNothing r reply → ⊥)
+    (r : PlainRequest) × (reply : PlainReply) × IsRepliedLate c m e.at r reply × (KeepsTree r reply → ⊥)
     × (left ≡ record { at = e.at; wrote = wrote_without r.body reply e.wrote })
 
 -- the entry stays, and this is what is left of it

@@ -2,15 +2,15 @@
 
 ghost use Rattle.std.specs.Prelude.{◌≡◌, ◌≤◌, ◌↔◌, List, length, IsTrue, IfOk, IfSome, IfNone};
 ghost use Rattle.fa_capture.specs.Message.{Message};
-ghost use Rattle.fa_bodies.specs.Requests.{body_shown, request_shown};
+ghost use Rattle.fa_bodies.specs.Requests.{body_shown};
 ghost use Rattle.fa_bodies.specs.Replies.{reply_shown};
 ghost use Rattle.fa_tree.specs.Outcomes.{count_by_reply};
 ghost use Rattle.fa_check.specs.Verdicts.{AreMessagesOf};
-ghost use Rattle.fa_check.specs.Cuts.{LeavesNothing, wrote_without, Goes, Stays, IsAnsweredEntry, IsCut};
+ghost use Rattle.fa_check.specs.Cuts.{wrote_without, Goes, Stays, IsAnsweredEntry, IsCut};
 ghost use Rattle.fa_check.specs.parts.Cutting.{IsEndOfFront};
 
-use fa_bodies::{Reply, Request, RequestBody};
-use fa_ledger::{Calls, only_reads};
+use fa_bodies::{Reply, RequestBody};
+use fa_ledger::{Calls, keeps_tree};
 use fa_order::Entry;
 use std::alloc::{AllocError, Global};
 
@@ -91,32 +91,13 @@ fn left_of(calls: &Calls<'_>, entry: Entry, messages: u32) -> Option<Entry>
     if answer.at < messages {
         return Some(entry);
     }
-    if leaves_nothing(&call.request, &answer.reply) {
+    if keeps_tree(&call.request, &answer.reply) {
         return None;
     }
     Some(Entry {
         at: entry.at,
         wrote: wrote_without(&call.request.body, &answer.reply, entry.wrote),
     })
-}
-
-/// Whether nothing is left of a request without this reply.
-fn leaves_nothing(request: &Request<'_>, reply: &Reply<'_>) -> bool
-    ensures { IsTrue result ↔ LeavesNothing (request_shown request.now) (reply_shown reply.now) }
-{
-    match reply {
-        Reply::Refused(_) => true,
-        Reply::Empty
-        | Reply::Entry(_)
-        | Reply::Created { .. }
-        | Reply::Attributes(_)
-        | Reply::Opened(_)
-        | Reply::Written(_)
-        | Reply::Bytes(_)
-        | Reply::Listed(_)
-        | Reply::Negotiated(_)
-        | Reply::Skipped => only_reads(&request.body),
-    }
 }
 
 /// What the entry of a request carries without this reply.

@@ -5,8 +5,8 @@ mod checking;
 mod cutting;
 pub mod laws;
 mod placing;
+mod unplaced_answers;
 mod verdict;
-mod waiting;
 
 pub use checking::check;
 pub use cutting::cut;

@@ -12,8 +12,8 @@ ghost use Rattle.fa_check.specs.Marks.{IsUnset};
 ghost use Rattle.fa_check.specs.Replays.{IsPlacing, IsCallOf, IsReplayed, NextFails, IsFront};
 ghost use Rattle.fa_check.specs.parts.Placing.{place_checks, IsLeastLeft};
 
+use crate::unplaced_answers::{UnplacedAnswers, unset};
 use crate::verdict::Verdict;
-use crate::waiting::{Waiting, unset};
 use fa_capture::codes;
 use fa_ledger::Calls;
 use fa_order::Entry;
@@ -26,7 +26,7 @@ pub struct Placing {
     /// For each call, by its place in the list, whether it is placed.
     marks: Vec<bool>,
     /// The answers of those that are not.
-    waiting: Waiting,
+    waiting: UnplacedAnswers,
     /// How many are placed, which is how many entries there were.
     pub(crate) count: u32,
 }
@@ -40,7 +40,7 @@ impl Placing {
     {
         Ok(Placing {
             marks: unset(alloc, calls.list.len())?,
-            waiting: Waiting::all(alloc, calls)?,
+            waiting: UnplacedAnswers::all(alloc, calls)?,
             count: 0,
         })
     }

@@ -6,6 +6,7 @@ use Rattle.std.proofs.lemmas.List.{take_all}
 use Rattle.std.proofs.lemmas.List.Sums.{sum_by-cons}
 use Rattle.std.proofs.lemmas.Option.{slice_get_within, get_or_from_slice_get}
 use Rattle.fa_capture.specs.Message.{Message}
+use Rattle.fa_capture.proofs.CallerLemmas.{take_with_next}
 use Rattle.fa_bodies.specs.Requests.{PlainRequest}
 use Rattle.fa_bodies.specs.Replies.{PlainReply}
 use Rattle.fa_session.specs.Events.{PlainEvent, IsEvent}
@@ -18,7 +19,7 @@ use Rattle.fa_ledger.specs.Names.{name_at}
 use Rattle.fa_ledger.specs.Passing.{AreGood, TakesWithin, MayBeGiven}
 use Rattle.fa_ledger.proofs.EventLemmas.{element_at}
 use Rattle.fa_ledger.proofs.GoodLemmas.{events_front, passes_rules}
-use Rattle.fa_ledger.proofs.GrowthLemmas.{given_more, taken_more, take_more, counted_named}
+use Rattle.fa_ledger.proofs.GrowthLemmas.{given_more, taken_more, counted_named}
 use Rattle.fa_ledger.proofs.TakingLemmas.{total_both}
 
 -- what holds of each holds of what stands at a place
@@ -61,7 +62,7 @@ lookups_balanced c es are good node (suc n) within =
     let event = element_at es n within in
     let message = element_at c n (omega (arith, within, are.counted)) in
     let is : IsEvent (take n c) message.0 event.0 = are.each n message.0 event.0 message.1 event.1 in
-    let more = take_more es n event.0 event.1 in
+    let more = take_with_next es n event.0 event.1 in
     let given = given_more (take n es) event.0 node in
     let taken = taken_more (take n es) event.0 node in
     let balanced : lookups_taken (take n es ++ event.0 ∷ []) node ≤ lookups_given (take n es ++ event.0 ∷ []) node =

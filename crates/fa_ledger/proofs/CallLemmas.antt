@@ -6,6 +6,7 @@ use Rattle.std.proofs.lemmas.Option.{slice_get_within, slice_get-map, slice_get-
 use Rattle.fa_bodies.specs.Requests.{PlainRequest}
 use Rattle.fa_bodies.specs.Replies.{PlainReply}
 use Rattle.fa_capture.specs.Message.{Message}
+use Rattle.fa_capture.proofs.CallerLemmas.{rising_is_one}
 use Rattle.fa_session.specs.Answers.{AnswersAt}
 use Rattle.fa_session.specs.Events.{PlainEvent}
 use Rattle.fa_session.specs.Events.PlainEvent.{Asked, Answered}
@@ -22,7 +23,6 @@ use Rattle.fa_ledger.specs.Laws.{CallsAreOne}
 use Rattle.fa_ledger.proofs.EventLemmas.{element_at, same_places, events_are_one}
 use Rattle.fa_ledger.proofs.HandleLemmas.{handle_is_one, same_mark}
 use Rattle.fa_ledger.proofs.ListedLemmas.{listing_is_one}
-use Rattle.fa_ledger.proofs.RisingLemmas.{rising_is_one}
 
 -- ---- options
 

@@ -8,10 +8,10 @@ use Rattle.std.proofs.lemmas.Bool.{cases_lt}
 use Rattle.std.proofs.lemmas.Bool.Decides.{nat_tests, eqb_tells}
 use Rattle.std.proofs.lemmas.List.{length-map, map-append, map-set}
 use Rattle.std.proofs.lemmas.Option.{slice_get_within, slice_get-map, slice_get-get_or, get_or_from_slice_get, same_Some}
-use Rattle.fa_session.proofs.CallerLemmas.{get_kept, get_back, get_last, get_cases}
+use Rattle.fa_capture.proofs.CallerLemmas.{get_kept, get_back, get_last, get_cases}
 use Rattle.fa_ledger.specs.declared.call.Answer.{Answer}
 use Rattle.fa_ledger.specs.declared.call.Call.{Call}
-use Rattle.fa_ledger.specs.declared.call_list.Waiting.{Waiting}
+use Rattle.fa_ledger.specs.declared.call_list.WaitingCall.{WaitingCall}
 use Rattle.fa_ledger.specs.Calls.{PlainAnswer, PlainCall, answer_shown, call_shown}
 use Rattle.fa_ledger.specs.parts.CallParts.{WaitsAt, IsNewNumber, AreTheirPlaces, waiting_of}
 use Rattle.fa_ledger.specs.parts.Steps.{with_answer}
@@ -184,9 +184,9 @@ the_call items calls table asked place call view are found read =
 -- what is known of it
 pub waiting_there : (items : List Call) (calls : List PlainCall) (table : List (ℕ × ℕ)) (asked place : ℕ) (call : Call) (adrift : Bool) → map call_shown items ≡ calls → AreTheirPlaces (map call_shown items) table
     → lookup (nat_eq asked) table ≡ Some place → call ≡ get_or items place call → adrift ≡ option_map_or (λ l. l.adrift) call.listing false
-    → (k : ℕ) × (waiting : PlainCall) × WaitsAt calls asked k waiting × (◌≡◌ {A = Waiting} (record { node = call.node; handle = call.handle; adrift = adrift }) (waiting_of waiting))
+    → (k : ℕ) × (waiting : PlainCall) × WaitsAt calls asked k waiting × (◌≡◌ {A = WaitingCall} (record { node = call.node; handle = call.handle; adrift = adrift }) (waiting_of waiting))
 waiting_there items calls table asked place call adrift view are found read is =
-    let waiting : Bool → Waiting = λ b. record { node = call.node; handle = call.handle; adrift = b } in
+    let waiting : Bool → WaitingCall = λ b. record { node = call.node; handle = call.handle; adrift = b } in
     (place, call_shown call, the_call items calls table asked place call view are found read, ap waiting is)
 
 -- the list after the answer is set at its place

@@ -10,10 +10,11 @@ use Rattle.std.proofs.lemmas.List.Elements.{All-append, All-map, Contains-append
 use Rattle.fa_bodies.specs.Requests.{PlainRequest}
 use Rattle.fa_bodies.specs.Replies.{PlainReply}
 use Rattle.fa_capture.specs.Message.{Message}
+use Rattle.fa_capture.proofs.CallerLemmas.{get_kept, get_back, get_last, get_cases, take_before, take_all_before}
 use Rattle.fa_session.specs.Answers.{IsRequestAt}
 use Rattle.fa_session.specs.Events.{PlainEvent, IsEvent}
 use Rattle.fa_session.specs.Events.PlainEvent.{Asked, Answered}
-use Rattle.fa_session.proofs.CallerLemmas.{get_kept, get_back, get_last, get_cases, take_before, take_all_before, answered_now, answered_still, answer_after, answered_once}
+use Rattle.fa_session.proofs.CallerLemmas.{answered_now, answered_still, answer_after, answered_once}
 use Rattle.fa_ledger.specs.Events.{AreEvents}
 use Rattle.fa_ledger.specs.Counts.{nodes_given}
 use Rattle.fa_ledger.specs.Kinds.{IsTreeRequest}

@@ -11,9 +11,9 @@ use Rattle.fa_ledger.proofs.EventLemmas.{events_are_one}
 use Rattle.fa_ledger.proofs.GoodLemmas.{events_front}
 use Rattle.fa_ledger.proofs.CallStepLemmas.{call_kept}
 -- events, one more of them, and those of the first messages
-pub use Rattle.fa_ledger.proofs.EventLemmas.{element_at, same_places, event_is_one, events_are_one}
-pub use Rattle.fa_ledger.proofs.GoodLemmas.{take_front, events_front}
-pub use Rattle.fa_ledger.proofs.CallStepLemmas.{events_more, asked_place, answered_place, asked_later, event_asked, event_unanswered, message_of, request_event}
+pub use Rattle.fa_ledger.proofs.EventLemmas.{element_at, same_places, event_is_one, events_are_one, notice_no_reply}
+pub use Rattle.fa_ledger.proofs.GoodLemmas.{events_front}
+pub use Rattle.fa_ledger.proofs.CallStepLemmas.{events_more, asked_place, answered_place, asked_later, event_asked, event_unanswered, message_of, request_event, request_there}
 -- one event more: counts, the names of nodes, and keys
 pub use Rattle.fa_ledger.proofs.GrowthLemmas.{given_more, taken_more, name_kept, name_new, counted_named, uncounted_unnamed, named_counted}
 pub use Rattle.fa_ledger.proofs.HandleLemmas.{opened_more, closed_more, open_still, open_before, open_now, since_open}
@@ -33,9 +33,12 @@ pub use Rattle.fa_ledger.proofs.EventThereLemmas.{events_are_there}
 pub use Rattle.fa_ledger.proofs.ThereLemmas.{calls_are_there}
 -- requests, answers, good messages and calls of the first messages
 pub use Rattle.fa_ledger.proofs.FrontLemmas.{asked_of_front, asked_in_front, answers_of_front, answers_in_front, good_front, unanswered, call_in_front, call_cut_off}
+-- what was listed so far
+pub use Rattle.fa_ledger.proofs.SoFarLemmas.{calls_list_so_far}
+-- where nodes and open directories come from, and what answers a call
+pub use Rattle.fa_ledger.proofs.NamingLemmas.{IsTreeAnswer, IsNamedSince, IsOpenedBefore, HasReply, name_given, lists_directory, handle_opened, call_replied}
 -- items one after the other
 pub use Rattle.fa_ledger.proofs.TakingLemmas.{moved_on}
-pub use Rattle.fa_ledger.proofs.GivingLemmas.{all_at}
 
 -- messages that begin alike have events that begin alike
 pub events_begin : (c d : List Message) (es fs : List PlainEvent) (i : ℕ) → AreEvents c es → AreEvents d fs → take i c ≡ take i d → take i es ≡ take i fs

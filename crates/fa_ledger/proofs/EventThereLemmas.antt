@@ -5,11 +5,10 @@ use Rattle.std.proofs.lemmas.Bool.{cases_lt}
 use Rattle.fa_capture.specs.declared.packet.Direction.TheVariants.{ToServer, FromServer}
 use Rattle.fa_capture.specs.Checks.{AllHold, checks_of}
 use Rattle.fa_capture.specs.Message.{Message}
-use Rattle.fa_capture.proofs.CallerLemmas.{hold_front, hold_later}
+use Rattle.fa_capture.proofs.CallerLemmas.{hold_front, hold_later, take_with_next}
 use Rattle.fa_bodies.specs.Requests.{request_checks}
 use Rattle.fa_bodies.specs.Replies.{reply_head_checks}
-use Rattle.fa_bodies.proofs.CallerLemmas.{request_passes_checks}
-use Rattle.fa_bodies.proofs.ReplyLaws.{head-checks}
+use Rattle.fa_bodies.proofs.CallerLemmas.{request_passes_checks, head-checks}
 use Rattle.fa_session.specs.Answers.{IsReplyMessage}
 use Rattle.fa_session.specs.Allowed.{ForRequest, ForReply, request_rules, reply_rules, answer_checks, checks_by, IsAllowed, EachAllowed}
 use Rattle.fa_session.specs.Events.{PlainEvent, IsEvent}
@@ -17,7 +16,6 @@ use Rattle.fa_session.specs.Events.PlainEvent.{Asked, Answered, Notice}
 use Rattle.fa_ledger.specs.Events.{AreEvents}
 use Rattle.fa_ledger.specs.Laws.{EventsAreThere}
 use Rattle.fa_ledger.proofs.EventLemmas.{element_at}
-use Rattle.fa_ledger.proofs.GrowthLemmas.{take_more}
 use Rattle.fa_ledger.proofs.CallStepLemmas.{events_more}
 
 -- a message that went to the server is a request
@@ -54,7 +52,7 @@ first_events c allowed (suc n) within =
     let before = first_events c allowed n (omega (arith, within)) in
     let message = element_at c n within in
     let event = event_there (take n c) message.0 (allowed n message.0 message.1) in
-    (before.0 ++ event.0 ∷ [], subst (λ x. AreEvents x (before.0 ++ event.0 ∷ [])) (sym (take_more c n message.0 message.1)) (events_more (take n c) message.0 before.0 event.0 before.1 event.1))
+    (before.0 ++ event.0 ∷ [], subst (λ x. AreEvents x (before.0 ++ event.0 ∷ [])) (sym (take_with_next c n message.0 message.1)) (events_more (take n c) message.0 before.0 event.0 before.1 event.1))
 
 pub events_are_there : EventsAreThere
 events_are_there c allowed =

@@ -2,14 +2,15 @@
 -- for the answers that come later.
 use Rattle.std.proofs.Common.{◌≡◌, ℕ, ◌+◌, ◌<◌, ◌≤◌, List, take, Option, None, Some, refl, sym, subst, arith}
 use Rattle.std.specs.Prelude.{slice_get, map}
-use Rattle.std.proofs.lemmas.List.{length-take}
+use Rattle.std.proofs.lemmas.List.{length-take, take-take}
 use Rattle.std.proofs.lemmas.Option.{slice_get_within}
 use Rattle.fa_capture.specs.Message.{Message}
+use Rattle.fa_capture.proofs.CallerLemmas.{get_of_front, get_in_front}
 use Rattle.fa_bodies.specs.Requests.{PlainRequest}
 use Rattle.fa_session.specs.Answers.{IsRequestAt, Answers, AnswersAt}
 use Rattle.fa_session.specs.Events.{PlainEvent}
 use Rattle.fa_session.specs.Events.PlainEvent.{Answered}
-use Rattle.fa_session.proofs.CallerLemmas.{get_of_front, get_in_front, answered_once}
+use Rattle.fa_session.proofs.CallerLemmas.{answered_once}
 use Rattle.fa_ledger.specs.Events.{AreEvents}
 use Rattle.fa_ledger.specs.Counts.{nodes_given}
 use Rattle.fa_ledger.specs.Names.{name_at}
@@ -17,7 +18,6 @@ use Rattle.fa_ledger.specs.Handles.{opening, times_opened, times_closed}
 use Rattle.fa_ledger.specs.Passing.{AreGood, Passes}
 use Rattle.fa_ledger.specs.Calls.{PlainAnswer, PlainCall, IsAskedCall, OpensAnew, IsAnswerOf, HasAnswer, IsCall}
 use Rattle.fa_ledger.proofs.CallLemmas.{answers_at}
-use Rattle.fa_ledger.proofs.GoodLemmas.{take_front}
 
 -- ---- messages
 
@@ -36,18 +36,18 @@ asked_in_front c m p r below asked = (asked.0, get_in_front c m p asked.0 below 
 pub answers_of_front : (c : List Message) (m q p : ℕ) (r : PlainRequest) → AnswersAt (take m c) q p r → (q < m) × AnswersAt c q p r
 answers_of_front c m q p r at =
     let below : q < m = front_below c m q at.0 at.1 in
-    (below, (at.0, get_of_front c m q at.0 at.1, subst (λ (before : List Message). Answers before at.0 p r) (take_front c q m (omega (arith, below))) at.2))
+    (below, (at.0, get_of_front c m q at.0 at.1, subst (λ (before : List Message). Answers before at.0 p r) (take-take q m c (omega (arith, below))) at.2))
 
 pub answers_in_front : (c : List Message) (m q p : ℕ) (r : PlainRequest) → q < m → AnswersAt c q p r → AnswersAt (take m c) q p r
 answers_in_front c m q p r below at =
-    (at.0, get_in_front c m q at.0 below at.1, subst (λ (before : List Message). Answers before at.0 p r) (sym (take_front c q m (omega (arith, below)))) at.2)
+    (at.0, get_in_front c m q at.0 below at.1, subst (λ (before : List Message). Answers before at.0 p r) (sym (take-take q m c (omega (arith, below)))) at.2)
 
 -- the first of good messages are good
 pub good_front : (c : List Message) (m : ℕ) → AreGood c → AreGood (take m c)
 good_front c m good i x within there =
     let below : i < m = front_below c m i x there in
     let whole : slice_get c i ≡ Some x = get_of_front c m i x there in
-    subst (λ (before : List Message). Passes before x) (sym (take_front c i m (omega (arith, below)))) (good i x (slice_get_within c i x whole) whole)
+    subst (λ (before : List Message). Passes before x) (sym (take-take i m c (omega (arith, below)))) (good i x (slice_get_within c i x whole) whole)
 
 -- ---- calls
 
@@ -68,7 +68,7 @@ unanswered call = record {
 -- whether an answer opens a handle anew shows before it
 module _ (es : List PlainEvent) (m q : ℕ) (below : q < m) where
   front_same : take q (take m es) ≡ take q es
-  front_same = take_front es q m (omega (arith, below))
+  front_same = take-take q m es (omega (arith, below))
 
   opens_in_front : OpensAnew es q → OpensAnew (take m es) q
   opens_in_front (key, out, at, stood) = (
@@ -91,13 +91,13 @@ answer_in_front : (es : List PlainEvent) (m : ℕ) (call : PlainCall) (answer : 
 answer_in_front es m call answer below is = record {
   there = get_in_front es m answer.at (Answered answer.at call.asked call.request answer.reply) below is.there;
   given = subst (λ (b : List PlainEvent). map (λ node. name_at b node) (nodes_given call.request.body answer.reply) ≡ map (λ name. Some name) answer.given)
-      (sym (take_front es (answer.at + 1) m (omega (arith, below)))) is.given;
+      (sym (take-take (answer.at + 1) m es (omega (arith, below)))) is.given;
   opens = ((λ does. opens_in_front es m answer.at below (is.opens.0 does)), (λ anew. is.opens.1 (opens_of_front es m answer.at below anew)));
 }
 
 module _ (es : List PlainEvent) (m : ℕ) (call : PlainCall) (is : IsCall es call) (below : call.asked < m) where
   asked_same : take call.asked (take m es) ≡ take call.asked es
-  asked_same = take_front es call.asked m (omega (arith, below))
+  asked_same = take-take call.asked m es (omega (arith, below))
 
   asked_front : IsAskedCall (take call.asked (take m es)) call
   asked_front = subst (λ (b : List PlainEvent). IsAskedCall b call) (sym asked_same) is.asked

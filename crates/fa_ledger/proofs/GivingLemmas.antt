@@ -1,11 +1,12 @@
 -- Nodes that are given: which of them are new, and the names that a listing gives.
-use Rattle.std.proofs.Common.{append_assoc, ◌≡◌, ◌≢◌, ℕ, zero, suc, true, false, List, [], ◌∷◌, ◌++◌, length, Option, None, Some, refl, sym, ap, subst, ◌∙◌, arith}
-use Rattle.std.specs.Prelude.{nat_eq, is_none, map, All, slice_index_or, ◌==◌, if◌then◌else◌}
+use Rattle.std.proofs.Common.{append_assoc, ◌≡◌, ◌≢◌, ℕ, zero, suc, true, false, List, [], ◌∷◌, ◌++◌, Option, None, Some, refl, sym, ap, subst, ◌∙◌, arith}
+use Rattle.std.specs.Prelude.{nat_eq, is_none, map, All, ◌==◌, if◌then◌else◌}
 use Rattle.std.specs.Map.{lookup}
 use Rattle.std.specs.Option.{option_eq}
 use Rattle.std.proofs.lemmas.Bool.Decides.{nat_tests}
-use Rattle.std.proofs.lemmas.List.{append-nil, length-append, map-append}
+use Rattle.std.proofs.lemmas.List.{append-nil, map-append}
 use Rattle.std.proofs.lemmas.List.Elements.{All-nil, All-push}
+use Rattle.fa_capture.proofs.CallerLemmas.{all_middle}
 use Rattle.fa_bodies.specs.declared.entry.EntryOut.{EntryOut}
 use Rattle.fa_bodies.specs.declared.requests.TheConstants.{ROOT_ID}
 use Rattle.fa_bodies.specs.Dirents.{PlainDirent}
@@ -77,15 +78,6 @@ pub not_the_root : (r : Option ℕ) → option_eq nat_eq r (Some ROOT_ID) ≡ fa
 not_the_root None not is = absurd cc
 not_the_root (Some id) not is = let same : id ≡ ROOT_ID = cc in grind (arith, nat_tests, not, same)
 
--- what holds of each holds of one in the middle
-item_at : {X : Type 0} (xs ys : List X) (x d : X) → slice_index_or (xs ++ x ∷ ys) (length xs) d ≡ x
-item_at [] ys x d = refl
-item_at (z ∷ xs) ys x d = item_at xs ys x d
-
-pub all_at : {X : Type 0} (P : X → Type 0) (xs ys : List X) (x : X) → All P (xs ++ x ∷ ys) → P x
-all_at P xs ys x each =
-    subst P (item_at xs ys x x) (each (length xs) x (let long = length-append xs (x ∷ ys) in omega (arith, long)))
-
 -- an entry that gives the root gives what may not be given
 pub root_may_not : (all front rest : List PlainDirent) (d : PlainDirent) (r : Option ℕ) → all ≡ front ++ d ∷ rest → as_list r ≡ nodes_of_entry d.entry d.name → r ≡ Some ROOT_ID
     → All MayBeGiven (nodes_of_listing all) → ⊥
@@ -93,7 +85,7 @@ root_may_not all front rest d r is gives root each =
     let own : ROOT_ID ∷ [] ≡ nodes_of_entry d.entry d.name = ap as_list (sym root) ∙ gives in
     let around : nodes_of_listing all ≡ nodes_of_listing front ++ ROOT_ID ∷ nodes_of_listing rest =
     listing_around all front rest d is ∙ ap (λ ns. nodes_of_listing front ++ (ns ++ nodes_of_listing rest)) (sym own) in
-    (all_at MayBeGiven (nodes_of_listing front) (nodes_of_listing rest) ROOT_ID (subst (All MayBeGiven) around each)).1 refl
+    (all_middle MayBeGiven (nodes_of_listing front) (nodes_of_listing rest) ROOT_ID (subst (All MayBeGiven) around each)).1 refl
 
 -- ---- names of a listing's nodes
 

@@ -4,36 +4,26 @@ use Rattle.std.proofs.Common.{◌≡◌, ℕ, zero, suc, ◌<◌, ◌≤◌, tru
 use Rattle.std.specs.Prelude.{if◌then◌else◌, option_and_then}
 use Rattle.std.proofs.lemmas.Bool.{cases_lt}
 use Rattle.std.proofs.lemmas.Option.{slice_get_within, same_Some}
-use Rattle.std.proofs.lemmas.List.{take_all, length-take}
+use Rattle.std.proofs.lemmas.List.{take_all, length-take, take-take}
 use Rattle.fa_capture.specs.declared.packet.Direction.{Direction}
 use Rattle.fa_capture.specs.declared.packet.Direction.TheVariants.{ToServer}
 use Rattle.fa_capture.specs.Checks.{AllHold}
 use Rattle.fa_capture.specs.Message.{Message}
-use Rattle.fa_capture.proofs.CallerLemmas.{hold_later}
+use Rattle.fa_capture.proofs.CallerLemmas.{hold_later, get_of_front, take_with_next}
 use Rattle.fa_bodies.specs.Requests.{PlainRequest}
 use Rattle.fa_session.specs.Allowed.{session_checks}
 use Rattle.fa_session.specs.Answers.{IsRequestMessage}
 use Rattle.fa_session.specs.Events.{PlainEvent, IsEvent}
 use Rattle.fa_session.specs.Events.PlainEvent.{Asked, Answered, Notice}
-use Rattle.fa_session.proofs.CallerLemmas.{get_of_front}
 use Rattle.fa_ledger.specs.declared.key.Key.{Key}
 use Rattle.fa_ledger.specs.Events.{AreEvents}
 use Rattle.fa_ledger.specs.Keys.{key_at, key_used}
 use Rattle.fa_ledger.specs.Handles.{is_closing, closing, times_opened, times_closed, IsOpen, IsOpenSince}
 use Rattle.fa_ledger.specs.Passing.{AreGood, UsesOpen, NamesKnown, TakesWithin, ledger_checks_by, Passes}
 use Rattle.fa_ledger.proofs.EventLemmas.{element_at}
-use Rattle.fa_ledger.proofs.GrowthLemmas.{take_more}
 use Rattle.fa_ledger.proofs.HandleLemmas.{IsBalanced, opened_more, closed_more, closes_or_not, newly_open, open_still, open_now}
 
 -- ---- fronts
-
--- a front of a front
-pub take_front : {X : Type 0} (xs : List X) (i n : ℕ) → i ≤ n → take i (take n xs) ≡ take i xs
-take_front xs zero n within = refl
-take_front [] (suc i) zero within = refl
-take_front [] (suc i) (suc n) within = refl
-take_front (x ∷ xs) (suc i) zero within = absurd (omega (arith, within))
-take_front (x ∷ xs) (suc i) (suc n) within = ap (λ ys. x ∷ ys) (take_front xs i n (omega (arith, within)))
 
 -- the first events are those of the first messages
 pub events_front : (c : List Message) (es : List PlainEvent) → AreEvents c es → (n : ℕ) → AreEvents (take n c) (take n es)
@@ -42,7 +32,7 @@ events_front c es are n = record {
   each = λ i m e message event.
       let within : i < length (take n c) = slice_get_within (take n c) i m message in
       let below : i ≤ n = omega (arith, within, length-take n c) in
-      subst (λ before. IsEvent before m e) (sym (take_front c i n below)) (are.each i m e (get_of_front c n i m message) (get_of_front es n i e event));
+      subst (λ before. IsEvent before m e) (sym (take-take i n c below)) (are.each i m e (get_of_front c n i m message) (get_of_front es n i e event));
 }
 
 -- ---- requests of good messages
@@ -88,7 +78,7 @@ good_balanced c es are good (suc n) within key =
     let before = good_balanced c es are good n (omega (arith, within)) key in
     let event = element_at es n within in
     let message = element_at c n (omega (arith, within, are.counted)) in
-    let more : take (suc n) es ≡ take n es ++ event.0 ∷ [] = take_more es n event.0 event.1 in
+    let more : take (suc n) es ≡ take n es ++ event.0 ∷ [] = take_with_next es n event.0 event.1 in
     let balanced : IsBalanced (take n es ++ event.0 ∷ []) key =
     elim (closes_or_not key (take n es) event.0) [
       | inl closes ↦
@@ -109,7 +99,7 @@ open_some : (c : List Message) (es : List PlainEvent) → AreEvents c es → Are
 open_some c es are good key zero within stands = absurd (omega (arith, stands))
 open_some c es are good key (suc n) within stands =
     let event = element_at es n within in
-    let more : take (suc n) es ≡ take n es ++ event.0 ∷ [] = take_more es n event.0 event.1 in
+    let more : take (suc n) es ≡ take n es ++ event.0 ∷ [] = take_with_next es n event.0 event.1 in
     let now : IsOpen (take n es ++ event.0 ∷ []) key = subst (λ x. IsOpen x key) more stands in
     elim (cases_lt (times_closed (take n es) key) (times_opened (take n es) key)) [
       | inl before ↦

@@ -3,14 +3,14 @@
 use Rattle.std.proofs.Common.{◌≡◌, ℕ, ◌+◌, ◌<◌, ◌≤◌, ◌⊎◌, Bool, true, false, List, [], ◌∷◌, ◌++◌, length, take, Some, None, refl, sym, ap, subst, ◌∙◌, inl, inr, arith}
 use Rattle.std.specs.Prelude.{◌&&◌, ◌==◌, if◌then◌else◌, slice_get, ◌↔◌, IsTrue}
 use Rattle.std.specs.Option.{option_map_or}
-use Rattle.std.proofs.lemmas.Bool.{cases_lt}
+use Rattle.std.proofs.lemmas.Bool.{cases_lt, and_parts}
 use Rattle.std.proofs.lemmas.Bool.Decides.{nat_tests}
 use Rattle.std.proofs.lemmas.Option.{slice_get_within}
 use Rattle.std.proofs.lemmas.List.{take_all, length-append}
+use Rattle.fa_capture.proofs.CallerLemmas.{get_kept, get_back, get_last, take_before, take_all_before}
 use Rattle.fa_bodies.specs.declared.handles.OpenOut.{OpenOut}
 use Rattle.fa_session.specs.Events.{PlainEvent}
 use Rattle.fa_session.specs.Events.PlainEvent.{Answered}
-use Rattle.fa_session.proofs.CallerLemmas.{get_kept, get_back, get_last, take_before, take_all_before}
 use Rattle.fa_ledger.specs.declared.key.HandleKind.{HandleKind}
 use Rattle.fa_ledger.specs.declared.key.HandleKind.TheVariants.{File, Directory}
 use Rattle.fa_ledger.specs.declared.key.Key.{Key}
@@ -19,7 +19,6 @@ use Rattle.fa_ledger.specs.declared.name.NodeName.TheVariants.{Root, Given}
 use Rattle.fa_ledger.specs.Keys.{name_eq, kind_eq, key_eq}
 use Rattle.fa_ledger.specs.Handles.{opening, closing, opens_once, closes_once, times_opened, times_closed, IsOpen, IsOpenSince, IsHandle}
 use Rattle.fa_ledger.proofs.SumLemmas.{sum_of-append}
-use Rattle.fa_ledger.proofs.NameLemmas.{and_both}
 
 -- ---- keys
 
@@ -28,7 +27,7 @@ name_same Root Root is = refl
 name_same Root (Given id by) is = absurd cc
 name_same (Given id by) Root is = absurd cc
 name_same (Given id by) (Given other since) is =
-    let both = and_both (id == other) (by == since) is in
+    let both = and_parts (id == other) (by == since) is in
     let ids : id ≡ other = grind (arith, nat_tests, both.0) in
     let bys : by ≡ since = grind (arith, nat_tests, both.1) in
     cc
@@ -52,8 +51,8 @@ kind_self Directory = refl
 
 pub key_same : (a b : Key) → key_eq a b ≡ true → a ≡ b
 key_same a b is =
-    let outer = and_both (name_eq a.node b.node && a.fh == b.fh) (kind_eq a.kind b.kind) is in
-    let inner = and_both (name_eq a.node b.node) (a.fh == b.fh) outer.0 in
+    let outer = and_parts (name_eq a.node b.node && a.fh == b.fh) (kind_eq a.kind b.kind) is in
+    let inner = and_parts (name_eq a.node b.node) (a.fh == b.fh) outer.0 in
     let nodes : a.node ≡ b.node = name_same a.node b.node inner.0 in
     let numbers : a.fh ≡ b.fh = grind (arith, nat_tests, inner.1) in
     let kinds : a.kind ≡ b.kind = kind_same a.kind b.kind outer.1 in

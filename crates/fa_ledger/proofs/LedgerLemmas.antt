@@ -1,8 +1,8 @@
 -- The ledger: what its fields show, and the next message.
-use Rattle.std.proofs.Common.{◌≡◌, ℕ, ◌+◌, Bool, cond, List, [], ◌∷◌, ◌++◌, length, take, Some, refl, sym, ap, subst, ◌∙◌, inl, inr, arith}
+use Rattle.std.proofs.Common.{◌≡◌, ℕ, ◌+◌, Bool, true, false, T, cond, List, [], ◌∷◌, ◌++◌, length, take, Some, refl, sym, ap, subst, ◌∙◌, inl, inr, arith}
 use Rattle.std.specs.Prelude.{nat_eq, All}
 use Rattle.std.specs.Cmp.{nat_cmp_total, unsigned_tied}
-use Rattle.std.specs.FinMap.{find, entries, from_entries, get-entries, get-from_entries, same_map, nat_cmp-IsAntisymmetric}
+use Rattle.std.specs.FinMap.{find, entries, from_entries, get-entries, get-from_entries, same_map, nat_cmp-IsAntisymmetric, entries_sorted, is_sorted}
 use Rattle.std.specs.Map.{lookup}
 use Rattle.std.specs.Ordering.{nat_cmp}
 use Rattle.std.proofs.Math.Logic.{∥∥₁_map}
@@ -10,7 +10,7 @@ use Rattle.std.proofs.lemmas.List.{length-append}
 use Rattle.fa_capture.specs.declared.packet.Direction.{Direction}
 use Rattle.fa_capture.specs.Checks.{AllHold, FirstFailure}
 use Rattle.fa_capture.specs.Message.{Message}
-use Rattle.fa_capture.proofs.CallerLemmas.{fails_behind, hold_both, lifted_failure, lifted_hold}
+use Rattle.fa_capture.proofs.CallerLemmas.{fails_behind, hold_both, lifted_failure, lifted_hold, get_cases, get_back, take_before, take_all_before}
 use Rattle.fa_bodies.specs.FlagBits.{atomic_o_trunc}
 use Rattle.fa_bodies.specs.Requests.{PlainRequest}
 use Rattle.fa_bodies.specs.Replies.{PlainReply, IsReply}
@@ -19,7 +19,7 @@ use Rattle.fa_session.specs.Allowed.{session_checks}
 use Rattle.fa_session.specs.Answers.{IsRequestMessage}
 use Rattle.fa_session.specs.Events.{PlainEvent, IsEvent}
 use Rattle.fa_session.specs.Events.PlainEvent.{Asked, Answered, Notice}
-use Rattle.fa_session.proofs.CallerLemmas.{answers_one, get_cases, get_back, take_before, take_all_before}
+use Rattle.fa_session.proofs.CallerLemmas.{answers_one}
 use Rattle.fa_ledger.specs.declared.books.Books.{Books}
 use Rattle.fa_ledger.specs.declared.error.LedgerError.{LedgerError}
 use Rattle.fa_ledger.specs.declared.error.LedgerError.TheVariants.{Refused, Memory}
@@ -60,6 +60,11 @@ pub find_by_id : (node : ℕ) (known : List (ℕ × Lookups)) → find nat_cmp n
 find_by_id node known =
     sym (get-entries (from_entries {R = nat_cmp} known) node) ∙ get-from_entries nat_cmp_total known node ∙ find_entry node known
 
+-- a test that holds is true
+holds_true : (b : Bool) → T b → b ≡ true
+holds_true true holds = refl
+holds_true false holds = absurd holds
+
 -- tables that have the same at each id show the same
 same_by_id : (old new : List (ℕ × Lookups)) → ((node : ℕ) → lookup (nat_eq node) new ≡ lookup (nat_eq node) old) → by_id new ≡ by_id old
 same_by_id old new same =
@@ -73,6 +78,7 @@ shown_parts s es books counted = record {
   counted = counted;
   truncating = books.truncating;
   nodes = λ node. subst (IsNodeOf es node) (sym (find_by_id node s.books.nodes.known.entries)) (books.nodes node);
+  rising = holds_true (is_sorted nat_cmp (by_id s.books.nodes.known.entries)) (entries_sorted (from_entries {R = nat_cmp} s.books.nodes.known.entries));
   handles = books.keys;
   listed = places_alike es (place_of s.books.listings.by_key.entries) (place_in (listed_shown s.books.listings.by_key.entries)) (place_shown s.books.listings.by_key.entries) books.places;
   calls = books.calls;

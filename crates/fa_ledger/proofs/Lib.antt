@@ -4,11 +4,11 @@ pub mod GrowthLemmas
 pub mod HandleLemmas
 pub mod GoodLemmas
 pub mod EventLemmas
-pub mod RisingLemmas
 pub mod ListedLemmas
 pub mod CallLemmas
 pub mod FrontLemmas
 pub mod KeyLemmas
+pub mod NamingLemmas
 pub mod NodeLemmas
 pub mod CallStepLemmas
 pub mod SoFarLemmas

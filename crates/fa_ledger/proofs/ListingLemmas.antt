@@ -4,16 +4,17 @@ use Rattle.std.specs.Prelude.{◌≢◌, ◌==◌, if◌then◌else◌, cond, sl
 use Rattle.std.specs.Map.{lookup}
 use Rattle.std.proofs.lemmas.Bool.Decides.{nat_tests}
 use Rattle.std.proofs.lemmas.Option.{slice_get_within, same_Some}
-use Rattle.std.proofs.lemmas.List.{length-append, length-take}
+use Rattle.std.proofs.lemmas.List.{length-append, length-take, take-take}
 use Rattle.fa_bodies.specs.declared.handles.OpenOut.{OpenOut}
 use Rattle.fa_bodies.specs.Dirents.{PlainDirent}
 use Rattle.fa_bodies.specs.Requests.{PlainRequest}
 use Rattle.fa_bodies.specs.Replies.{PlainReply}
 use Rattle.fa_bodies.specs.Replies.PlainReply.{Listed}
 use Rattle.fa_capture.specs.Message.{Message}
+use Rattle.fa_capture.proofs.CallerLemmas.{get_kept, get_back, get_last, get_cases, get_of_front, take_before, take_all_before}
 use Rattle.fa_session.specs.Events.{PlainEvent, IsEvent}
 use Rattle.fa_session.specs.Events.PlainEvent.{Asked, Answered}
-use Rattle.fa_session.proofs.CallerLemmas.{get_kept, get_back, get_last, get_cases, get_of_front, take_before, take_all_before, answered_once}
+use Rattle.fa_session.proofs.CallerLemmas.{answered_once}
 use Rattle.fa_ledger.specs.declared.handles.Handle.{Handle}
 use Rattle.fa_ledger.specs.declared.key.Key.{Key}
 use Rattle.fa_ledger.specs.declared.listings.Place.{Place}
@@ -25,7 +26,6 @@ use Rattle.fa_ledger.specs.Listings.IsListedSoFar.{anew, unreached, further}
 use Rattle.fa_ledger.specs.Shows.{IsOpenAs, IsKeyOf, IsPlace, IsPlaceOf, ArePlaces}
 use Rattle.fa_ledger.specs.parts.ListingParts.{noted, going_on, further_on}
 use Rattle.fa_ledger.proofs.HandleLemmas.{key_same, key_self, opened_more, closed_more, open_before, since_open}
-use Rattle.fa_ledger.proofs.GoodLemmas.{take_front}
 use Rattle.fa_ledger.proofs.CallLemmas.{answers_at}
 use Rattle.fa_ledger.proofs.HandleLemmas.{handle_is_one}
 use Rattle.fa_ledger.proofs.ListedLemmas.{uses_is_one}
@@ -57,7 +57,7 @@ handle_opened es key name is = record {
 opened_front : (es : List PlainEvent) (n : ℕ) (key : Key) (name : ℕ) → IsOpenedUnder (take n es) key name → IsOpenedUnder es key name
 opened_front es n key name is =
     let within : is.since < length (take n es) = slice_get_within (take n es) is.since is.opened.0 is.opened.1 in
-    let front : take is.since (take n es) ≡ take is.since es = take_front es is.since n (omega (arith, within, length-take n es)) in
+    let front : take is.since (take n es) ≡ take is.since es = take-take is.since n es (omega (arith, within, length-take n es)) in
     record {
       since = is.since;
       out = is.out;
@@ -147,25 +147,6 @@ unlisted_reaches c es e are unlisted handle offset part reaches =
     elim (reaches_cases c es e are handle offset part reaches) [
       | inl before ↦ before
       | inr now ↦ absurd (unlisted part.at part.asked part.request part.entries (sym now))
-    ]
-
--- an answer that lists reaches an offset only on the handle that its request uses, and if an entry has the offset
-listed_reaches : (c : List Message) (m : Message) (es : List PlainEvent) (at asked : ℕ) (r : PlainRequest) (ds : List PlainDirent) → AreEvents c es → IsEvent c m (Answered at asked r (Listed ds))
-    → (handle offset : ℕ) → (UsesHandle (take asked es) r handle → (n : ℕ) → count_to offset ds ≡ Some n → ⊥)
-    → ReachesNot es (Answered at asked r (Listed ds)) handle offset
-listed_reaches c m es at asked r ds are is handle offset not part reaches =
-    let e : PlainEvent = Answered at asked r (Listed ds) in
-    let within : asked < length es = slice_get_within es asked (Asked asked r) (event_asked c m es are at asked r (Listed ds) is) in
-    elim (reaches_cases c es e are handle offset part reaches) [
-      | inl before ↦ before
-      | inr now ↦
-          let number : part.asked ≡ asked = cc in
-          let request : part.request ≡ r = cc in
-          let entries : part.entries ≡ ds = cc in
-          let front : take part.asked (es ++ e ∷ []) ≡ take asked es = ap (λ k. take k (es ++ e ∷ [])) number ∙ take_before es e asked (omega (arith, within)) in
-          let uses : UsesHandle (take asked es) r handle = subst (λ s. UsesHandle (take asked es) s handle) request (subst (λ x. UsesHandle x part.request handle) front reaches.uses) in
-          let count : count_to offset ds ≡ Some part.count = subst (λ xs. count_to offset xs ≡ Some part.count) entries reaches.count in
-          absurd (not uses part.count count)
     ]
 
 -- ---- places on a handle
@@ -282,120 +263,6 @@ closing_places c m es e are is unlisted k shut stays place new changed places =
     (λ key offset unopened. none key offset (λ differ. places.closed key offset unopened))
     (λ key offset closed. none key offset (λ differ. places.closed key offset (λ stood. closed (stays key differ stood))))
 
--- ---- an answer that lists
-
--- a reply closes no handle
-pub reply_open : (es : List PlainEvent) (at asked : ℕ) (r : PlainRequest) (reply : PlainReply) (key : Key) → IsOpen es key → IsOpen (es ++ Answered at asked r reply ∷ []) key
-reply_open es at asked r reply key stood =
-    omega (arith, stood, opened_more es (Answered at asked r reply) key, closed_more es (Answered at asked r reply) key)
-
--- the offset of an entry that is answered now has its place there
-place_now : (c : List Message) (m : Message) (es : List PlainEvent) (at asked : ℕ) (r : PlainRequest) (ds : List PlainDirent)
-    → AreEvents c es → IsEvent c m (Answered at asked r (Listed ds))
-    → (handle began : ℕ) (adrift : Bool) → UsesHandle (take asked es) r handle → offset_asked r.body ≡ Some began
-    → ((entries : List PlainDirent) × IsListedSoFar (take asked es) handle began entries adrift)
-    → (offset n : ℕ) → count_to offset ds ≡ Some n
-    → IsPlace (es ++ Answered at asked r (Listed ds) ∷ []) handle offset (record { asked = asked; count = n; adrift = adrift })
-place_now c m es at asked r ds are is handle began adrift uses begins so_far offset n counts =
-    let e : PlainEvent = Answered at asked r (Listed ds) in
-    let more : List PlainEvent = es ++ e ∷ [] in
-    let within : asked < length es = slice_get_within es asked (Asked asked r) (event_asked c m es are at asked r (Listed ds) is) in
-    let front : take asked more ≡ take asked es = take_before es e asked (omega (arith, within)) in
-    let here : at ≡ length es = is.0 ∙ sym are.counted in
-    record {
-      part = record { at = at; asked = asked; request = r; entries = ds; count = n };
-      last = record {
-        reaches = record {
-          there = subst (λ k. slice_get more k ≡ Some e) (sym here) (get_last es e);
-          uses = subst (λ x. UsesHandle x r handle) (sym front) uses;
-          count = counts;
-        };
-        last = λ other reaches.
-            let below = slice_get_within more other.at _ reaches.there in
-            omega (arith, below, here, length-append es (e ∷ []));
-      };
-      asked = refl;
-      count = refl;
-      began = began;
-      begins = begins;
-      adrift = (so_far.0, subst (λ x. IsListedSoFar x handle began so_far.0 adrift) (sym front) so_far.1);
-    }
-
--- on the handle on which a reply lists, the offsets of its entries have their places there, and others keep theirs
-noted_place : (c : List Message) (m : Message) (es : List PlainEvent) (at asked : ℕ) (r : PlainRequest) (ds : List PlainDirent)
-    → AreEvents c es → IsEvent c m (Answered at asked r (Listed ds))
-    → (handle began : ℕ) (adrift : Bool) → UsesHandle (take asked es) r handle → offset_asked r.body ≡ Some began
-    → ((entries : List PlainDirent) × IsListedSoFar (take asked es) handle began entries adrift)
-    → (offset : ℕ) (place : Option Place) → IsPlaceOf es handle offset place
-    → IsPlaceOf (es ++ Answered at asked r (Listed ds) ∷ []) handle offset (noted asked adrift (count_to offset ds) place)
-noted_place c m es at asked r ds are is handle began adrift uses begins so_far offset place stands =
-    let e : PlainEvent = Answered at asked r (Listed ds) in
-    elim (count_to offset ds) as (λ t. count_to offset ds ≡ t → IsPlaceOf (es ++ e ∷ []) handle offset (noted asked adrift t place)) [
-      | None ↦ λ none.
-          place_still c es e are handle offset (listed_reaches c m es at asked r ds are is handle offset (λ used n counts. let clash : None ≡ Some n = sym none ∙ counts in absurd cc)) place stands
-      | Some n ↦ λ counts. place_now c m es at asked r ds are is handle began adrift uses begins so_far offset n counts
-    ] refl
-
--- a reply that lists on a handle that is open is where its offsets were last answered
-pub listed_places : (c : List Message) (m : Message) (es : List PlainEvent) (at asked : ℕ) (r : PlainRequest) (ds : List PlainDirent)
-    → AreEvents c es → IsEvent c m (Answered at asked r (Listed ds))
-    → (handle began : ℕ) (adrift : Bool) (uses : UsesHandle (take asked es) r handle) → IsHandle es uses.key handle
-    → offset_asked r.body ≡ Some began
-    → ((entries : List PlainDirent) × IsListedSoFar (take asked es) handle began entries adrift)
-    → (place new : Key → ℕ → Option Place)
-    → ((key : Key) (offset : ℕ) → new key offset ≡ cond (key_eq uses.key key) (noted asked adrift (count_to offset ds) (place key offset)) (place key offset))
-    → ArePlaces es place → ArePlaces (es ++ Answered at asked r (Listed ds) ∷ []) new
-listed_places c m es at asked r ds are is handle began adrift uses names begins so_far place new changed places =
-    let e : PlainEvent = Answered at asked r (Listed ds) in
-    let noted_at : Key → ℕ → Option Place = λ key offset. noted asked adrift (count_to offset ds) (place key offset) in
-    let none : (key : Key) (offset : ℕ) → (IsOpen es key → ⊥) → new key offset ≡ None = λ key offset shut.
-    elim (key_cases uses.key key) [
-      | inl same ↦ absurd (shut (subst (IsOpen es) same.1 (since_open es uses.key names.since names.stands)))
-      | inr differ ↦ chosen_other uses.key key (new key offset) (noted_at key offset) (place key offset) (changed key offset) differ ∙ places.closed key offset shut
-    ] in
-    places_more c m es e are is new
-    (λ key other offset named now.
-    elim (key_cases uses.key key) [
-      | inl same ↦
-          let one : other ≡ handle = handle_is_one es key other handle named (subst (λ k. IsHandle es k handle) same.1 names) in
-          let stands : IsPlaceOf es handle offset (place key offset) = subst (λ h. IsPlaceOf es h offset (place key offset)) one (places.«open» key other offset named) in
-          let there = noted_place c m es at asked r ds are is handle began adrift uses begins so_far offset (place key offset) stands in
-          rw (chosen_same uses.key key (new key offset) (noted_at key offset) (place key offset) (changed key offset) same.0, one) there
-      | inr differ ↦
-          let not : ReachesNot es e other offset = listed_reaches c m es at asked r ds are is other offset (λ used n counts.
-          let one : other ≡ handle = uses_is_one (take asked es) r other handle used uses in
-          let keys : uses.key ≡ key = handle_key c es are asked uses.key key other (subst (IsHandle (take asked es) uses.key) (sym one) uses.named) named in
-          let clash : key_eq uses.key key ≡ true = subst (λ k. key_eq uses.key k ≡ true) keys (key_self uses.key) in
-          absurd cc) in
-          rw (chosen_other uses.key key (new key offset) (noted_at key offset) (place key offset) (changed key offset) differ)
-          (place_still c es e are other offset not (place key offset) (places.«open» key other offset named))
-    ])
-    none
-    (λ key offset shut. none key offset (λ stood. shut (reply_open es at asked r (Listed ds) key stood)))
-
--- a reply that lists on a handle that is closed by now, or open under another name, is the place of none
-pub late_places : (c : List Message) (m : Message) (es : List PlainEvent) (at asked : ℕ) (r : PlainRequest) (ds : List PlainDirent)
-    → AreEvents c es → IsEvent c m (Answered at asked r (Listed ds))
-    → (handle : ℕ) (uses : UsesHandle (take asked es) r handle) → (IsHandle es uses.key handle → ⊥)
-    → (place : Key → ℕ → Option Place) → ArePlaces es place → ArePlaces (es ++ Answered at asked r (Listed ds) ∷ []) place
-late_places c m es at asked r ds are is handle uses late =
-    places_still c m es (Answered at asked r (Listed ds)) are is
-    (λ key other offset named. listed_reaches c m es at asked r ds are is other offset (λ used n counts.
-    let one : other ≡ handle = uses_is_one (take asked es) r other handle used uses in
-    let here : IsHandle es key handle = subst (IsHandle es key) one named in
-    let keys : uses.key ≡ key = handle_key c es are asked uses.key key handle uses.named here in
-    late (subst (λ k. IsHandle es k handle) (sym keys) here)))
-    (reply_open es at asked r (Listed ds))
-
--- and so is one that lists nothing, whatever its handle
-pub empty_places : (c : List Message) (m : Message) (es : List PlainEvent) (at asked : ℕ) (r : PlainRequest)
-    → AreEvents c es → IsEvent c m (Answered at asked r (Listed []))
-    → (place : Key → ℕ → Option Place) → ArePlaces es place → ArePlaces (es ++ Answered at asked r (Listed []) ∷ []) place
-empty_places c m es at asked r are is =
-    places_still c m es (Answered at asked r (Listed [])) are is
-    (λ key other offset named. listed_reaches c m es at asked r [] are is other offset (λ used n counts. let clash : None ≡ Some n = counts in absurd cc))
-    (reply_open es at asked r (Listed []))
-
 -- ---- what a request goes on from
 
 -- a place is on an open handle, of a request that was answered
@@ -409,17 +276,6 @@ place_answered es key (Some h) is place places offset p there =
     let stands : IsPlace es h.name offset p = subst (IsPlaceOf es h.name offset) there (places.«open» key h.name offset is.named) in
     let part = stands.part in
     (part.at, part.request, Listed part.entries, subst (λ n. slice_get es part.at ≡ Some (Answered part.at n part.request (Listed part.entries))) (sym stands.asked) stands.last.reaches.there)
-
--- no place is of the answer to a request that is answered only now
-pub answered_anew : (c : List Message) (m : Message) (es : List PlainEvent) (at asked : ℕ) (r : PlainRequest) (reply : PlainReply)
-    → AreEvents c es → IsEvent c m (Answered at asked r reply)
-    → (opened : List (Key × Handle)) → ((key : Key) → IsKeyOf es key (lookup (key_eq key) opened))
-    → (place : Key → ℕ → Option Place) → ArePlaces es place
-    → (key : Key) (offset : ℕ) (p : Place) → place key offset ≡ Some p → p.asked ≢ asked
-answered_anew c m es at asked r reply are is opened handles place places key offset p there same =
-    let found = place_answered es key (lookup (key_eq key) opened) (handles key) place places offset p there in
-    event_unanswered c m es are at asked r reply is found.0 found.1 found.2
-    (subst (λ n. slice_get es found.0 ≡ Some (Answered found.0 n found.1 found.2)) same found.3)
 
 -- what a request that begins elsewhere than at 0 goes on from is found at the place of its offset
 goes_further : (es : List PlainEvent) (r : PlainRequest) (offset : ℕ) (key : Key) (h : Handle) → offset_asked r.body ≡ Some offset
@@ -468,3 +324,147 @@ goes_on es r offset key h asks used is place places =
           let elsewhere : offset ≢ 0 = grind (arith, nat_tests, test) in
           goes_further es r offset key h asks used is elsewhere (place key offset) (places.«open» key h.name offset is.named)
     ] refl
+
+-- ---- an answer that lists
+
+-- a reply closes no handle
+pub reply_open : (es : List PlainEvent) (at asked : ℕ) (r : PlainRequest) (reply : PlainReply) (key : Key) → IsOpen es key → IsOpen (es ++ Answered at asked r reply ∷ []) key
+reply_open es at asked r reply key stood =
+    omega (arith, stood, opened_more es (Answered at asked r reply) key, closed_more es (Answered at asked r reply) key)
+
+module _ (c : List Message) (m : Message) (es : List PlainEvent) (at asked : ℕ) (r : PlainRequest) where
+  -- an answer that lists reaches an offset only on the handle that its request uses, and if an entry has the offset
+  listed_reaches : (ds : List PlainDirent) → AreEvents c es → IsEvent c m (Answered at asked r (Listed ds))
+      → (handle offset : ℕ) → (UsesHandle (take asked es) r handle → (n : ℕ) → count_to offset ds ≡ Some n → ⊥)
+      → ReachesNot es (Answered at asked r (Listed ds)) handle offset
+  listed_reaches ds are is handle offset not part reaches =
+      let e : PlainEvent = Answered at asked r (Listed ds) in
+      let within : asked < length es = slice_get_within es asked (Asked asked r) (event_asked c m es are at asked r (Listed ds) is) in
+      elim (reaches_cases c es e are handle offset part reaches) [
+        | inl before ↦ before
+        | inr now ↦
+            let number : part.asked ≡ asked = cc in
+            let request : part.request ≡ r = cc in
+            let entries : part.entries ≡ ds = cc in
+            let front : take part.asked (es ++ e ∷ []) ≡ take asked es = ap (λ k. take k (es ++ e ∷ [])) number ∙ take_before es e asked (omega (arith, within)) in
+            let uses : UsesHandle (take asked es) r handle = subst (λ s. UsesHandle (take asked es) s handle) request (subst (λ x. UsesHandle x part.request handle) front reaches.uses) in
+            let count : count_to offset ds ≡ Some part.count = subst (λ xs. count_to offset xs ≡ Some part.count) entries reaches.count in
+            absurd (not uses part.count count)
+      ]
+
+  -- the offset of an entry that is answered now has its place there
+  place_now : (ds : List PlainDirent)
+      → AreEvents c es → IsEvent c m (Answered at asked r (Listed ds))
+      → (handle began : ℕ) (adrift : Bool) → UsesHandle (take asked es) r handle → offset_asked r.body ≡ Some began
+      → ((entries : List PlainDirent) × IsListedSoFar (take asked es) handle began entries adrift)
+      → (offset n : ℕ) → count_to offset ds ≡ Some n
+      → IsPlace (es ++ Answered at asked r (Listed ds) ∷ []) handle offset (record { asked = asked; count = n; adrift = adrift })
+  place_now ds are is handle began adrift uses begins so_far offset n counts =
+      let e : PlainEvent = Answered at asked r (Listed ds) in
+      let more : List PlainEvent = es ++ e ∷ [] in
+      let within : asked < length es = slice_get_within es asked (Asked asked r) (event_asked c m es are at asked r (Listed ds) is) in
+      let front : take asked more ≡ take asked es = take_before es e asked (omega (arith, within)) in
+      let here : at ≡ length es = is.0 ∙ sym are.counted in
+      record {
+        part = record { at = at; asked = asked; request = r; entries = ds; count = n };
+        last = record {
+          reaches = record {
+            there = subst (λ k. slice_get more k ≡ Some e) (sym here) (get_last es e);
+            uses = subst (λ x. UsesHandle x r handle) (sym front) uses;
+            count = counts;
+          };
+          last = λ other reaches.
+              let below = slice_get_within more other.at _ reaches.there in
+              omega (arith, below, here, length-append es (e ∷ []));
+        };
+        asked = refl;
+        count = refl;
+        began = began;
+        begins = begins;
+        adrift = (so_far.0, subst (λ x. IsListedSoFar x handle began so_far.0 adrift) (sym front) so_far.1);
+      }
+
+  -- on the handle on which a reply lists, the offsets of its entries have their places there, and others keep theirs
+  noted_place : (ds : List PlainDirent)
+      → AreEvents c es → IsEvent c m (Answered at asked r (Listed ds))
+      → (handle began : ℕ) (adrift : Bool) → UsesHandle (take asked es) r handle → offset_asked r.body ≡ Some began
+      → ((entries : List PlainDirent) × IsListedSoFar (take asked es) handle began entries adrift)
+      → (offset : ℕ) (place : Option Place) → IsPlaceOf es handle offset place
+      → IsPlaceOf (es ++ Answered at asked r (Listed ds) ∷ []) handle offset (noted asked adrift (count_to offset ds) place)
+  noted_place ds are is handle began adrift uses begins so_far offset place stands =
+      let e : PlainEvent = Answered at asked r (Listed ds) in
+      elim (count_to offset ds) as (λ t. count_to offset ds ≡ t → IsPlaceOf (es ++ e ∷ []) handle offset (noted asked adrift t place)) [
+        | None ↦ λ none.
+            place_still c es e are handle offset (listed_reaches ds are is handle offset (λ used n counts. let clash : None ≡ Some n = sym none ∙ counts in absurd cc)) place stands
+        | Some n ↦ λ counts. place_now ds are is handle began adrift uses begins so_far offset n counts
+      ] refl
+
+  -- a reply that lists on a handle that is open is where its offsets were last answered
+  pub listed_places : (ds : List PlainDirent)
+      → AreEvents c es → IsEvent c m (Answered at asked r (Listed ds))
+      → (handle began : ℕ) (adrift : Bool) (uses : UsesHandle (take asked es) r handle) → IsHandle es uses.key handle
+      → offset_asked r.body ≡ Some began
+      → ((entries : List PlainDirent) × IsListedSoFar (take asked es) handle began entries adrift)
+      → (place new : Key → ℕ → Option Place)
+      → ((key : Key) (offset : ℕ) → new key offset ≡ cond (key_eq uses.key key) (noted asked adrift (count_to offset ds) (place key offset)) (place key offset))
+      → ArePlaces es place → ArePlaces (es ++ Answered at asked r (Listed ds) ∷ []) new
+  listed_places ds are is handle began adrift uses names begins so_far place new changed places =
+      let e : PlainEvent = Answered at asked r (Listed ds) in
+      let noted_at : Key → ℕ → Option Place = λ key offset. noted asked adrift (count_to offset ds) (place key offset) in
+      let none : (key : Key) (offset : ℕ) → (IsOpen es key → ⊥) → new key offset ≡ None = λ key offset shut.
+      elim (key_cases uses.key key) [
+        | inl same ↦ absurd (shut (subst (IsOpen es) same.1 (since_open es uses.key names.since names.stands)))
+        | inr differ ↦ chosen_other uses.key key (new key offset) (noted_at key offset) (place key offset) (changed key offset) differ ∙ places.closed key offset shut
+      ] in
+      places_more c m es e are is new
+      (λ key other offset named now.
+      elim (key_cases uses.key key) [
+        | inl same ↦
+            let one : other ≡ handle = handle_is_one es key other handle named (subst (λ k. IsHandle es k handle) same.1 names) in
+            let stands : IsPlaceOf es handle offset (place key offset) = subst (λ h. IsPlaceOf es h offset (place key offset)) one (places.«open» key other offset named) in
+            let there = noted_place ds are is handle began adrift uses begins so_far offset (place key offset) stands in
+            rw (chosen_same uses.key key (new key offset) (noted_at key offset) (place key offset) (changed key offset) same.0, one) there
+        | inr differ ↦
+            let not : ReachesNot es e other offset = listed_reaches ds are is other offset (λ used n counts.
+            let one : other ≡ handle = uses_is_one (take asked es) r other handle used uses in
+            let keys : uses.key ≡ key = handle_key c es are asked uses.key key other (subst (IsHandle (take asked es) uses.key) (sym one) uses.named) named in
+            let clash : key_eq uses.key key ≡ true = subst (λ k. key_eq uses.key k ≡ true) keys (key_self uses.key) in
+            absurd cc) in
+            rw (chosen_other uses.key key (new key offset) (noted_at key offset) (place key offset) (changed key offset) differ)
+            (place_still c es e are other offset not (place key offset) (places.«open» key other offset named))
+      ])
+      none
+      (λ key offset shut. none key offset (λ stood. shut (reply_open es at asked r (Listed ds) key stood)))
+
+  -- a reply that lists on a handle that is closed by now, or open under another name, is the place of none
+  pub late_places : (ds : List PlainDirent)
+      → AreEvents c es → IsEvent c m (Answered at asked r (Listed ds))
+      → (handle : ℕ) (uses : UsesHandle (take asked es) r handle) → (IsHandle es uses.key handle → ⊥)
+      → (place : Key → ℕ → Option Place) → ArePlaces es place → ArePlaces (es ++ Answered at asked r (Listed ds) ∷ []) place
+  late_places ds are is handle uses late =
+      places_still c m es (Answered at asked r (Listed ds)) are is
+      (λ key other offset named. listed_reaches ds are is other offset (λ used n counts.
+      let one : other ≡ handle = uses_is_one (take asked es) r other handle used uses in
+      let here : IsHandle es key handle = subst (IsHandle es key) one named in
+      let keys : uses.key ≡ key = handle_key c es are asked uses.key key handle uses.named here in
+      late (subst (λ k. IsHandle es k handle) (sym keys) here)))
+      (reply_open es at asked r (Listed ds))
+
+  -- and so is one that lists nothing, whatever its handle
+  pub empty_places : AreEvents c es → IsEvent c m (Answered at asked r (Listed []))
+      → (place : Key → ℕ → Option Place) → ArePlaces es place → ArePlaces (es ++ Answered at asked r (Listed []) ∷ []) place
+  empty_places are is =
+      places_still c m es (Answered at asked r (Listed [])) are is
+      (λ key other offset named. listed_reaches [] are is other offset (λ used n counts. let clash : None ≡ Some n = counts in absurd cc))
+      (reply_open es at asked r (Listed []))
+
+  -- no place is of the answer to a request that is answered only now
+  pub answered_anew : (reply : PlainReply)
+      → AreEvents c es → IsEvent c m (Answered at asked r reply)
+      → (opened : List (Key × Handle)) → ((key : Key) → IsKeyOf es key (lookup (key_eq key) opened))
+      → (place : Key → ℕ → Option Place) → ArePlaces es place
+      → (key : Key) (offset : ℕ) (p : Place) → place key offset ≡ Some p → p.asked ≢ asked
+  answered_anew reply are is opened handles place places key offset p there same =
+      let found = place_answered es key (lookup (key_eq key) opened) (handles key) place places offset p there in
+      event_unanswered c m es are at asked r reply is found.0 found.1 found.2
+      (subst (λ n. slice_get es found.0 ≡ Some (Answered found.0 n found.1 found.2)) same found.3)

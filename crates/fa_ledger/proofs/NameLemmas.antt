@@ -1,8 +1,8 @@
 -- The name of a node is that of the least event since which it is counted.
 use Rattle.std.proofs.Common.{◌≡◌, ◌≢◌, ℕ, suc, ◌<◌, Bool, true, false, List, length, take, Option, Some, None, refl, ap, inl, inr, arith}
-use Rattle.std.specs.Prelude.{◌&&◌, ◌||◌, ◌==◌, nat_lt, nat_le, slice_get, option_map}
+use Rattle.std.specs.Prelude.{◌||◌, ◌==◌, nat_lt, nat_le, slice_get, option_map}
 use Rattle.std.specs.Option.{option_map_or}
-use Rattle.std.proofs.lemmas.Bool.{cases_lt}
+use Rattle.std.proofs.lemmas.Bool.{cases_lt, and_parts, false_from_ne_true}
 use Rattle.std.proofs.lemmas.Bool.Decides.{nat_tests}
 use Rattle.std.proofs.lemmas.Option.{slice_get_within}
 use Rattle.fa_bodies.specs.declared.requests.TheConstants.{ROOT_ID}
@@ -16,17 +16,9 @@ use Rattle.fa_ledger.proofs.SumLemmas.{least_below-found, least_below-is, each_b
 
 -- ---- tests
 
-pub and_both : (a b : Bool) → (a && b) ≡ true → (a ≡ true) × (b ≡ true)
-and_both true b is = (refl, is)
-and_both false b is = absurd cc
-
 pub or_either : (a b : Bool) → (a || b) ≡ true → (a ≡ false) → b ≡ true
 or_either true b is not = absurd cc
 or_either false b is not = is
-
-false_or_true : (b : Bool) → (b ≡ true → ⊥) → b ≡ false
-false_or_true true not = absurd (not refl)
-false_or_true false not = refl
 
 -- ---- an event since which a node is counted
 
@@ -39,7 +31,7 @@ gives_there es node g is =
 
 pub stays_since : (es : List PlainEvent) (node g : ℕ) → stays_from es node g ≡ true → IsCountedSince es node g
 stays_since es node g is =
-    let both = and_both (gives_at es node g) (each_below (suc (length es)) (λ r. nat_le r g || is_counted (take r es) node)) is in
+    let both = and_parts (gives_at es node g) (each_below (suc (length es)) (λ r. nat_le r g || is_counted (take r es) node)) is in
     let gives = gives_there es node g both.0 in
     record {
       event = gives.0;
@@ -66,7 +58,7 @@ since_stays es node g since =
 -- ---- names
 
 pub not_root : (node : ℕ) → node ≢ ROOT_ID → (node == ROOT_ID) ≡ false
-not_root node other = false_or_true (node == ROOT_ID) (λ is. other (grind (arith, nat_tests, is)))
+not_root node other = false_from_ne_true (node == ROOT_ID) (λ is. other (grind (arith, nat_tests, is)))
 
 named : (node : ℕ) (t : Option ℕ) (g : ℕ) → option_map (λ h. Given node h) t ≡ Some (Given node g) → t ≡ Some g
 named node None g is = absurd cc
@@ -87,6 +79,6 @@ name_is_least es node g other = (
   (λ is.
       let within : g < length es = slice_get_within es g is.since.event is.since.there in
       let least = least_below-is (length es) (stays_from es node) g within (since_stays es node g is.since)
-      (λ h below. false_or_true (stays_from es node h) (λ holds. let more = is.least h (stays_since es node h holds) in omega (arith, more, below))) in
+      (λ h below. false_from_ne_true (stays_from es node h) (λ holds. let more = is.least h (stays_since es node h holds) in omega (arith, more, below))) in
       rw (not_root node other, least) refl),
 )

@@ -15,7 +15,7 @@ use Rattle.fa_bodies.specs.Requests.{PlainRequest, PlainBody, IsRequestBody}
 use Rattle.fa_bodies.specs.Requests.PlainBody.{Lookup, Forget, Getattr, Setattr, Readlink, Symlink, Mknod, Mkdir, Unlink, Rmdir, Rename, Link, Open, Read, Write, Release, Flush, Init, Opendir, Readdir, Releasedir, Create, BatchForget, Readdirplus, Passed}
 use Rattle.fa_bodies.specs.Replies.{PlainReply, IsSuccessBody}
 use Rattle.fa_bodies.specs.Replies.PlainReply.{Refused, Empty, Entry, Created, Attributes, Opened, Written, Bytes, Listed, InitAnswer, Skipped}
-use Rattle.fa_bodies.proofs.ListingLaws.{length-entries}
+use Rattle.fa_bodies.proofs.CallerLemmas.{length-entries}
 use Rattle.fa_session.specs.Events.{PlainEvent, IsEvent}
 use Rattle.fa_session.specs.Events.PlainEvent.{Asked, Answered, Notice}
 use Rattle.fa_ledger.specs.declared.name.NodeName.{NodeName}

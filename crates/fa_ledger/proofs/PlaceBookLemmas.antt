@@ -223,78 +223,10 @@ record IsListingAnswer (c : List Message) (m : Message) (es : List PlainEvent) (
   node : name_at (take asked es) r.node ≡ Some call.node
   keys : KeysShow es opened
 
--- where nothing is noted
-listed_none : (c : List Message) (m : Message) (es : List PlainEvent) (at asked : ℕ) (r : PlainRequest) (call : PlainCall) (opened : List (Key × Handle)) (ds : List PlainDirent)
-    → IsListingAnswer c m es at asked r call opened ds → ListsStillIfAny opened (waiting_of call) r.body (Listed ds) None
-    → (place : Key → ℕ → Option Place) → ArePlaces es place → ArePlaces (es ++ Answered at asked r (Listed ds) ∷ []) place
-listed_none c m es at asked r call opened [] is none place places = empty_places c m es at asked r is.are is.event place places
-listed_none c m es at asked r call opened (d ∷ ds) is none place places =
-    let by = is.lister in
-    late_places c m es at asked r (d ∷ ds) is.are is.event by.handle by.uses
-    (λ named.
-    let parts = key_parts (take asked es) r.node call.node (handle_used r.body) by.uses.key is.node by.uses.used in
-    let there = handle_there es by.uses.key by.handle (lookup (key_eq by.uses.key) opened) (is.keys by.uses.key) named in
-    none by.uses.key (d ∷ ds) (record {
-      lists = refl;
-      some = λ empty. let clash : d ∷ ds ≡ [] = empty in absurd cc;
-      used = parts.0;
-      node = parts.1;
-      handle = there.0;
-      there = there.1;
-      named = by.named ∙ ap (λ n. Some n) (sym there.2);
-    }))
-    place places
-
 -- the handle on which an answer lists still, as the call knows it
 record IsStill (es : List PlainEvent) (asked : ℕ) (r : PlainRequest) (call : PlainCall) (by : IsLister (take asked es) r call) (key : Key) : Type 0 where
   key_is : key ≡ by.uses.key
   named : IsHandle es by.uses.key by.handle
-
-still_named : (c : List Message) (m : Message) (es : List PlainEvent) (at asked : ℕ) (r : PlainRequest) (call : PlainCall) (opened : List (Key × Handle)) (ds entries : List PlainDirent) (key : Key)
-    → (is : IsListingAnswer c m es at asked r call opened ds) → ListsStill opened (waiting_of call) r.body (Listed ds) key entries → IsStill es asked r call is.lister key
-still_named c m es at asked r call opened ds entries key is still =
-    let by = is.lister in
-    let used : key_used (take asked es) r ≡ Some key = key_made (take asked es) r.node (handle_used r.body) key (is.node ∙ ap (λ n. Some n) (sym still.node)) still.used in
-    let keys : Some key ≡ Some by.uses.key = sym used ∙ by.uses.used in
-    let same : key ≡ by.uses.key = cc in
-    let names : Some still.handle.name ≡ Some by.handle = sym still.named ∙ by.named in
-    let one : still.handle.name ≡ by.handle = cc in
-    record {
-      key_is = same;
-      named = subst (λ k. IsHandle es k by.handle) same (subst (IsHandle es key) one (there_handle es key (lookup (key_eq key) opened) still.handle (is.keys key) still.there));
-    }
-
-listed_some : (c : List Message) (m : Message) (es : List PlainEvent) (at asked : ℕ) (r : PlainRequest) (call : PlainCall) (opened : List (Key × Handle)) (ds : List PlainDirent) (l : ListedOn)
-    → IsListingAnswer c m es at asked r call opened ds → ListsStillIfAny opened (waiting_of call) r.body (Listed ds) (Some l)
-    → (old new : List (Key × Offsets)) → IsNotedBy asked (Some l) old new → ArePlaces es (place_of old) → ArePlaces (es ++ Answered at asked r (Listed ds) ∷ []) (place_of new)
-listed_some c m es at asked r call opened ds l is still old new noted_so places =
-    let by = is.lister in
-    let on = still_named c m es at asked r call opened ds (entries_left l.entries) l.key is still.0 in
-    let lists : Listed ds ≡ Listed (entries_left l.entries) = still.0.lists in
-    let entries : entries_left l.entries ≡ ds = cc in
-    listed_places c m es at asked r ds is.are is.event by.handle by.began (waiting_of call).adrift by.uses on.named by.begins by.adrift (place_of old) (place_of new)
-    (λ key offset. noted_so key offset ∙ (rw (on.key_is, still.1, entries) refl))
-    places
-
-listed_either : (c : List Message) (m : Message) (es : List PlainEvent) (at asked : ℕ) (r : PlainRequest) (call : PlainCall) (opened : List (Key × Handle)) (ds : List PlainDirent)
-    → IsListingAnswer c m es at asked r call opened ds → (listed : Option ListedOn) → ListsStillIfAny opened (waiting_of call) r.body (Listed ds) listed
-    → (old new : List (Key × Offsets)) → IsNotedBy asked listed old new → ArePlaces es (place_of old) → ArePlaces (es ++ Answered at asked r (Listed ds) ∷ []) (place_of new)
-listed_either c m es at asked r call opened ds is None none old new same places =
-    places_alike (es ++ Answered at asked r (Listed ds) ∷ []) (place_of old) (place_of new) same (listed_none c m es at asked r call opened ds is none (place_of old) places)
-listed_either c m es at asked r call opened ds is (Some l) still old new noted_so places = listed_some c m es at asked r call opened ds l is still old new noted_so places
-
--- an answer that lists nothing
-unlisted : (c : List Message) (m : Message) (es : List PlainEvent) (at asked : ℕ) (r : PlainRequest) (reply : PlainReply) → AreEvents c es → IsEvent c m (Answered at asked r reply)
-    → ((ds : List PlainDirent) → reply ≡ Listed ds → ⊥) → (place : Key → ℕ → Option Place) → ArePlaces es place → ArePlaces (es ++ Answered at asked r reply ∷ []) place
-unlisted c m es at asked r reply are event nothing =
-    unlisted_places c m es (Answered at asked r reply) are event (λ n p q ds is. let lists : reply ≡ Listed ds = cc in nothing ds lists) (reply_open es at asked r reply)
-
-unlisted_either : (c : List Message) (m : Message) (es : List PlainEvent) (at asked : ℕ) (r : PlainRequest) (reply : PlainReply) → AreEvents c es → IsEvent c m (Answered at asked r reply)
-    → ((ds : List PlainDirent) → reply ≡ Listed ds → ⊥) → (call : PlainCall) (opened : List (Key × Handle)) (listed : Option ListedOn) → ListsStillIfAny opened (waiting_of call) r.body reply listed
-    → (old new : List (Key × Offsets)) → IsNotedBy asked listed old new → ArePlaces es (place_of old) → ArePlaces (es ++ Answered at asked r reply ∷ []) (place_of new)
-unlisted_either c m es at asked r reply are event nothing call opened None none old new same places =
-    places_alike (es ++ Answered at asked r reply ∷ []) (place_of old) (place_of new) same (unlisted c m es at asked r reply are event nothing (place_of old) places)
-unlisted_either c m es at asked r reply are event nothing call opened (Some l) still old new noted_so places = absurd (nothing (entries_left l.entries) still.0.lists)
 
 -- where the request of a listing begins
 answer_begins : (c : List Message) (m : Message) (at asked : ℕ) (r : PlainRequest) (ds : List PlainDirent) → IsEvent c m (Answered at asked r (Listed ds)) → (offset : ℕ) × (offset_asked r.body ≡ Some offset)
@@ -303,41 +235,6 @@ answer_begins c m at asked r ds e =
       | inl success ↦ lists_offset r.opcode r.body e.2.head.body_bytes ds success.1
       | inr refused ↦ let clash : Listed ds ≡ Refused e.2.error = refused.2 in absurd cc
     ]
-
--- the call that waits for an answer that lists
-answer_listing : (c : List Message) (m : Message) (es : List PlainEvent) (at asked : ℕ) (r : PlainRequest) (ds : List PlainDirent) → AreEvents c es → IsEvent c m (Answered at asked r (Listed ds))
-    → (calls : List PlainCall) → AreCallsOf es calls → (k : ℕ) (call : PlainCall) → WaitsAt calls asked k call → (opened : List (Key × Handle)) → KeysShow es opened
-    → IsListingAnswer c m es at asked r call opened ds
-answer_listing c m es at asked r ds are event calls exact k call waits opened keys =
-    let w = call_waits c m es are at asked r (Listed ds) event calls exact k call waits.there waits.numbered in
-    let is : IsCall es call = call_at es calls exact.each k call waits.there in
-    let says : IsAskedCall (take asked es) call = subst (λ n. IsAskedCall (take n es) call) waits.numbered is.asked in
-    let begins = answer_begins c m at asked r ds event in
-    record { are = are; event = event; lister = lister (take asked es) call r w.0 says begins.0 begins.1; node = w.3; keys = keys }
-
--- the places after an answer
-pub places_answered : (c : List Message) (m : Message) (es : List PlainEvent) (at asked : ℕ) (r : PlainRequest) (reply : PlainReply) → AreEvents c es → IsEvent c m (Answered at asked r reply)
-    → (calls : List PlainCall) → AreCallsOf es calls → (k : ℕ) (call : PlainCall) → WaitsAt calls asked k call → (opened : List (Key × Handle)) → KeysShow es opened
-    → (listed : Option ListedOn) → ListsStillIfAny opened (waiting_of call) r.body reply listed
-    → (old new : List (Key × Offsets)) → IsNotedBy asked listed old new → ArePlaces es (place_of old) → ArePlaces (es ++ Answered at asked r reply ∷ []) (place_of new)
-places_answered c m es at asked r reply are event calls exact k call waits opened keys listed still old new noted_so places =
-    elim (lists_or_not reply) [
-      | inl lists ↦
-          subst (λ (x : PlainReply). IsEvent c m (Answered at asked r x) → ListsStillIfAny opened (waiting_of call) r.body x listed → ArePlaces (es ++ Answered at asked r x ∷ []) (place_of new)) (sym lists.1)
-          (λ e stands. listed_either c m es at asked r call opened lists.0 (answer_listing c m es at asked r lists.0 are e calls exact k call waits opened keys) listed stands old new noted_so places)
-          event still
-      | inr nothing ↦ unlisted_either c m es at asked r reply are event nothing call opened listed still old new noted_so places
-    ]
-
--- the places after an answer to which no call waits: it lists nothing
-pub places_replied : (c : List Message) (m : Message) (es : List PlainEvent) (at asked : ℕ) (r : PlainRequest) (reply : PlainReply) → AreEvents c es → IsEvent c m (Answered at asked r reply) → (IsTreeRequest r.body → ⊥)
-    → (place : Key → ℕ → Option Place) → ArePlaces es place → ArePlaces (es ++ Answered at asked r reply ∷ []) place
-places_replied c m es at asked r reply are event no_tree =
-    unlisted c m es at asked r reply are event
-    (λ ds lists.
-    let e : IsEvent c m (Answered at asked r (Listed ds)) = subst (λ (x : PlainReply). IsEvent c m (Answered at asked r x)) lists event in
-    let begins = answer_begins c m at asked r ds e in
-    no_tree (lists_tree r.body begins.0 begins.1))
 
 -- an entry that passes a test, where some does
 any_there : {X : Type 0} (test : X → Bool) (xs : List X) → list_any test xs ≡ true → (x : X) × Contains xs x × (test x ≡ true)
@@ -356,31 +253,6 @@ none_reached : (es : List PlainEvent) (handle offset : ℕ) (place : Option Plac
 none_reached es handle offset None is none = is
 none_reached es handle offset (Some p) is none = let clash : false ≡ true = none in absurd cc
 
--- what is noted is more to be kept
-pub lists_on : (c : List Message) (m : Message) (es : List PlainEvent) (at asked : ℕ) (r : PlainRequest) (reply : PlainReply) → AreEvents c es → IsEvent c m (Answered at asked r reply)
-    → (calls : List PlainCall) → AreCallsOf es calls → (k : ℕ) (call : PlainCall) → WaitsAt calls asked k call → (opened : List (Key × Handle)) → KeysShow es opened
-    → (l : ListedOn) → ListsStillIfAny opened (waiting_of call) r.body reply (Some l) → (table : List (Key × Offsets)) → ArePlaces es (place_of table) → ListsNew table (Some l)
-    → ListsOn es asked r reply
-lists_on c m es at asked r reply are event calls exact k call waits opened keys l still table places new =
-    let ds = entries_left l.entries in
-    let lists : reply ≡ Listed ds = still.0.lists in
-    let e : IsEvent c m (Answered at asked r (Listed ds)) = subst (λ (x : PlainReply). IsEvent c m (Answered at asked r x)) lists event in
-    let there : ListsStill opened (waiting_of call) r.body (Listed ds) l.key ds = subst (λ (x : PlainReply). ListsStill opened (waiting_of call) r.body x l.key ds) lists still.0 in
-    let is = answer_listing c m es at asked r ds are e calls exact k call waits opened keys in
-    let on = still_named c m es at asked r call opened ds ds l.key is there in
-    let entry = any_there (λ d. is_none (place_of table l.key d.off)) ds new in
-    let none : is_none (place_of table is.lister.uses.key entry.0.off) ≡ true = subst (λ key. is_none (place_of table key entry.0.off) ≡ true) on.key_is entry.2 in
-    record {
-      entries = ds;
-      lists = lists;
-      handle = is.lister.handle;
-      uses = is.lister.uses;
-      «open» = on.named;
-      entry = entry.0;
-      listed = entry.1;
-      new = none_reached es is.lister.handle entry.0.off _ (places.«open» is.lister.uses.key is.lister.handle entry.0.off on.named) none;
-    }
-
 -- an answer lists few entries
 pub count_fits : (c : List Message) (m : Message) (at asked : ℕ) (r : PlainRequest) (reply : PlainReply) → IsEvent c m (Answered at asked r reply) → (opened : List (Key × Handle)) (call : PlainCall)
     → (l : ListedOn) → ListsStillIfAny opened (waiting_of call) r.body reply (Some l) → l.count ≤ 4294967295
@@ -392,3 +264,132 @@ count_fits c m at asked r reply event opened call l still =
       | inl success ↦ omega (arith, still.2, listed_few r.opcode r.body request.body_bytes e.2.head.body_bytes ds request.body success.1)
       | inr refused ↦ let clash : Listed ds ≡ Refused e.2.error = refused.2 in absurd cc
     ]
+
+module _ (c : List Message) (m : Message) (es : List PlainEvent) (at asked : ℕ) (r : PlainRequest) where
+  -- where nothing is noted
+  listed_none : (call : PlainCall) (opened : List (Key × Handle)) (ds : List PlainDirent)
+      → IsListingAnswer c m es at asked r call opened ds → ListsStillIfAny opened (waiting_of call) r.body (Listed ds) None
+      → (place : Key → ℕ → Option Place) → ArePlaces es place → ArePlaces (es ++ Answered at asked r (Listed ds) ∷ []) place
+  listed_none call opened [] is none place places = empty_places c m es at asked r is.are is.event place places
+  listed_none call opened (d ∷ ds) is none place places =
+      let by = is.lister in
+      late_places c m es at asked r (d ∷ ds) is.are is.event by.handle by.uses
+      (λ named.
+      let parts = key_parts (take asked es) r.node call.node (handle_used r.body) by.uses.key is.node by.uses.used in
+      let there = handle_there es by.uses.key by.handle (lookup (key_eq by.uses.key) opened) (is.keys by.uses.key) named in
+      none by.uses.key (d ∷ ds) (record {
+        lists = refl;
+        some = λ empty. let clash : d ∷ ds ≡ [] = empty in absurd cc;
+        used = parts.0;
+        node = parts.1;
+        handle = there.0;
+        there = there.1;
+        named = by.named ∙ ap (λ n. Some n) (sym there.2);
+      }))
+      place places
+
+  still_named : (call : PlainCall) (opened : List (Key × Handle)) (ds entries : List PlainDirent) (key : Key)
+      → (is : IsListingAnswer c m es at asked r call opened ds) → ListsStill opened (waiting_of call) r.body (Listed ds) key entries → IsStill es asked r call is.lister key
+  still_named call opened ds entries key is still =
+      let by = is.lister in
+      let used : key_used (take asked es) r ≡ Some key = key_made (take asked es) r.node (handle_used r.body) key (is.node ∙ ap (λ n. Some n) (sym still.node)) still.used in
+      let keys : Some key ≡ Some by.uses.key = sym used ∙ by.uses.used in
+      let same : key ≡ by.uses.key = cc in
+      let names : Some still.handle.name ≡ Some by.handle = sym still.named ∙ by.named in
+      let one : still.handle.name ≡ by.handle = cc in
+      record {
+        key_is = same;
+        named = subst (λ k. IsHandle es k by.handle) same (subst (IsHandle es key) one (there_handle es key (lookup (key_eq key) opened) still.handle (is.keys key) still.there));
+      }
+
+  listed_some : (call : PlainCall) (opened : List (Key × Handle)) (ds : List PlainDirent) (l : ListedOn)
+      → IsListingAnswer c m es at asked r call opened ds → ListsStillIfAny opened (waiting_of call) r.body (Listed ds) (Some l)
+      → (old new : List (Key × Offsets)) → IsNotedBy asked (Some l) old new → ArePlaces es (place_of old) → ArePlaces (es ++ Answered at asked r (Listed ds) ∷ []) (place_of new)
+  listed_some call opened ds l is still old new noted_so places =
+      let by = is.lister in
+      let on = still_named call opened ds (entries_left l.entries) l.key is still.0 in
+      let lists : Listed ds ≡ Listed (entries_left l.entries) = still.0.lists in
+      let entries : entries_left l.entries ≡ ds = cc in
+      listed_places c m es at asked r ds is.are is.event by.handle by.began (waiting_of call).adrift by.uses on.named by.begins by.adrift (place_of old) (place_of new)
+      (λ key offset. noted_so key offset ∙ (rw (on.key_is, still.1, entries) refl))
+      places
+
+  listed_either : (call : PlainCall) (opened : List (Key × Handle)) (ds : List PlainDirent)
+      → IsListingAnswer c m es at asked r call opened ds → (listed : Option ListedOn) → ListsStillIfAny opened (waiting_of call) r.body (Listed ds) listed
+      → (old new : List (Key × Offsets)) → IsNotedBy asked listed old new → ArePlaces es (place_of old) → ArePlaces (es ++ Answered at asked r (Listed ds) ∷ []) (place_of new)
+  listed_either call opened ds is None none old new same places =
+      places_alike (es ++ Answered at asked r (Listed ds) ∷ []) (place_of old) (place_of new) same (listed_none call opened ds is none (place_of old) places)
+  listed_either call opened ds is (Some l) still old new noted_so places = listed_some call opened ds l is still old new noted_so places
+
+  -- an answer that lists nothing
+  unlisted : (reply : PlainReply) → AreEvents c es → IsEvent c m (Answered at asked r reply)
+      → ((ds : List PlainDirent) → reply ≡ Listed ds → ⊥) → (place : Key → ℕ → Option Place) → ArePlaces es place → ArePlaces (es ++ Answered at asked r reply ∷ []) place
+  unlisted reply are event nothing =
+      unlisted_places c m es (Answered at asked r reply) are event (λ n p q ds is. let lists : reply ≡ Listed ds = cc in nothing ds lists) (reply_open es at asked r reply)
+
+  unlisted_either : (reply : PlainReply) → AreEvents c es → IsEvent c m (Answered at asked r reply)
+      → ((ds : List PlainDirent) → reply ≡ Listed ds → ⊥) → (call : PlainCall) (opened : List (Key × Handle)) (listed : Option ListedOn) → ListsStillIfAny opened (waiting_of call) r.body reply listed
+      → (old new : List (Key × Offsets)) → IsNotedBy asked listed old new → ArePlaces es (place_of old) → ArePlaces (es ++ Answered at asked r reply ∷ []) (place_of new)
+  unlisted_either reply are event nothing call opened None none old new same places =
+      places_alike (es ++ Answered at asked r reply ∷ []) (place_of old) (place_of new) same (unlisted reply are event nothing (place_of old) places)
+  unlisted_either reply are event nothing call opened (Some l) still old new noted_so places = absurd (nothing (entries_left l.entries) still.0.lists)
+
+  -- the call that waits for an answer that lists
+  answer_listing : (ds : List PlainDirent) → AreEvents c es → IsEvent c m (Answered at asked r (Listed ds))
+      → (calls : List PlainCall) → AreCallsOf es calls → (k : ℕ) (call : PlainCall) → WaitsAt calls asked k call → (opened : List (Key × Handle)) → KeysShow es opened
+      → IsListingAnswer c m es at asked r call opened ds
+  answer_listing ds are event calls exact k call waits opened keys =
+      let w = call_waits c m es are at asked r (Listed ds) event calls exact k call waits.there waits.numbered in
+      let is : IsCall es call = call_at es calls exact.each k call waits.there in
+      let says : IsAskedCall (take asked es) call = subst (λ n. IsAskedCall (take n es) call) waits.numbered is.asked in
+      let begins = answer_begins c m at asked r ds event in
+      record { are = are; event = event; lister = lister (take asked es) call r w.0 says begins.0 begins.1; node = w.3; keys = keys }
+
+  -- the places after an answer
+  pub places_answered : (reply : PlainReply) → AreEvents c es → IsEvent c m (Answered at asked r reply)
+      → (calls : List PlainCall) → AreCallsOf es calls → (k : ℕ) (call : PlainCall) → WaitsAt calls asked k call → (opened : List (Key × Handle)) → KeysShow es opened
+      → (listed : Option ListedOn) → ListsStillIfAny opened (waiting_of call) r.body reply listed
+      → (old new : List (Key × Offsets)) → IsNotedBy asked listed old new → ArePlaces es (place_of old) → ArePlaces (es ++ Answered at asked r reply ∷ []) (place_of new)
+  places_answered reply are event calls exact k call waits opened keys listed still old new noted_so places =
+      elim (lists_or_not reply) [
+        | inl lists ↦
+            subst (λ (x : PlainReply). IsEvent c m (Answered at asked r x) → ListsStillIfAny opened (waiting_of call) r.body x listed → ArePlaces (es ++ Answered at asked r x ∷ []) (place_of new)) (sym lists.1)
+            (λ e stands. listed_either call opened lists.0 (answer_listing lists.0 are e calls exact k call waits opened keys) listed stands old new noted_so places)
+            event still
+        | inr nothing ↦ unlisted_either reply are event nothing call opened listed still old new noted_so places
+      ]
+
+  -- the places after an answer to which no call waits: it lists nothing
+  pub places_replied : (reply : PlainReply) → AreEvents c es → IsEvent c m (Answered at asked r reply) → (IsTreeRequest r.body → ⊥)
+      → (place : Key → ℕ → Option Place) → ArePlaces es place → ArePlaces (es ++ Answered at asked r reply ∷ []) place
+  places_replied reply are event no_tree =
+      unlisted reply are event
+      (λ ds lists.
+      let e : IsEvent c m (Answered at asked r (Listed ds)) = subst (λ (x : PlainReply). IsEvent c m (Answered at asked r x)) lists event in
+      let begins = answer_begins c m at asked r ds e in
+      no_tree (lists_tree r.body begins.0 begins.1))
+
+  -- what is noted is more to be kept
+  pub lists_on : (reply : PlainReply) → AreEvents c es → IsEvent c m (Answered at asked r reply)
+      → (calls : List PlainCall) → AreCallsOf es calls → (k : ℕ) (call : PlainCall) → WaitsAt calls asked k call → (opened : List (Key × Handle)) → KeysShow es opened
+      → (l : ListedOn) → ListsStillIfAny opened (waiting_of call) r.body reply (Some l) → (table : List (Key × Offsets)) → ArePlaces es (place_of table) → ListsNew table (Some l)
+      → ListsOn es asked r reply
+  lists_on reply are event calls exact k call waits opened keys l still table places new =
+      let ds = entries_left l.entries in
+      let lists : reply ≡ Listed ds = still.0.lists in
+      let e : IsEvent c m (Answered at asked r (Listed ds)) = subst (λ (x : PlainReply). IsEvent c m (Answered at asked r x)) lists event in
+      let there : ListsStill opened (waiting_of call) r.body (Listed ds) l.key ds = subst (λ (x : PlainReply). ListsStill opened (waiting_of call) r.body x l.key ds) lists still.0 in
+      let is = answer_listing ds are e calls exact k call waits opened keys in
+      let on = still_named call opened ds ds l.key is there in
+      let entry = any_there (λ d. is_none (place_of table l.key d.off)) ds new in
+      let none : is_none (place_of table is.lister.uses.key entry.0.off) ≡ true = subst (λ key. is_none (place_of table key entry.0.off) ≡ true) on.key_is entry.2 in
+      record {
+        entries = ds;
+        lists = lists;
+        handle = is.lister.handle;
+        uses = is.lister.uses;
+        «open» = on.named;
+        entry = entry.0;
+        listed = entry.1;
+        new = none_reached es is.lister.handle entry.0.off _ (places.«open» is.lister.uses.key is.lister.handle entry.0.off on.named) none;
+      }

@@ -16,7 +16,7 @@ use Rattle.fa_ledger.specs.declared.books.Books.{Books}
 use Rattle.fa_ledger.specs.declared.error.LedgerError.{LedgerError}
 use Rattle.fa_ledger.specs.declared.error.LedgerError.TheVariants.{Memory}
 use Rattle.fa_ledger.specs.declared.handles.Handle.{Handle}
-use Rattle.fa_ledger.specs.declared.call_list.Waiting.{Waiting}
+use Rattle.fa_ledger.specs.declared.call_list.WaitingCall.{WaitingCall}
 use Rattle.fa_ledger.specs.declared.key.Key.{Key}
 use Rattle.fa_ledger.specs.declared.listings.ListedOn.{ListedOn}
 use Rattle.fa_ledger.specs.declared.listings.Listings.{Listings}
@@ -26,7 +26,7 @@ use Rattle.fa_ledger.specs.declared.name.NodeName.{NodeName}
 use Rattle.fa_ledger.specs.declared.handles.Handles.{Handles}
 use Rattle.fa_ledger.specs.declared.nodes.Lookups.{Lookups}
 use Rattle.fa_ledger.specs.declared.nodes.Nodes.{Nodes}
-use Rattle.fa_ledger.specs.Counts.{nodes_given, lookups_given}
+use Rattle.fa_ledger.specs.Counts.{nodes_given}
 use Rattle.fa_ledger.specs.Names.{name_at}
 use Rattle.fa_ledger.specs.Keys.{key_eq}
 use Rattle.fa_ledger.specs.Kinds.{IsTreeRequest}
@@ -46,21 +46,7 @@ use Rattle.fa_ledger.proofs.NodeLemmas.{node_kept, given_within, reply_few}
 use Rattle.fa_ledger.proofs.ListingLemmas.{answered_anew}
 use Rattle.fa_ledger.proofs.PlaceBookLemmas.{places_answered, places_replied, lists_on, count_fits}
 use Rattle.fa_ledger.proofs.ReplyLemmas.{nodes_answered, names_answered, opening_answered, keys_answered, opens_answered, new_is_uncounted, some_is_listed, flag_kept, flag_settled, plain_gives_nothing}
-
--- ---- bounds
-
--- no more lookups are left than were given
-left_within : (es : List PlainEvent) (node : ℕ) (x : Option Lookups) → IsNodeOf es node x → count_left x ≤ lookups_given es node
-left_within es node None is = omega arith
-left_within es node (Some l) is = omega (arith, is.left)
-
--- there is room in the count for one more reply
-pub give_fits : (c : List Message) (m : Message) (es : List PlainEvent) (at asked : ℕ) (r : PlainRequest) (reply : PlainReply) (old : Books) (names : List NodeName) → Stands c m es (Answered at asked r reply) old
-    → names ≡ map (λ id. given_to id at (lookup (nat_eq id) old.nodes.known.entries)) (nodes_given r.body reply) → (node : ℕ) → count_left (lookup (nat_eq node) old.nodes.known.entries) + length names ≤ 18446744073709551615
-give_fits c m es at asked r reply old names stands is node =
-    let long : length names ≡ length (nodes_given r.body reply) = ap length is ∙ length-map (nodes_given r.body reply) (λ id. given_to id at (lookup (nat_eq id) old.nodes.known.entries)) in
-    let few : length es < 16777216 = omega (arith, stands.few, stands.are.counted) in
-    omega (arith, long, few, reply_few c m at asked r reply stands.event, left_within es node (lookup (nat_eq node) old.nodes.known.entries) (stands.shown.nodes node), given_within c es node stands.are)
+use Rattle.fa_ledger.proofs.RequestBookLemmas.{left_within}
 
 -- a key is open less often than there may be messages
 openings_few : (es : List PlainEvent) (key : Key) (x : Option Handle) (h : Handle) → IsKeyOf es key x → x ≡ Some h → length es < MAX_MESSAGES → h.openings < MAX_MESSAGES
@@ -72,12 +58,6 @@ openings_few es key (Some k) h is there few =
 pub open_fits : (c : List Message) (m : Message) (es : List PlainEvent) (e : PlainEvent) (old : Books) → Stands c m es e old → (key : Key) (h : Handle) → lookup (key_eq key) old.handles.opened.entries ≡ Some h → h.openings < MAX_MESSAGES
 open_fits c m es e old stands key h there =
     openings_few es key (lookup (key_eq key) old.handles.opened.entries) h (stands.shown.keys key) there (omega (arith, stands.few, stands.are.counted))
-
--- ---- the answer to a tree request
-
--- the event's place
-event_place : (c : List Message) (m : Message) (es : List PlainEvent) (at asked : ℕ) (r : PlainRequest) (reply : PlainReply) (old : Books) → Stands c m es (Answered at asked r reply) old → at ≡ length es
-event_place c m es at asked r reply old stands = stands.event.0 ∙ sym stands.are.counted
 
 -- no tree request is INIT
 tree_not_init : (es : List PlainEvent) (at asked : ℕ) (r : PlainRequest) (reply : PlainReply) → IsTreeRequest r.body
@@ -91,7 +71,7 @@ tree_not_init es at asked r reply tree =
 pub record IsPrepared (c : List Message) (m : Message) (es : List PlainEvent) (at asked : ℕ) (r : PlainRequest) (reply : PlainReply) (old : Books) (names : List NodeName) (which : Option (Key × OpenOut)) : Type 0 where
   pub stands : Stands c m es (Answered at asked r reply) old
   pub may : All MayBeGiven (nodes_given r.body reply)
-  pub waiting : Waiting
+  pub waiting : WaitingCall
   pub place : ℕ
   pub call : PlainCall
   pub waits : WaitsAt old.calls asked place call
@@ -103,50 +83,6 @@ pub record IsPrepared (c : List Message) (m : Message) (es : List PlainEvent) (a
 abbrev pub IsGiven : ℕ → List NodeName → List (ℕ × Lookups) → List (ℕ × Lookups) → Type 0
 IsGiven at names old new = (node : ℕ) → lookup (nat_eq node) new ≡ given_again at (times_named node names) (lookup (nat_eq node) old)
 
--- what the node's name was when the request came
-asked_name : (c : List Message) (m : Message) (es : List PlainEvent) (at asked : ℕ) (r : PlainRequest) (reply : PlainReply) (old : Books) (names : List NodeName) (which : Option (Key × OpenOut))
-    → (p : IsPrepared c m es at asked r reply old names which) → name_at (take asked es) r.node ≡ Some p.waiting.node
-asked_name c m es at asked r reply old names which p =
-    let w = call_waits c m es p.stands.are at asked r reply p.stands.event old.calls p.stands.shown.calls p.place p.call p.waits.there p.waits.numbered in
-    w.3 ∙ ap (λ n. Some n) (ap (λ x. x.node) (sym p.own))
-
-tree_asked : (c : List Message) (m : Message) (es : List PlainEvent) (at asked : ℕ) (r : PlainRequest) (reply : PlainReply) (old : Books) (names : List NodeName) (which : Option (Key × OpenOut))
-    → IsPrepared c m es at asked r reply old names which → IsTreeRequest r.body
-tree_asked c m es at asked r reply old names which p =
-    (call_waits c m es p.stands.are at asked r reply p.stands.event old.calls p.stands.shown.calls p.place p.call p.waits.there p.waits.numbered).2
-
--- the books show the answer
-pub answer_shows : (c : List Message) (m : Message) (es : List PlainEvent) (at asked : ℕ) (r : PlainRequest) (reply : PlainReply) (old new : Books) (names : List NodeName) (which : Option (Key × OpenOut)) (opens : Bool)
-    → (p : IsPrepared c m es at asked r reply old names which) → opens ≡ opens_new old.handles.opened.entries which → new.truncating ≡ old.truncating
-    → IsGiven at names old.nodes.known.entries new.nodes.known.entries → IsOpenedBy asked which old.handles.opened.entries new.handles.opened.entries
-    → (listed : Option ListedOn) → ListsStillIfAny old.handles.opened.entries p.waiting r.body reply listed → IsNotedBy asked listed old.listings.by_key.entries new.listings.by_key.entries
-    → new.calls ≡ with_answer old.calls asked (record { at = at; reply = reply; given = names; opens = opens }) → BooksShow (es ++ Answered at asked r reply ∷ []) new
-answer_shows c m es at asked r reply old new names which opens p opens_is settled gave noted listed lists listed_so answered =
-    let place = event_place c m es at asked r reply old p.stands in
-    let shown = p.stands.shown in
-    let named = names_answered es at asked r reply old.nodes.known.entries names place shown.nodes p.may p.named in
-    let opening_is : opening es (Answered at asked r reply) ≡ which =
-    opening_answered es at asked r reply p.waiting.node names (asked_name c m es at asked r reply old names which p) named ∙ sym p.opens in
-    let flag = tree_not_init es at asked r reply (tree_asked c m es at asked r reply old names which p) in
-    let answer : PlainAnswer = record { at = at; reply = reply; given = names; opens = opens } in
-    let here : ℕ → List PlainEvent = λ n. es ++ Answered n asked r reply ∷ [] in
-    let anew : IsTrue opens ↔ OpensAnew (here at) (length es) = opens_answered es at asked r reply old.handles.opened.entries place shown.keys which opening_is opens opens_is in
-    let calls : AreCallsOf (here (length es)) (with_answer old.calls asked answer) =
-    calls_answered c m es p.stands.are asked r reply (subst (λ n. IsEvent c m (Answered n asked r reply)) place p.stands.event) old.calls answer shown.calls place refl
-    (subst (λ n. map (λ node. name_at (here n) node) (nodes_given r.body reply) ≡ map (λ name. Some name) names) place named)
-    (subst (λ n. IsTrue opens ↔ OpensAnew (here n) (length es)) place anew) in
-    record {
-      truncating = (
-        (λ yes. flag.1 (shown.truncating.0 (subst IsTrue settled yes))),
-        (λ has. subst IsTrue (sym settled) (shown.truncating.1 (flag.0 has))),
-      );
-      nodes = nodes_answered es at asked r reply old.nodes.known.entries new.nodes.known.entries names place shown.nodes p.may p.named gave;
-      keys = keys_answered es at asked r reply old.handles.opened.entries new.handles.opened.entries place shown.keys which opening_is noted;
-      places = places_answered c m es at asked r reply p.stands.are p.stands.event old.calls shown.calls p.place p.call p.waits old.handles.opened.entries shown.keys listed
-          (subst (λ x. ListsStillIfAny old.handles.opened.entries x r.body reply listed) p.own lists) old.listings.by_key.entries new.listings.by_key.entries listed_so shown.places;
-      calls = subst (AreCallsOf (here at)) (sym answered) (subst (λ n. AreCallsOf (here n) (with_answer old.calls asked answer)) (sym place) calls);
-    }
-
 -- ---- memory
 
 pub names_more : (es : List PlainEvent) (at asked : ℕ) (r : PlainRequest) (reply : PlainReply) → IsListedReply reply × ((nodes_given r.body reply ≡ []) → ⊥) → IsMoreKept es (Answered at asked r reply)
@@ -156,40 +92,12 @@ pub nodes_more : (es : List PlainEvent) (at asked : ℕ) (r : PlainRequest) (rep
     → names ≡ map (λ id. given_to id at (lookup (nat_eq id) old.nodes.known.entries)) (nodes_given r.body reply) → IsTrue (some_new old.nodes.known.entries names) → IsMoreKept es (Answered at asked r reply)
 nodes_more es at asked r reply old names shown named new = inl (new_is_uncounted es r reply at old.nodes.known.entries names shown.nodes named new)
 
--- what opens a key anew is more to be kept
-pub keys_more : (c : List Message) (m : Message) (es : List PlainEvent) (at asked : ℕ) (r : PlainRequest) (reply : PlainReply) (old : Books) (names : List NodeName) (which : Option (Key × OpenOut))
-    → IsPrepared c m es at asked r reply old names which → IsTrue (opens_new old.handles.opened.entries which) → IsMoreKept es (Answered at asked r reply)
-keys_more c m es at asked r reply old names which p new =
-    let place = event_place c m es at asked r reply old p.stands in
-    let shown = p.stands.shown in
-    let named = names_answered es at asked r reply old.nodes.known.entries names place shown.nodes p.may p.named in
-    let opening_is : opening es (Answered at asked r reply) ≡ which =
-    opening_answered es at asked r reply p.waiting.node names (asked_name c m es at asked r reply old names which p) named ∙ sym p.opens in
-    let anew = opens_answered es at asked r reply old.handles.opened.entries place shown.keys which opening_is (opens_new old.handles.opened.entries which) refl in
-    inr (inr (inl (subst (OpensAnew (es ++ Answered at asked r reply ∷ [])) (sym place) (anew.0 new))))
-
--- and so is where a listing has its offsets
-pub listed_more : (c : List Message) (m : Message) (es : List PlainEvent) (at asked : ℕ) (r : PlainRequest) (reply : PlainReply) (old : Books) (place : ℕ) (call : PlainCall) (waiting : Waiting) (listed : Option ListedOn)
-    → Stands c m es (Answered at asked r reply) old → WaitsAt old.calls asked place call → waiting ≡ waiting_of call → ListsStillIfAny old.handles.opened.entries waiting r.body reply listed → ListsNew old.listings.by_key.entries listed
-    → IsMoreKept es (Answered at asked r reply)
-listed_more c m es at asked r reply old place call waiting None stands waits own lists new = absurd new
-listed_more c m es at asked r reply old place call waiting (Some l) stands waits own lists new =
-    inr (inr (inr (lists_on c m es at asked r reply stands.are stands.event old.calls stands.shown.calls place call waits old.handles.opened.entries stands.shown.keys l
-    (subst (λ x. ListsStillIfAny old.handles.opened.entries x r.body reply (Some l)) own lists) old.listings.by_key.entries stands.shown.places new)))
-
 -- how many entries it has
-pub listed_counted : (c : List Message) (m : Message) (at asked : ℕ) (r : PlainRequest) (reply : PlainReply) → IsEvent c m (Answered at asked r reply) → (opened : List (Key × Handle)) (waiting : Waiting) (call : PlainCall) → waiting ≡ waiting_of call
+pub listed_counted : (c : List Message) (m : Message) (at asked : ℕ) (r : PlainRequest) (reply : PlainReply) → IsEvent c m (Answered at asked r reply) → (opened : List (Key × Handle)) (waiting : WaitingCall) (call : PlainCall) → waiting ≡ waiting_of call
     → (listed : Option ListedOn) → ListsStillIfAny opened waiting r.body reply listed → IfSome listed (λ l. l.count ≡ length (entries_left l.entries)) × IfSome listed (λ l. l.count ≤ 4294967295)
 listed_counted c m at asked r reply event opened waiting call own None lists = (tt, tt)
 listed_counted c m at asked r reply event opened waiting call own (Some l) lists =
     (lists.2, count_fits c m at asked r reply event opened call l (subst (λ x. ListsStillIfAny opened x r.body reply (Some l)) own lists))
-
--- no place that the books have is of this request
-pub listed_anew : (c : List Message) (m : Message) (es : List PlainEvent) (at asked : ℕ) (r : PlainRequest) (reply : PlainReply) (old : Books) → Stands c m es (Answered at asked r reply) old
-    → (table : List (Key × Offsets)) → ((key : Key) (offset : ℕ) → place_of table key offset ≡ place_of old.listings.by_key.entries key offset)
-    → (key : Key) (offset : ℕ) (place : Place) → place_of table key offset ≡ Some place → place.asked ≢ asked
-listed_anew c m es at asked r reply old stands table same key offset place there =
-    answered_anew c m es at asked r reply stands.are stands.event old.handles.opened.entries stands.shown.keys (place_of old.listings.by_key.entries) stands.shown.places key offset place (sym (same key offset) ∙ there)
 
 -- what is noted in a table with the same places is noted in this one
 pub noted_also : (asked : ℕ) (listed : Option ListedOn) (old kept new : List (Key × Offsets)) → ((key : Key) (offset : ℕ) → place_of kept key offset ≡ place_of old key offset) → IsNotedBy asked listed kept new
@@ -198,40 +106,129 @@ noted_also asked None old kept new same noted_so = λ other offset. noted_so oth
 noted_also asked (Some l) old kept new same noted_so = λ other offset.
     noted_so other offset ∙ ap (λ place. cond (key_eq l.key other) (noted asked l.adrift (count_to offset (entries_left l.entries)) place) place) (same other offset)
 
--- ---- the answer to any other request
+-- ---- bounds
 
--- a request under whose number no call waits acts on no tree
-pub no_call_waits : (c : List Message) (m : Message) (es : List PlainEvent) (at asked : ℕ) (r : PlainRequest) (reply : PlainReply) (old : Books) → Stands c m es (Answered at asked r reply) old
-    → ((place : ℕ) (call : PlainCall) → WaitsAt old.calls asked place call → ⊥) → IsTreeRequest r.body → ⊥
-no_call_waits c m es at asked r reply old stands none tree =
-    let found = waiting_call c m es stands.are at asked r reply stands.event old.calls stands.shown.calls tree in
-    let w = call_waits c m es stands.are at asked r reply stands.event old.calls stands.shown.calls found.0 found.1 found.2 found.3 in
-    none found.0 found.1 (record { there = found.2; numbered = found.3; unanswered = w.1 })
+module _ (c : List Message) (m : Message) (es : List PlainEvent) (at asked : ℕ) (r : PlainRequest) (reply : PlainReply) (old : Books) where
+  -- there is room in the count for one more reply
+  pub give_fits : (names : List NodeName) → Stands c m es (Answered at asked r reply) old
+      → names ≡ map (λ id. given_to id at (lookup (nat_eq id) old.nodes.known.entries)) (nodes_given r.body reply) → (node : ℕ) → count_left (lookup (nat_eq node) old.nodes.known.entries) + length names ≤ 18446744073709551615
+  give_fits names stands is node =
+      let long : length names ≡ length (nodes_given r.body reply) = ap length is ∙ length-map (nodes_given r.body reply) (λ id. given_to id at (lookup (nat_eq id) old.nodes.known.entries)) in
+      let few : length es < 16777216 = omega (arith, stands.few, stands.are.counted) in
+      omega (arith, long, few, reply_few c m at asked r reply stands.event, left_within es node (lookup (nat_eq node) old.nodes.known.entries) (stands.shown.nodes node), given_within c es node stands.are)
 
-pub plain_shows : (c : List Message) (m : Message) (es : List PlainEvent) (at asked : ℕ) (r : PlainRequest) (reply : PlainReply) (old new : Books) (settles : Bool)
-    → Stands c m es (Answered at asked r reply) old → (IsTreeRequest r.body → ⊥) → IsTrue settles ↔ SettlesTruncation r.body reply → new.truncating ≡ (old.truncating || settles)
-    → new.nodes ≡ old.nodes → new.handles ≡ old.handles → new.listings ≡ old.listings → new.calls ≡ old.calls → BooksShow (es ++ Answered at asked r reply ∷ []) new
-plain_shows c m es at asked r reply old new settles stands no_tree settled truncates nodes keys listings calls =
-    let e : PlainEvent = Answered at asked r reply in
-    let nothing = plain_gives_nothing c m at asked r reply stands.event no_tree in
-    let flag = flag_settled es at asked r reply (event_place c m es at asked r reply old stands) old.truncating settles stands.shown.truncating settled in
-    record {
-      truncating = ((λ yes. flag.0 (subst IsTrue truncates yes)), (λ has. subst IsTrue (sym truncates) (flag.1 has)));
-      nodes = λ node. subst (λ (n : Nodes). IsNodeOf (es ++ e ∷ []) node (lookup (nat_eq node) n.known.entries)) (sym nodes)
-          (node_kept es e node (lookup (nat_eq node) old.nodes.known.entries) (ap (count_by (λ given. given == node)) nothing.0) refl (stands.shown.nodes node));
-      keys = λ key. subst (λ (h : Handles). IsKeyOf (es ++ e ∷ []) key (lookup (key_eq key) h.opened.entries)) (sym keys)
-          (key_unmoved es e key (lookup (key_eq key) old.handles.opened.entries) (none_unopened es e key (nothing.1 es)) refl (stands.shown.keys key));
-      places = subst (λ (l : Listings). ArePlaces (es ++ e ∷ []) (place_of l.by_key.entries)) (sym listings)
-          (places_replied c m es at asked r reply stands.are stands.event no_tree (place_of old.listings.by_key.entries) stands.shown.places);
-      calls = subst (AreCallsOf (es ++ e ∷ [])) (sym calls) (calls_kept es e old.calls stands.shown.calls (λ p s is tree. absurd cc)
-          (λ n p s said is tree. let same : r ≡ s = cc in no_tree (subst (λ (x : PlainRequest). IsTreeRequest x.body) (sym same) tree)));
-    }
+  -- ---- the answer to a tree request
 
--- ---- refusals
+  -- the event's place
+  event_place : Stands c m es (Answered at asked r reply) old → at ≡ length es
+  event_place stands = stands.event.0 ∙ sym stands.are.counted
 
--- want of memory for an answer that may be noted
-pub answer_refused : (c : List Message) (m : Message) (es : List PlainEvent) (at asked : ℕ) (r : PlainRequest) (reply : PlainReply) (old : Books) (error : LedgerError) → Stands c m es (Answered at asked r reply) old
-    → All MayBeGiven (nodes_given r.body reply)
-    → (error ≡ Memory) × ((b : List Message) (n : Message) (fs : List PlainEvent) → Stands b n fs (Answered at asked r reply) old → IsMoreKept fs (Answered at asked r reply)) → IsAnsweredRefusal es at asked r reply error
-answer_refused c m es at asked r reply old error stands may why =
-    subst (IsAnsweredRefusal es at asked r reply) (sym why.0) (may, why.1 c m es stands)
+  -- what the node's name was when the request came
+  asked_name : (names : List NodeName) (which : Option (Key × OpenOut))
+      → (p : IsPrepared c m es at asked r reply old names which) → name_at (take asked es) r.node ≡ Some p.waiting.node
+  asked_name names which p =
+      let w = call_waits c m es p.stands.are at asked r reply p.stands.event old.calls p.stands.shown.calls p.place p.call p.waits.there p.waits.numbered in
+      w.3 ∙ ap (λ n. Some n) (ap (λ x. x.node) (sym p.own))
+
+  tree_asked : (names : List NodeName) (which : Option (Key × OpenOut))
+      → IsPrepared c m es at asked r reply old names which → IsTreeRequest r.body
+  tree_asked names which p =
+      (call_waits c m es p.stands.are at asked r reply p.stands.event old.calls p.stands.shown.calls p.place p.call p.waits.there p.waits.numbered).2
+
+  -- the books show the answer
+  pub answer_shows : (new : Books) (names : List NodeName) (which : Option (Key × OpenOut)) (opens : Bool)
+      → (p : IsPrepared c m es at asked r reply old names which) → opens ≡ opens_new old.handles.opened.entries which → new.truncating ≡ old.truncating
+      → IsGiven at names old.nodes.known.entries new.nodes.known.entries → IsOpenedBy asked which old.handles.opened.entries new.handles.opened.entries
+      → (listed : Option ListedOn) → ListsStillIfAny old.handles.opened.entries p.waiting r.body reply listed → IsNotedBy asked listed old.listings.by_key.entries new.listings.by_key.entries
+      → new.calls ≡ with_answer old.calls asked (record { at = at; reply = reply; given = names; opens = opens }) → BooksShow (es ++ Answered at asked r reply ∷ []) new
+  answer_shows new names which opens p opens_is settled gave noted listed lists listed_so answered =
+      let place = event_place p.stands in
+      let shown = p.stands.shown in
+      let named = names_answered es at asked r reply old.nodes.known.entries names place shown.nodes p.may p.named in
+      let opening_is : opening es (Answered at asked r reply) ≡ which =
+      opening_answered es at asked r reply p.waiting.node names (asked_name names which p) named ∙ sym p.opens in
+      let flag = tree_not_init es at asked r reply (tree_asked names which p) in
+      let answer : PlainAnswer = record { at = at; reply = reply; given = names; opens = opens } in
+      let here : ℕ → List PlainEvent = λ n. es ++ Answered n asked r reply ∷ [] in
+      let anew : IsTrue opens ↔ OpensAnew (here at) (length es) = opens_answered es at asked r reply old.handles.opened.entries place shown.keys which opening_is opens opens_is in
+      let calls : AreCallsOf (here (length es)) (with_answer old.calls asked answer) =
+      calls_answered c m es p.stands.are asked r reply (subst (λ n. IsEvent c m (Answered n asked r reply)) place p.stands.event) old.calls answer shown.calls place refl
+      (subst (λ n. map (λ node. name_at (here n) node) (nodes_given r.body reply) ≡ map (λ name. Some name) names) place named)
+      (subst (λ n. IsTrue opens ↔ OpensAnew (here n) (length es)) place anew) in
+      record {
+        truncating = (
+          (λ yes. flag.1 (shown.truncating.0 (subst IsTrue settled yes))),
+          (λ has. subst IsTrue (sym settled) (shown.truncating.1 (flag.0 has))),
+        );
+        nodes = nodes_answered es at asked r reply old.nodes.known.entries new.nodes.known.entries names place shown.nodes p.may p.named gave;
+        keys = keys_answered es at asked r reply old.handles.opened.entries new.handles.opened.entries place shown.keys which opening_is noted;
+        places = places_answered c m es at asked r reply p.stands.are p.stands.event old.calls shown.calls p.place p.call p.waits old.handles.opened.entries shown.keys listed
+            (subst (λ x. ListsStillIfAny old.handles.opened.entries x r.body reply listed) p.own lists) old.listings.by_key.entries new.listings.by_key.entries listed_so shown.places;
+        calls = subst (AreCallsOf (here at)) (sym answered) (subst (λ n. AreCallsOf (here n) (with_answer old.calls asked answer)) (sym place) calls);
+      }
+
+  -- what opens a key anew is more to be kept
+  pub keys_more : (names : List NodeName) (which : Option (Key × OpenOut))
+      → IsPrepared c m es at asked r reply old names which → IsTrue (opens_new old.handles.opened.entries which) → IsMoreKept es (Answered at asked r reply)
+  keys_more names which p new =
+      let place = event_place p.stands in
+      let shown = p.stands.shown in
+      let named = names_answered es at asked r reply old.nodes.known.entries names place shown.nodes p.may p.named in
+      let opening_is : opening es (Answered at asked r reply) ≡ which =
+      opening_answered es at asked r reply p.waiting.node names (asked_name names which p) named ∙ sym p.opens in
+      let anew = opens_answered es at asked r reply old.handles.opened.entries place shown.keys which opening_is (opens_new old.handles.opened.entries which) refl in
+      inr (inr (inl (subst (OpensAnew (es ++ Answered at asked r reply ∷ [])) (sym place) (anew.0 new))))
+
+  -- and so is where a listing has its offsets
+  pub listed_more : (place : ℕ) (call : PlainCall) (waiting : WaitingCall) (listed : Option ListedOn)
+      → Stands c m es (Answered at asked r reply) old → WaitsAt old.calls asked place call → waiting ≡ waiting_of call → ListsStillIfAny old.handles.opened.entries waiting r.body reply listed → ListsNew old.listings.by_key.entries listed
+      → IsMoreKept es (Answered at asked r reply)
+  listed_more place call waiting None stands waits own lists new = absurd new
+  listed_more place call waiting (Some l) stands waits own lists new =
+      inr (inr (inr (lists_on c m es at asked r reply stands.are stands.event old.calls stands.shown.calls place call waits old.handles.opened.entries stands.shown.keys l
+      (subst (λ x. ListsStillIfAny old.handles.opened.entries x r.body reply (Some l)) own lists) old.listings.by_key.entries stands.shown.places new)))
+
+  -- no place that the books have is of this request
+  pub listed_anew : Stands c m es (Answered at asked r reply) old
+      → (table : List (Key × Offsets)) → ((key : Key) (offset : ℕ) → place_of table key offset ≡ place_of old.listings.by_key.entries key offset)
+      → (key : Key) (offset : ℕ) (place : Place) → place_of table key offset ≡ Some place → place.asked ≢ asked
+  listed_anew stands table same key offset place there =
+      answered_anew c m es at asked r reply stands.are stands.event old.handles.opened.entries stands.shown.keys (place_of old.listings.by_key.entries) stands.shown.places key offset place (sym (same key offset) ∙ there)
+
+  -- ---- the answer to any other request
+
+  -- a request under whose number no call waits acts on no tree
+  pub no_call_waits : Stands c m es (Answered at asked r reply) old
+      → ((place : ℕ) (call : PlainCall) → WaitsAt old.calls asked place call → ⊥) → IsTreeRequest r.body → ⊥
+  no_call_waits stands none tree =
+      let found = waiting_call c m es stands.are at asked r reply stands.event old.calls stands.shown.calls tree in
+      let w = call_waits c m es stands.are at asked r reply stands.event old.calls stands.shown.calls found.0 found.1 found.2 found.3 in
+      none found.0 found.1 (record { there = found.2; numbered = found.3; unanswered = w.1 })
+
+  pub plain_shows : (new : Books) (settles : Bool)
+      → Stands c m es (Answered at asked r reply) old → (IsTreeRequest r.body → ⊥) → IsTrue settles ↔ SettlesTruncation r.body reply → new.truncating ≡ (old.truncating || settles)
+      → new.nodes ≡ old.nodes → new.handles ≡ old.handles → new.listings ≡ old.listings → new.calls ≡ old.calls → BooksShow (es ++ Answered at asked r reply ∷ []) new
+  plain_shows new settles stands no_tree settled truncates nodes keys listings calls =
+      let e : PlainEvent = Answered at asked r reply in
+      let nothing = plain_gives_nothing c m at asked r reply stands.event no_tree in
+      let flag = flag_settled es at asked r reply (event_place stands) old.truncating settles stands.shown.truncating settled in
+      record {
+        truncating = ((λ yes. flag.0 (subst IsTrue truncates yes)), (λ has. subst IsTrue (sym truncates) (flag.1 has)));
+        nodes = λ node. subst (λ (n : Nodes). IsNodeOf (es ++ e ∷ []) node (lookup (nat_eq node) n.known.entries)) (sym nodes)
+            (node_kept es e node (lookup (nat_eq node) old.nodes.known.entries) (ap (count_by (λ given. given == node)) nothing.0) refl (stands.shown.nodes node));
+        keys = λ key. subst (λ (h : Handles). IsKeyOf (es ++ e ∷ []) key (lookup (key_eq key) h.opened.entries)) (sym keys)
+            (key_unmoved es e key (lookup (key_eq key) old.handles.opened.entries) (none_unopened es e key (nothing.1 es)) refl (stands.shown.keys key));
+        places = subst (λ (l : Listings). ArePlaces (es ++ e ∷ []) (place_of l.by_key.entries)) (sym listings)
+            (places_replied c m es at asked r reply stands.are stands.event no_tree (place_of old.listings.by_key.entries) stands.shown.places);
+        calls = subst (AreCallsOf (es ++ e ∷ [])) (sym calls) (calls_kept es e old.calls stands.shown.calls (λ p s is tree. absurd cc)
+            (λ n p s said is tree. let same : r ≡ s = cc in no_tree (subst (λ (x : PlainRequest). IsTreeRequest x.body) (sym same) tree)));
+      }
+
+  -- ---- refusals
+
+  -- want of memory for an answer that may be noted
+  pub answer_refused : (error : LedgerError) → Stands c m es (Answered at asked r reply) old
+      → All MayBeGiven (nodes_given r.body reply)
+      → (error ≡ Memory) × ((b : List Message) (n : Message) (fs : List PlainEvent) → Stands b n fs (Answered at asked r reply) old → IsMoreKept fs (Answered at asked r reply)) → IsAnsweredRefusal es at asked r reply error
+  answer_refused error stands may why =
+      subst (IsAnsweredRefusal es at asked r reply) (sym why.0) (may, why.1 c m es stands)

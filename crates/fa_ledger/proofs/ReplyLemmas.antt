@@ -9,6 +9,7 @@ use Rattle.std.proofs.lemmas.List.Elements.{All-contains}
 use Rattle.std.proofs.lemmas.List.Sums.{sum_by-cons}
 use Rattle.std.proofs.lemmas.Option.{same_Some}
 use Rattle.fa_capture.specs.Message.{Message}
+use Rattle.fa_capture.proofs.CallerLemmas.{contains_first, contains_behind, counted_there, get_kept, get_back, get_last, get_cases, take_all_before}
 use Rattle.fa_bodies.specs.declared.handles.OpenOut.{OpenOut}
 use Rattle.fa_bodies.specs.declared.init.InitIn.{InitIn}
 use Rattle.fa_bodies.specs.declared.init.Negotiated.{Negotiated}
@@ -21,7 +22,6 @@ use Rattle.fa_bodies.specs.Replies.{PlainReply, IsSuccessBody}
 use Rattle.fa_bodies.specs.Replies.PlainReply.{Created, Opened, Listed, InitAnswer}
 use Rattle.fa_session.specs.Events.{PlainEvent, IsEvent}
 use Rattle.fa_session.specs.Events.PlainEvent.{Answered}
-use Rattle.fa_session.proofs.CallerLemmas.{get_kept, get_back, get_last, get_cases, take_all_before}
 use Rattle.fa_ledger.specs.declared.handles.Handle.{Handle}
 use Rattle.fa_ledger.specs.declared.key.Key.{Key}
 use Rattle.fa_ledger.specs.declared.name.NodeName.{NodeName}
@@ -45,30 +45,10 @@ use Rattle.fa_ledger.proofs.KeyLemmas.{either_mark, other_unopened, none_unopene
 
 -- ---- elements of a list
 
--- what a list with one element more has
-has_first : {X : Type 0} (x : X) (xs : List X) → Contains (x ∷ xs) x
-has_first x xs = (0, omega arith, refl)
-
-has_later : {X : Type 0} (x y : X) (xs : List X) → Contains xs y → Contains (x ∷ xs) y
-has_later x y xs has = (suc has.0, omega (arith, has.1), has.2)
-
 -- a list that is not empty has an element
 has_some : {X : Type 0} (xs : List X) → xs ≢ [] → (x : X) × Contains xs x
 has_some [] some = absurd (some refl)
-has_some (x ∷ xs) some = (x, has_first x xs)
-
--- what has a node at least once has it
-often_has : (nodes : List ℕ) (node : ℕ) → 0 < count_by (λ n. n == node) nodes → Contains nodes node
-often_has [] node some = absurd (omega (arith, some))
-often_has (n ∷ nodes) node some =
-    elim (n == node) as (λ b. (n == node) ≡ b → Contains (n ∷ nodes) node) [
-      | true ↦ λ test.
-          let same : n ≡ node = grind (arith, nat_tests, test) in
-          subst (λ x. Contains (n ∷ nodes) x) same (has_first n nodes)
-      | false ↦ λ test.
-          let none : ◌≡◌ {A = ℕ} (if n == node then 1 else 0) 0 = rw test refl in
-          has_later n node nodes (often_has nodes node (omega (arith, some, none, sum_by-cons (λ k. if k == node then 1 else 0) n nodes)))
-    ] refl
+has_some (x ∷ xs) some = (x, contains_first x xs)
 
 -- what has a node has it at least once
 has_often : (nodes : List ℕ) (node : ℕ) → Contains nodes node → 0 < count_by (λ n. n == node) nodes
@@ -84,8 +64,8 @@ has_often (n ∷ nodes) node (suc k, within, is) =
 same_images : {X Y : Type 0} (f g : X → Y) (xs : List X) → ((x : X) → Contains xs x → f x ≡ g x) → map f xs ≡ map g xs
 same_images f g [] same = refl
 same_images f g (x ∷ xs) same =
-    let first : f x ≡ g x = same x (has_first x xs) in
-    let later : map f xs ≡ map g xs = same_images f g xs (λ y has. same y (has_later x y xs has)) in
+    let first : f x ≡ g x = same x (contains_first x xs) in
+    let later : map f xs ≡ map g xs = same_images f g xs (λ y has. same y (contains_behind x xs y has)) in
     cc
 
 -- the image of an image
@@ -102,53 +82,11 @@ given_counted at known names nodes node named =
     sym (names_counted nodes node (λ id. given_to id at (lookup (nat_eq id) known)) (λ n. (option_map_or (λ l. l.by) (lookup (nat_eq n) known) at, refl)))
     ∙ ap (times_named node) (sym named)
 
--- what stands for a node once an answer has given these names
-node_answered : (es : List PlainEvent) (at asked : ℕ) (r : PlainRequest) (reply : PlainReply) (known : List (ℕ × Lookups)) (names : List NodeName)
-    → at ≡ length es → NodesShow es known → All MayBeGiven (nodes_given r.body reply)
-    → names ≡ map (λ id. given_to id at (lookup (nat_eq id) known)) (nodes_given r.body reply)
-    → (node : ℕ) → IsNodeOf (es ++ Answered at asked r reply ∷ []) node (given_again at (times_named node names) (lookup (nat_eq node) known))
-node_answered es at asked r reply known names place shown may named node =
-    let e : PlainEvent = Answered at asked r reply in
-    let often : times_given node e ≡ times_named node names = given_counted at known names (nodes_given r.body reply) node named in
-    let is : IsNodeOf (es ++ e ∷ []) node (given_again (length es) (times_named node names) (lookup (nat_eq node) known)) =
-    node_given es e node (times_named node names) (lookup (nat_eq node) known) often refl (λ some.
-    (All-contains MayBeGiven (nodes_given r.body reply) node may (often_has (nodes_given r.body reply) node (omega (arith, some, often)))).1) (shown node) in
-    subst (λ k. IsNodeOf (es ++ e ∷ []) node (given_again k (times_named node names) (lookup (nat_eq node) known))) (sym place) is
-
--- the table of nodes, where an answer gives these names
-pub nodes_answered : (es : List PlainEvent) (at asked : ℕ) (r : PlainRequest) (reply : PlainReply) (known now : List (ℕ × Lookups)) (names : List NodeName)
-    → at ≡ length es → NodesShow es known → All MayBeGiven (nodes_given r.body reply)
-    → names ≡ map (λ id. given_to id at (lookup (nat_eq id) known)) (nodes_given r.body reply)
-    → ((node : ℕ) → lookup (nat_eq node) now ≡ given_again at (times_named node names) (lookup (nat_eq node) known))
-    → NodesShow (es ++ Answered at asked r reply ∷ []) now
-nodes_answered es at asked r reply known now names place shown may named stands node =
-    subst (IsNodeOf (es ++ Answered at asked r reply ∷ []) node) (sym (stands node)) (node_answered es at asked r reply known names place shown may named node)
-
 -- the name of a node that was given
 name_again : (node at n : ℕ) (x : Option Lookups) → 0 < n → option_map (λ l. Given node l.by) (given_again at n x) ≡ Some (given_to node at x)
 name_again node at zero x some = absurd (omega (arith, some))
 name_again node at (suc n) None some = refl
 name_again node at (suc n) (Some l) some = refl
-
--- the names of the nodes that an answer gives
-pub names_answered : (es : List PlainEvent) (at asked : ℕ) (r : PlainRequest) (reply : PlainReply) (known : List (ℕ × Lookups)) (names : List NodeName)
-    → at ≡ length es → NodesShow es known → All MayBeGiven (nodes_given r.body reply)
-    → names ≡ map (λ id. given_to id at (lookup (nat_eq id) known)) (nodes_given r.body reply)
-    → map (λ node. name_at (es ++ Answered at asked r reply ∷ []) node) (nodes_given r.body reply) ≡ map (λ name. Some name) names
-names_answered es at asked r reply known names place shown may named =
-    let more : List PlainEvent = es ++ Answered at asked r reply ∷ [] in
-    let nodes : List ℕ = nodes_given r.body reply in
-    let name_for : ℕ → NodeName = λ id. given_to id at (lookup (nat_eq id) known) in
-    let each : (node : ℕ) → Contains nodes node → name_at more node ≡ Some (name_for node) = λ node has.
-    let now = given_again at (times_named node names) (lookup (nat_eq node) known) in
-    let other : node ≢ ROOT_ID = (All-contains MayBeGiven nodes node may has).1 in
-    let often : 0 < times_named node names = omega (arith, has_often nodes node has, given_counted at known names nodes node named) in
-    let bare : (if node == ROOT_ID then Some Root else option_map (λ l. Given node l.by) now) ≡ option_map (λ l. Given node l.by) now =
-    rw (not_root node other) refl in
-    name_of_node more node now (node_answered es at asked r reply known names place shown may named node) ∙ bare
-    ∙ name_again node at (times_named node names) (lookup (nat_eq node) known) often in
-    same_images (λ node. name_at more node) (λ node. Some (name_for node)) nodes each
-    ∙ sym (image_twice name_for (λ name. Some name) nodes) ∙ ap (map (λ name. Some name)) (sym named)
 
 -- some node that a new name is given to stands for none in the table
 new_found : (at : ℕ) (known : List (ℕ × Lookups)) (nodes : List ℕ) → list_any (is_new known) (map (λ id. given_to id at (lookup (nat_eq id) known)) nodes) ≡ true
@@ -156,11 +94,11 @@ new_found : (at : ℕ) (known : List (ℕ × Lookups)) (nodes : List ℕ) → li
 new_found at known [] new = absurd cc
 new_found at known (n ∷ nodes) new =
     elim (lookup (nat_eq n) known) as (λ x. lookup (nat_eq n) known ≡ x → (node : ℕ) × Contains (n ∷ nodes) node × (lookup (nat_eq node) known ≡ None)) [
-      | None ↦ λ none. (n, has_first n nodes, none)
+      | None ↦ λ none. (n, contains_first n nodes, none)
       | Some l ↦ λ some.
           let test : is_none (lookup (nat_eq n) known) ≡ false = rw some refl in
           let later = new_found at known nodes (rw test at new) in
-          (later.0, has_later n later.0 nodes later.1, later.2)
+          (later.0, contains_behind n nodes later.0 later.1, later.2)
     ] refl
 
 -- what stands for none in the table is not counted
@@ -194,39 +132,9 @@ opened_named before more id node (first ∷ []) (Create flags mode umask name) (
 opened_named before more id node (first ∷ (second ∷ names)) (Create flags mode umask name) (Created entry out) named given = absurd cc
 opened_named before more id node names body reply named given = refl
 
--- what an answer opens
-pub opening_answered : (es : List PlainEvent) (at asked : ℕ) (r : PlainRequest) (reply : PlainReply) (node : NodeName) (names : List NodeName) → name_at (take asked es) r.node ≡ Some node
-    → map (λ id. name_at (es ++ Answered at asked r reply ∷ []) id) (nodes_given r.body reply) ≡ map (λ name. Some name) names
-    → opening es (Answered at asked r reply) ≡ opened_with node names r.body reply
-opening_answered es at asked r reply node names named given =
-    opened_named (take asked es) (es ++ Answered at asked r reply ∷ []) r.node node names r.body reply named given
-
 -- the test of a flag
 flag_test : (flags flag : ℕ) → IsTrue (has_flag flags flag) ↔ HasFlag flags flag
 flag_test flags flag = (λ test. grind (arith, nat_tests, test), λ has. grind (arith, nat_tests, has))
-
--- a key that is opened, or another
-key_answered : (es : List PlainEvent) (at asked : ℕ) (r : PlainRequest) (reply : PlainReply) (opened : List (Key × Handle)) → at ≡ length es → KeysShow es opened → (which : Key × OpenOut)
-    → opening es (Answered at asked r reply) ≡ Some which → (key : Key) (b : Bool) → key_eq which.0 key ≡ b
-    → IsKeyOf (es ++ Answered at asked r reply ∷ []) key (cond b (Some (opened_again asked (has_flag (fopen_bits which.1.open_flags) fopen_direct_io) (lookup (key_eq which.0) opened))) (lookup (key_eq key) opened))
-key_answered es at asked r reply opened place shown which opens key true test =
-    let e : PlainEvent = Answered at asked r reply in
-    let direct : Bool = has_flag (fopen_bits which.1.open_flags) fopen_direct_io in
-    let is : IsKeyOf (es ++ e ∷ []) which.0 (Some (opened_again asked direct (lookup (key_eq which.0) opened))) =
-    key_opened es e which.0 (lookup (key_eq which.0) opened) which.1 asked r reply (ap (λ n. Answered n asked r reply) place) opens (shown which.0) direct (flag_test (fopen_bits which.1.open_flags) fopen_direct_io) in
-    subst (λ k. IsKeyOf (es ++ e ∷ []) k (Some (opened_again asked direct (lookup (key_eq which.0) opened)))) (key_same which.0 key test) is
-key_answered es at asked r reply opened place shown which opens key false test =
-    let e : PlainEvent = Answered at asked r reply in
-    key_unmoved es e key (lookup (key_eq key) opened) (other_unopened es e which.0 key which.1 opens test) refl (shown key)
-
--- what an answer leaves of each key
-pub keys_answered : (es : List PlainEvent) (at asked : ℕ) (r : PlainRequest) (reply : PlainReply) (opened now : List (Key × Handle)) → at ≡ length es → KeysShow es opened
-    → (which : Option (Key × OpenOut)) → opening es (Answered at asked r reply) ≡ which → IsOpenedBy asked which opened now → KeysShow (es ++ Answered at asked r reply ∷ []) now
-keys_answered es at asked r reply opened now place shown None opens stands key =
-    let e : PlainEvent = Answered at asked r reply in
-    subst (IsKeyOf (es ++ e ∷ []) key) (sym (stands key)) (key_unmoved es e key (lookup (key_eq key) opened) (none_unopened es e key opens) refl (shown key))
-keys_answered es at asked r reply opened now place shown (Some which) opens stands key =
-    subst (IsKeyOf (es ++ Answered at asked r reply ∷ []) key) (sym (stands key)) (key_answered es at asked r reply opened place shown which opens key (key_eq which.0 key) refl)
 
 -- what the new event opens anew
 anew_last : (es : List PlainEvent) (e : PlainEvent) → OpensAnew (es ++ e ∷ []) (length es) ↔ ((key : Key) × (out : OpenOut) × (opening es e ≡ Some (key, out)) × (times_opened es key ≡ times_closed es key))
@@ -252,29 +160,6 @@ anew_last es e =
 zero_or_not : (es : List PlainEvent) (key : Key) (x : Option Handle) → IsKeyOf es key x → IsTrue (is_none x) ↔ (times_opened es key ≡ times_closed es key)
 zero_or_not es key None is = (λ none. sym is, λ zero_now. refl)
 zero_or_not es key (Some h) is = (λ none. absurd cc, λ zero_now. absurd (let stands = open_is_some es key h is in omega (arith, stands, zero_now)))
-
--- the mark of an answer that opens a key anew
-pub opens_answered : (es : List PlainEvent) (at asked : ℕ) (r : PlainRequest) (reply : PlainReply) (opened : List (Key × Handle)) → at ≡ length es → KeysShow es opened
-    → (which : Option (Key × OpenOut)) → opening es (Answered at asked r reply) ≡ which
-    → (opens : Bool) → opens ≡ option_map_or (λ w. is_none (lookup (key_eq w.0) opened)) which false → IsTrue opens ↔ OpensAnew (es ++ Answered at asked r reply ∷ []) (length es)
-opens_answered es at asked r reply opened place shown None opening_is opens marked =
-    let e : PlainEvent = Answered at asked r reply in (
-      λ test. absurd cc,
-      λ anew.
-          let is = (anew_last es e).0 anew in
-          let clash : None ≡ Some (is.0, is.1) = sym opening_is ∙ is.2 in
-          absurd cc,
-    )
-opens_answered es at asked r reply opened place shown (Some which) opening_is opens marked =
-    let e : PlainEvent = Answered at asked r reply in
-    let zero_now = zero_or_not es which.0 (lookup (key_eq which.0) opened) (shown which.0) in (
-      λ test. (anew_last es e).1 (which.0, which.1, opening_is, zero_now.0 (sym marked ∙ test)),
-      λ anew.
-          let is = (anew_last es e).0 anew in
-          let same : (is.0, is.1) ≡ which = same_Some (is.0, is.1) which (sym is.2 ∙ opening_is) in
-          let key : is.0 ≡ which.0 = ap (λ w. w.0) same in
-          marked ∙ zero_now.1 (subst (λ k. times_opened es k ≡ times_closed es k) key is.3),
-    )
 
 -- ---- flags that are negotiated
 
@@ -316,32 +201,6 @@ so_settled : (body : PlainBody) (reply : PlainReply) (i : InitIn) (n : Negotiate
 so_settled body reply i n asks says first second =
     subst (λ x. SettlesTruncation x reply) (sym asks) (subst (λ y. SettlesTruncation (Init i) y) (sym says) (first, second))
 
--- the new answer settles the flag
-settled_now : (es : List PlainEvent) (at asked : ℕ) (r : PlainRequest) (reply : PlainReply) → at ≡ length es → SettlesTruncation r.body reply
-    → IsNegotiatedFlag (es ++ Answered at asked r reply ∷ []) atomic_o_trunc
-settled_now es at asked r reply place settles =
-    let so = settled_so r.body reply settles in
-    let there : slice_get (es ++ Answered at asked r reply ∷ []) at ≡ Some (Answered at asked r reply) =
-    subst (λ k. slice_get (es ++ Answered at asked r reply ∷ []) k ≡ Some (Answered at asked r reply)) (sym place) (get_last es (Answered at asked r reply)) in
-    (at, asked, r, so.0, so.1, there ∙ ap (λ y. Some (Answered at asked r y)) so.3, so.2, so.4, so.5)
-
--- the mark of the flag after an answer
-pub flag_settled : (es : List PlainEvent) (at asked : ℕ) (r : PlainRequest) (reply : PlainReply) → at ≡ length es
-    → (old settles : Bool) → IsTrue old ↔ IsNegotiatedFlag es atomic_o_trunc → IsTrue settles ↔ SettlesTruncation r.body reply
-    → IsTrue (old || settles) ↔ IsNegotiatedFlag (es ++ Answered at asked r reply ∷ []) atomic_o_trunc
-flag_settled es at asked r reply place old settles before now =
-    let e : PlainEvent = Answered at asked r reply in
-    either_mark old settles (IsNegotiatedFlag es atomic_o_trunc) (SettlesTruncation r.body reply) (IsNegotiatedFlag (es ++ e ∷ []) atomic_o_trunc) before now
-    (flag_still es e atomic_o_trunc) (settled_now es at asked r reply place) (λ is.
-    elim (flag_cases es e atomic_o_trunc is) [
-      | inl first ↦ inl first
-      | inr last ↦
-          let event : Answered at asked r reply ≡ Answered last.0 last.1 last.2 (InitAnswer last.4) = last.5 in
-          let says : reply ≡ InitAnswer last.4 = cc in
-          let request : r ≡ last.2 = cc in
-          inr (so_settled r.body reply last.3 last.4 (ap (λ (x : PlainRequest). x.body) request ∙ last.6) says last.7 last.8)
-    ])
-
 -- ---- requests that are not calls
 
 -- a success of a request that is no tree request gives no node
@@ -371,3 +230,127 @@ plain_gives_nothing before m at asked r reply is plain =
       | inr refused ↦ rw refused.2 refl
     ] in
     (none, λ es. plain_unopened (take asked es) (es ++ Answered at asked r reply ∷ []) r.node r.body reply plain)
+
+-- ---- what an answer gives, opens and settles
+
+module _ (es : List PlainEvent) (at asked : ℕ) (r : PlainRequest) (reply : PlainReply) where
+  -- what stands for a node once an answer has given these names
+  node_answered : (known : List (ℕ × Lookups)) (names : List NodeName)
+      → at ≡ length es → NodesShow es known → All MayBeGiven (nodes_given r.body reply)
+      → names ≡ map (λ id. given_to id at (lookup (nat_eq id) known)) (nodes_given r.body reply)
+      → (node : ℕ) → IsNodeOf (es ++ Answered at asked r reply ∷ []) node (given_again at (times_named node names) (lookup (nat_eq node) known))
+  node_answered known names place shown may named node =
+      let e : PlainEvent = Answered at asked r reply in
+      let often : times_given node e ≡ times_named node names = given_counted at known names (nodes_given r.body reply) node named in
+      let is : IsNodeOf (es ++ e ∷ []) node (given_again (length es) (times_named node names) (lookup (nat_eq node) known)) =
+      node_given es e node (times_named node names) (lookup (nat_eq node) known) often refl (λ some.
+      (All-contains MayBeGiven (nodes_given r.body reply) node may (counted_there (nodes_given r.body reply) node (omega (arith, some, often)))).1) (shown node) in
+      subst (λ k. IsNodeOf (es ++ e ∷ []) node (given_again k (times_named node names) (lookup (nat_eq node) known))) (sym place) is
+
+  -- the table of nodes, where an answer gives these names
+  pub nodes_answered : (known now : List (ℕ × Lookups)) (names : List NodeName)
+      → at ≡ length es → NodesShow es known → All MayBeGiven (nodes_given r.body reply)
+      → names ≡ map (λ id. given_to id at (lookup (nat_eq id) known)) (nodes_given r.body reply)
+      → ((node : ℕ) → lookup (nat_eq node) now ≡ given_again at (times_named node names) (lookup (nat_eq node) known))
+      → NodesShow (es ++ Answered at asked r reply ∷ []) now
+  nodes_answered known now names place shown may named stands node =
+      subst (IsNodeOf (es ++ Answered at asked r reply ∷ []) node) (sym (stands node)) (node_answered known names place shown may named node)
+
+  -- the names of the nodes that an answer gives
+  pub names_answered : (known : List (ℕ × Lookups)) (names : List NodeName)
+      → at ≡ length es → NodesShow es known → All MayBeGiven (nodes_given r.body reply)
+      → names ≡ map (λ id. given_to id at (lookup (nat_eq id) known)) (nodes_given r.body reply)
+      → map (λ node. name_at (es ++ Answered at asked r reply ∷ []) node) (nodes_given r.body reply) ≡ map (λ name. Some name) names
+  names_answered known names place shown may named =
+      let more : List PlainEvent = es ++ Answered at asked r reply ∷ [] in
+      let nodes : List ℕ = nodes_given r.body reply in
+      let name_for : ℕ → NodeName = λ id. given_to id at (lookup (nat_eq id) known) in
+      let each : (node : ℕ) → Contains nodes node → name_at more node ≡ Some (name_for node) = λ node has.
+      let now = given_again at (times_named node names) (lookup (nat_eq node) known) in
+      let other : node ≢ ROOT_ID = (All-contains MayBeGiven nodes node may has).1 in
+      let often : 0 < times_named node names = omega (arith, has_often nodes node has, given_counted at known names nodes node named) in
+      let bare : (if node == ROOT_ID then Some Root else option_map (λ l. Given node l.by) now) ≡ option_map (λ l. Given node l.by) now =
+      rw (not_root node other) refl in
+      name_of_node more node now (node_answered known names place shown may named node) ∙ bare
+      ∙ name_again node at (times_named node names) (lookup (nat_eq node) known) often in
+      same_images (λ node. name_at more node) (λ node. Some (name_for node)) nodes each
+      ∙ sym (image_twice name_for (λ name. Some name) nodes) ∙ ap (map (λ name. Some name)) (sym named)
+
+  -- what an answer opens
+  pub opening_answered : (node : NodeName) (names : List NodeName) → name_at (take asked es) r.node ≡ Some node
+      → map (λ id. name_at (es ++ Answered at asked r reply ∷ []) id) (nodes_given r.body reply) ≡ map (λ name. Some name) names
+      → opening es (Answered at asked r reply) ≡ opened_with node names r.body reply
+  opening_answered node names named given =
+      opened_named (take asked es) (es ++ Answered at asked r reply ∷ []) r.node node names r.body reply named given
+
+  -- a key that is opened, or another
+  key_answered : (opened : List (Key × Handle)) → at ≡ length es → KeysShow es opened → (which : Key × OpenOut)
+      → opening es (Answered at asked r reply) ≡ Some which → (key : Key) (b : Bool) → key_eq which.0 key ≡ b
+      → IsKeyOf (es ++ Answered at asked r reply ∷ []) key (cond b (Some (opened_again asked (has_flag (fopen_bits which.1.open_flags) fopen_direct_io) (lookup (key_eq which.0) opened))) (lookup (key_eq key) opened))
+  key_answered opened place shown which opens key true test =
+      let e : PlainEvent = Answered at asked r reply in
+      let direct : Bool = has_flag (fopen_bits which.1.open_flags) fopen_direct_io in
+      let is : IsKeyOf (es ++ e ∷ []) which.0 (Some (opened_again asked direct (lookup (key_eq which.0) opened))) =
+      key_opened es e which.0 (lookup (key_eq which.0) opened) which.1 asked r reply (ap (λ n. Answered n asked r reply) place) opens (shown which.0) direct (flag_test (fopen_bits which.1.open_flags) fopen_direct_io) in
+      subst (λ k. IsKeyOf (es ++ e ∷ []) k (Some (opened_again asked direct (lookup (key_eq which.0) opened)))) (key_same which.0 key test) is
+  key_answered opened place shown which opens key false test =
+      let e : PlainEvent = Answered at asked r reply in
+      key_unmoved es e key (lookup (key_eq key) opened) (other_unopened es e which.0 key which.1 opens test) refl (shown key)
+
+  -- what an answer leaves of each key
+  pub keys_answered : (opened now : List (Key × Handle)) → at ≡ length es → KeysShow es opened
+      → (which : Option (Key × OpenOut)) → opening es (Answered at asked r reply) ≡ which → IsOpenedBy asked which opened now → KeysShow (es ++ Answered at asked r reply ∷ []) now
+  keys_answered opened now place shown None opens stands key =
+      let e : PlainEvent = Answered at asked r reply in
+      subst (IsKeyOf (es ++ e ∷ []) key) (sym (stands key)) (key_unmoved es e key (lookup (key_eq key) opened) (none_unopened es e key opens) refl (shown key))
+  keys_answered opened now place shown (Some which) opens stands key =
+      subst (IsKeyOf (es ++ Answered at asked r reply ∷ []) key) (sym (stands key)) (key_answered opened place shown which opens key (key_eq which.0 key) refl)
+
+  -- the mark of an answer that opens a key anew
+  pub opens_answered : (opened : List (Key × Handle)) → at ≡ length es → KeysShow es opened
+      → (which : Option (Key × OpenOut)) → opening es (Answered at asked r reply) ≡ which
+      → (opens : Bool) → opens ≡ option_map_or (λ w. is_none (lookup (key_eq w.0) opened)) which false → IsTrue opens ↔ OpensAnew (es ++ Answered at asked r reply ∷ []) (length es)
+  opens_answered opened place shown None opening_is opens marked =
+      let e : PlainEvent = Answered at asked r reply in (
+        λ test. absurd cc,
+        λ anew.
+            let is = (anew_last es e).0 anew in
+            let clash : None ≡ Some (is.0, is.1) = sym opening_is ∙ is.2 in
+            absurd cc,
+      )
+  opens_answered opened place shown (Some which) opening_is opens marked =
+      let e : PlainEvent = Answered at asked r reply in
+      let zero_now = zero_or_not es which.0 (lookup (key_eq which.0) opened) (shown which.0) in (
+        λ test. (anew_last es e).1 (which.0, which.1, opening_is, zero_now.0 (sym marked ∙ test)),
+        λ anew.
+            let is = (anew_last es e).0 anew in
+            let same : (is.0, is.1) ≡ which = same_Some (is.0, is.1) which (sym is.2 ∙ opening_is) in
+            let key : is.0 ≡ which.0 = ap (λ w. w.0) same in
+            marked ∙ zero_now.1 (subst (λ k. times_opened es k ≡ times_closed es k) key is.3),
+      )
+
+  -- the new answer settles the flag
+  settled_now : at ≡ length es → SettlesTruncation r.body reply
+      → IsNegotiatedFlag (es ++ Answered at asked r reply ∷ []) atomic_o_trunc
+  settled_now place settles =
+      let so = settled_so r.body reply settles in
+      let there : slice_get (es ++ Answered at asked r reply ∷ []) at ≡ Some (Answered at asked r reply) =
+      subst (λ k. slice_get (es ++ Answered at asked r reply ∷ []) k ≡ Some (Answered at asked r reply)) (sym place) (get_last es (Answered at asked r reply)) in
+      (at, asked, r, so.0, so.1, there ∙ ap (λ y. Some (Answered at asked r y)) so.3, so.2, so.4, so.5)
+
+  -- the mark of the flag after an answer
+  pub flag_settled : at ≡ length es
+      → (old settles : Bool) → IsTrue old ↔ IsNegotiatedFlag es atomic_o_trunc → IsTrue settles ↔ SettlesTruncation r.body reply
+      → IsTrue (old || settles) ↔ IsNegotiatedFlag (es ++ Answered at asked r reply ∷ []) atomic_o_trunc
+  flag_settled place old settles before now =
+      let e : PlainEvent = Answered at asked r reply in
+      either_mark old settles (IsNegotiatedFlag es atomic_o_trunc) (SettlesTruncation r.body reply) (IsNegotiatedFlag (es ++ e ∷ []) atomic_o_trunc) before now
+      (flag_still es e atomic_o_trunc) (settled_now place) (λ is.
+      elim (flag_cases es e atomic_o_trunc is) [
+        | inl first ↦ inl first
+        | inr last ↦
+            let event : Answered at asked r reply ≡ Answered last.0 last.1 last.2 (InitAnswer last.4) = last.5 in
+            let says : reply ≡ InitAnswer last.4 = cc in
+            let request : r ≡ last.2 = cc in
+            inr (so_settled r.body reply last.3 last.4 (ap (λ (x : PlainRequest). x.body) request ∙ last.6) says last.7 last.8)
+      ])

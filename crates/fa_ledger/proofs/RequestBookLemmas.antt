@@ -6,6 +6,7 @@ use Rattle.std.specs.Map.{lookup}
 use Rattle.fa_capture.specs.declared.codes.TheConstants.{FORGOTTEN_TOO_OFTEN, CLOSED_HANDLE}
 use Rattle.fa_capture.specs.Checks.{AllHold, FirstFailure}
 use Rattle.fa_capture.specs.Message.{Message}
+use Rattle.fa_capture.proofs.CallerLemmas.{get_kept, get_back, get_cases}
 use Rattle.fa_bodies.specs.FlagBits.{atomic_o_trunc}
 use Rattle.fa_bodies.specs.declared.requests.RequestBody.{RequestBody}
 use Rattle.fa_bodies.specs.declared.requests.RequestBody.TheVariants as declared
@@ -14,7 +15,6 @@ use Rattle.fa_bodies.specs.Requests.PlainBody.{Forget, Release, Init, Releasedir
 use Rattle.fa_bodies.specs.Replies.PlainReply.{InitAnswer}
 use Rattle.fa_session.specs.Events.{PlainEvent}
 use Rattle.fa_session.specs.Events.PlainEvent.{Asked, Answered}
-use Rattle.fa_session.proofs.CallerLemmas.{get_kept, get_back, get_cases}
 use Rattle.fa_ledger.specs.declared.books.Books.{Books}
 use Rattle.fa_ledger.specs.declared.books.Names.{Names}
 use Rattle.fa_ledger.specs.declared.books.Used.{Used}
@@ -166,92 +166,6 @@ new_call at r names handle direct truncates listing = record {
   answer = None;
 }
 
--- ---- the books behind a request that names nodes
-
--- the places, where it closes nothing
-places_kept : (c : List Message) (m : Message) (es : List PlainEvent) (at : ℕ) (r : PlainRequest) (b : Books) → Stands c m es (Asked at r) b → is_closing r.body ≡ false
-    → ArePlaces (es ++ Asked at r ∷ []) (place_of b.listings.by_key.entries)
-places_kept c m es at r b stands leaves =
-    let opened = b.handles.opened.entries in
-    places_asked c m es at r stands.are stands.event opened opened stands.shown.keys (keys_kept es at r opened leaves stands.shown.keys) (λ key stood. stood) (place_of b.listings.by_key.entries) stands.shown.places
-
--- one that is no tree request and closes nothing leaves them as they are
-pub shows_left : (c : List Message) (m : Message) (es : List PlainEvent) (at : ℕ) (r : PlainRequest) (b : Books) → request_takes r ≡ [] → is_closing r.body ≡ false → (IsTreeRequest r.body → ⊥) → Stands c m es (Asked at r) b
-    → BooksShow (es ++ Asked at r ∷ []) b
-shows_left c m es at r b none leaves no_tree stands = let shown = stands.shown in record {
-  truncating = mark_kept es at r atomic_o_trunc b.truncating shown.truncating;
-  nodes = nodes_kept es at r b.nodes.known.entries none shown.nodes;
-  keys = keys_kept es at r b.handles.opened.entries leaves shown.keys;
-  places = places_kept c m es at r b stands leaves;
-  calls = others_kept es at r b.calls no_tree shown.calls;
-}
-
--- a closing closes its key once, which stays open
-pub shows_closed : (c : List Message) (m : Message) (es : List PlainEvent) (at : ℕ) (r : PlainRequest) (b : Books) (handles : Handles) (used : Used) → request_takes r ≡ [] → is_closing r.body ≡ true → (IsTreeRequest r.body → ⊥)
-    → IsUsed es r b.handles.opened.entries used → IsClosedOnce used.key b.handles.opened.entries handles.opened.entries
-    → false ≡ is_none (closed_once (lookup (key_eq used.key) b.handles.opened.entries))
-    → Stands c m es (Asked at r) b → BooksShow (es ++ Asked at r ∷ []) (record b { handles = handles })
-shows_closed c m es at r b handles used none closes no_tree is wrote left stands =
-    let shown = stands.shown in
-    let old = b.handles.opened.entries in
-    let new = handles.opened.entries in
-    let keys = keys_closed es at r old new used closes is wrote shown.keys in
-    record {
-      truncating = mark_kept es at r atomic_o_trunc b.truncating shown.truncating;
-      nodes = nodes_kept es at r b.nodes.known.entries none shown.nodes;
-      keys = keys;
-      places = places_asked c m es at r stands.are stands.event old new shown.keys keys (none_gone used.key old new wrote left) (place_of b.listings.by_key.entries) shown.places;
-      calls = others_kept es at r b.calls no_tree shown.calls;
-    }
-
--- or which is closed for good: then its places are forgotten
-pub shows_gone : (c : List Message) (m : Message) (es : List PlainEvent) (at : ℕ) (r : PlainRequest) (b : Books) (handles : Handles) (listings : Listings) (used : Used) → request_takes r ≡ [] → is_closing r.body ≡ true → (IsTreeRequest r.body → ⊥)
-    → IsUsed es r b.handles.opened.entries used → IsClosedOnce used.key b.handles.opened.entries handles.opened.entries
-    → true ≡ is_none (closed_once (lookup (key_eq used.key) b.handles.opened.entries))
-    → ((other : Key) (offset : ℕ) → place_of listings.by_key.entries other offset ≡ cond (key_eq used.key other) None (place_of b.listings.by_key.entries other offset))
-    → Stands c m es (Asked at r) b → BooksShow (es ++ Asked at r ∷ []) (record b { handles = handles; listings = listings })
-shows_gone c m es at r b handles listings used none closes no_tree is wrote gone forgot stands =
-    let shown = stands.shown in
-    let old = b.handles.opened.entries in
-    let new = handles.opened.entries in
-    let keys = keys_closed es at r old new used closes is wrote shown.keys in
-    record {
-      truncating = mark_kept es at r atomic_o_trunc b.truncating shown.truncating;
-      nodes = nodes_kept es at r b.nodes.known.entries none shown.nodes;
-      keys = keys;
-      places = places_closed c m es at r stands.are stands.event used.key old new shown.keys keys wrote gone (place_of b.listings.by_key.entries) (place_of listings.by_key.entries) forgot shown.places;
-      calls = others_kept es at r b.calls no_tree shown.calls;
-    }
-
--- a tree request is one more call
-pub shows_called : (c : List Message) (m : Message) (es : List PlainEvent) (at : ℕ) (r : PlainRequest) (b : Books) (names : Names) (used : Option Used) (handle : Option ℕ) (direct truncates : Bool) (listing : Option Listing) (calls : CallList)
-    → Stands c m es (Asked at r) b → AreNames es r names → IsUsedIfAny es r b.handles.opened.entries used → request_takes r ≡ [] → IsTreeRequest r.body
-    → MatchOption used (handle ≡ None) (λ u. IsSomeAnd handle (λ name. name ≡ u.handle.name)) → MatchOption used (direct ≡ false) (λ u. direct ≡ u.handle.direct)
-    → ((before : List PlainEvent) → IsTrue b.truncating ↔ IsNegotiatedFlag before atomic_o_trunc → IsTrue truncates ↔ Truncates before r.body)
-    → listing ≡ listing_by (offset_asked r.body) used (place_of b.listings.by_key.entries)
-    → calls ≡ b.calls ++ new_call at r names handle direct truncates listing ∷ []
-    → BooksShow (es ++ Asked at r ∷ []) (record b { calls = calls })
-shows_called c m es at r b names used handle direct truncates listing calls stands are uses none tree named marked empties further pushed =
-    let number : at ≡ length es = stands.event.0 ∙ sym stands.are.counted in
-    let call : PlainCall = new_call at r names handle direct truncates listing in
-    let says : IsAskedCall es call = record {
-      tree = tree;
-      node = are.node;
-      other = are.other;
-      handle = handle_named es r b.handles.opened.entries used handle uses named;
-      direct = direct_marked es r b.handles.opened.entries used direct uses marked;
-      truncates = empties es stands.shown.truncating;
-      listing = subst (IsListingIfAny es r) (sym further) (listing_asked es r b.handles.opened.entries used (place_of b.listings.by_key.entries) uses stands.shown.places);
-    } in
-    let more : AreCallsOf (es ++ Asked (length es) r ∷ []) (b.calls ++ call ∷ []) = calls_asked c es stands.are r b.calls call stands.shown.calls number refl refl says in
-    record {
-      truncating = mark_kept es at r atomic_o_trunc b.truncating stands.shown.truncating;
-      nodes = nodes_kept es at r b.nodes.known.entries none stands.shown.nodes;
-      keys = keys_kept es at r b.handles.opened.entries (tree_not_closing r.body tree) stands.shown.keys;
-      places = places_kept c m es at r b stands (tree_not_closing r.body tree);
-      calls = subst (λ n. AreCallsOf (es ++ Asked n r ∷ []) calls) (sym number) (subst (AreCallsOf (es ++ Asked (length es) r ∷ [])) (sym pushed) more);
-    }
-
 -- ---- what is taken
 
 -- items take no more than is left exactly where the table says so
@@ -266,7 +180,7 @@ within_takes es r known items takes show within earlier later node nlookup is =
     (within_now es node (lookup_of known node) (total_taken node earlier) nlookup (show node)).0 (within earlier later node nlookup (takes ∙ is))
 
 -- no more is left of a node than was given
-left_within : (es : List PlainEvent) (node : ℕ) (x : Option Lookups) → IsNodeOf es node x → count_left x ≤ lookups_given es node
+pub left_within : (es : List PlainEvent) (node : ℕ) (x : Option Lookups) → IsNodeOf es node x → count_left x ≤ lookups_given es node
 left_within es node None is = omega arith
 left_within es node (Some l) is = omega (arith, is.left)
 
@@ -275,23 +189,6 @@ pub left_few : (c : List Message) (m : Message) (es : List PlainEvent) (e : Plai
 left_few c m es e b stands node =
     let few : length c < 16777216 = stands.few in
     omega (arith, few, stands.are.counted, left_within es node (lookup_of b.nodes.known.entries node) (stands.shown.nodes node), given_within c es node stands.are)
-
--- ---- requests that take, and name no nodes
-
--- the books behind a request that takes these items
-pub shows_taken : (c : List Message) (m : Message) (es : List PlainEvent) (at : ℕ) (r : PlainRequest) (b : Books) (nodes : Nodes) (items : List (ℕ × ℕ)) → nodes_named r ≡ [] → request_takes r ≡ but_root items
-    → ((node : ℕ) → IsTakenFrom (total_taken node (but_root items)) (lookup (nat_eq node) b.nodes.known.entries) (lookup (nat_eq node) nodes.known.entries))
-    → Stands c m es (Asked at r) b → BooksShow (es ++ Asked at r ∷ []) (record b { nodes = nodes })
-shows_taken c m es at r b nodes items none takes took stands =
-    let shown = stands.shown in
-    let is : NamesNone r.body = names_none r.node r.body none in
-    record {
-      truncating = mark_kept es at r atomic_o_trunc b.truncating shown.truncating;
-      nodes = λ node. node_taken es (Asked at r) node (total_taken node (but_root items)) (lookup (nat_eq node) b.nodes.known.entries) (lookup (nat_eq node) nodes.known.entries) refl (ap (total_taken node) takes) (took node) (shown.nodes node);
-      keys = keys_kept es at r b.handles.opened.entries is.leaves shown.keys;
-      places = places_kept c m es at r b stands is.leaves;
-      calls = others_kept es at r b.calls is.no_tree shown.calls;
-    }
 
 -- where no node is named, each that is named is known
 none_known : (es : List PlainEvent) (r : PlainRequest) → nodes_named r ≡ [] → NamesKnown es r
@@ -319,12 +216,6 @@ nothing_taken es r takes earlier later node nlookup is = absurd (no_item earlier
 pub none_keep : (es : List PlainEvent) (r : PlainRequest) → nodes_named r ≡ [] → request_takes r ≡ [] → AllHold (asked_checks es r)
 none_keep es r none takes = (none_known es r none, (nothing_taken es r takes, (inl (names_none r.node r.body none).uses, tt)))
 
--- and leaves the books as they are
-pub none_shows : (c : List Message) (m : Message) (es : List PlainEvent) (at : ℕ) (r : PlainRequest) (b : Books) → nodes_named r ≡ [] → request_takes r ≡ [] → Stands c m es (Asked at r) b → BooksShow (es ++ Asked at r ∷ []) b
-none_shows c m es at r b none takes stands =
-    let is : NamesNone r.body = names_none r.node r.body none in
-    shows_left c m es at r b takes is.leaves is.no_tree stands
-
 -- the names of the nodes of a request that names some
 pub names_there : {o : Option Names} (es : List PlainEvent) (r : PlainRequest) (names : Names) → o ≡ Some names → AreNamesIfAny es r o → AreNames es r names
 names_there es r names is are = subst (AreNamesIfAny es r) is are
@@ -342,3 +233,113 @@ uses_keep es r opened names used are takes is = (are.known, (nothing_taken es r 
 -- one whose handle is not open breaks the third
 pub uses_fail : (es : List PlainEvent) (r : PlainRequest) (names : Names) (code : ℕ) → AreNames es r names → request_takes r ≡ [] → (UsesOpen es r → ⊥) → code ≡ CLOSED_HANDLE → FirstFailure (asked_checks es r) code
 uses_fail es r names code are takes not_open is = inr (are.known, inr (nothing_taken es r takes, inl (not_open, is)))
+
+-- ---- the books behind a request that names nodes
+
+module _ (c : List Message) (m : Message) (es : List PlainEvent) (at : ℕ) (r : PlainRequest) (b : Books) where
+  -- the places, where it closes nothing
+  places_kept : Stands c m es (Asked at r) b → is_closing r.body ≡ false
+      → ArePlaces (es ++ Asked at r ∷ []) (place_of b.listings.by_key.entries)
+  places_kept stands leaves =
+      let opened = b.handles.opened.entries in
+      places_asked c m es at r stands.are stands.event opened opened stands.shown.keys (keys_kept es at r opened leaves stands.shown.keys) (λ key stood. stood) (place_of b.listings.by_key.entries) stands.shown.places
+
+  -- one that is no tree request and closes nothing leaves them as they are
+  pub shows_left : request_takes r ≡ [] → is_closing r.body ≡ false → (IsTreeRequest r.body → ⊥) → Stands c m es (Asked at r) b
+      → BooksShow (es ++ Asked at r ∷ []) b
+  shows_left none leaves no_tree stands = let shown = stands.shown in record {
+    truncating = mark_kept es at r atomic_o_trunc b.truncating shown.truncating;
+    nodes = nodes_kept es at r b.nodes.known.entries none shown.nodes;
+    keys = keys_kept es at r b.handles.opened.entries leaves shown.keys;
+    places = places_kept stands leaves;
+    calls = others_kept es at r b.calls no_tree shown.calls;
+  }
+
+  -- a closing closes its key once, which stays open
+  pub shows_closed : (handles : Handles) (used : Used) → request_takes r ≡ [] → is_closing r.body ≡ true → (IsTreeRequest r.body → ⊥)
+      → IsUsed es r b.handles.opened.entries used → IsClosedOnce used.key b.handles.opened.entries handles.opened.entries
+      → false ≡ is_none (closed_once (lookup (key_eq used.key) b.handles.opened.entries))
+      → Stands c m es (Asked at r) b → BooksShow (es ++ Asked at r ∷ []) (record b { handles = handles })
+  shows_closed handles used none closes no_tree is wrote left stands =
+      let shown = stands.shown in
+      let old = b.handles.opened.entries in
+      let new = handles.opened.entries in
+      let keys = keys_closed es at r old new used closes is wrote shown.keys in
+      record {
+        truncating = mark_kept es at r atomic_o_trunc b.truncating shown.truncating;
+        nodes = nodes_kept es at r b.nodes.known.entries none shown.nodes;
+        keys = keys;
+        places = places_asked c m es at r stands.are stands.event old new shown.keys keys (none_gone used.key old new wrote left) (place_of b.listings.by_key.entries) shown.places;
+        calls = others_kept es at r b.calls no_tree shown.calls;
+      }
+
+  -- or which is closed for good: then its places are forgotten
+  pub shows_gone : (handles : Handles) (listings : Listings) (used : Used) → request_takes r ≡ [] → is_closing r.body ≡ true → (IsTreeRequest r.body → ⊥)
+      → IsUsed es r b.handles.opened.entries used → IsClosedOnce used.key b.handles.opened.entries handles.opened.entries
+      → true ≡ is_none (closed_once (lookup (key_eq used.key) b.handles.opened.entries))
+      → ((other : Key) (offset : ℕ) → place_of listings.by_key.entries other offset ≡ cond (key_eq used.key other) None (place_of b.listings.by_key.entries other offset))
+      → Stands c m es (Asked at r) b → BooksShow (es ++ Asked at r ∷ []) (record b { handles = handles; listings = listings })
+  shows_gone handles listings used none closes no_tree is wrote gone forgot stands =
+      let shown = stands.shown in
+      let old = b.handles.opened.entries in
+      let new = handles.opened.entries in
+      let keys = keys_closed es at r old new used closes is wrote shown.keys in
+      record {
+        truncating = mark_kept es at r atomic_o_trunc b.truncating shown.truncating;
+        nodes = nodes_kept es at r b.nodes.known.entries none shown.nodes;
+        keys = keys;
+        places = places_closed c m es at r stands.are stands.event used.key old new shown.keys keys wrote gone (place_of b.listings.by_key.entries) (place_of listings.by_key.entries) forgot shown.places;
+        calls = others_kept es at r b.calls no_tree shown.calls;
+      }
+
+  -- a tree request is one more call
+  pub shows_called : (names : Names) (used : Option Used) (handle : Option ℕ) (direct truncates : Bool) (listing : Option Listing) (calls : CallList)
+      → Stands c m es (Asked at r) b → AreNames es r names → IsUsedIfAny es r b.handles.opened.entries used → request_takes r ≡ [] → IsTreeRequest r.body
+      → MatchOption used (handle ≡ None) (λ u. IsSomeAnd handle (λ name. name ≡ u.handle.name)) → MatchOption used (direct ≡ false) (λ u. direct ≡ u.handle.direct)
+      → ((before : List PlainEvent) → IsTrue b.truncating ↔ IsNegotiatedFlag before atomic_o_trunc → IsTrue truncates ↔ Truncates before r.body)
+      → listing ≡ listing_by (offset_asked r.body) used (place_of b.listings.by_key.entries)
+      → calls ≡ b.calls ++ new_call at r names handle direct truncates listing ∷ []
+      → BooksShow (es ++ Asked at r ∷ []) (record b { calls = calls })
+  shows_called names used handle direct truncates listing calls stands are uses none tree named marked empties further pushed =
+      let number : at ≡ length es = stands.event.0 ∙ sym stands.are.counted in
+      let call : PlainCall = new_call at r names handle direct truncates listing in
+      let says : IsAskedCall es call = record {
+        tree = tree;
+        node = are.node;
+        other = are.other;
+        handle = handle_named es r b.handles.opened.entries used handle uses named;
+        direct = direct_marked es r b.handles.opened.entries used direct uses marked;
+        truncates = empties es stands.shown.truncating;
+        listing = subst (IsListingIfAny es r) (sym further) (listing_asked es r b.handles.opened.entries used (place_of b.listings.by_key.entries) uses stands.shown.places);
+      } in
+      let more : AreCallsOf (es ++ Asked (length es) r ∷ []) (b.calls ++ call ∷ []) = calls_asked c es stands.are r b.calls call stands.shown.calls number refl refl says in
+      record {
+        truncating = mark_kept es at r atomic_o_trunc b.truncating stands.shown.truncating;
+        nodes = nodes_kept es at r b.nodes.known.entries none stands.shown.nodes;
+        keys = keys_kept es at r b.handles.opened.entries (tree_not_closing r.body tree) stands.shown.keys;
+        places = places_kept stands (tree_not_closing r.body tree);
+        calls = subst (λ n. AreCallsOf (es ++ Asked n r ∷ []) calls) (sym number) (subst (AreCallsOf (es ++ Asked (length es) r ∷ [])) (sym pushed) more);
+      }
+
+  -- ---- requests that take, and name no nodes
+
+  -- the books behind a request that takes these items
+  pub shows_taken : (nodes : Nodes) (items : List (ℕ × ℕ)) → nodes_named r ≡ [] → request_takes r ≡ but_root items
+      → ((node : ℕ) → IsTakenFrom (total_taken node (but_root items)) (lookup (nat_eq node) b.nodes.known.entries) (lookup (nat_eq node) nodes.known.entries))
+      → Stands c m es (Asked at r) b → BooksShow (es ++ Asked at r ∷ []) (record b { nodes = nodes })
+  shows_taken nodes items none takes took stands =
+      let shown = stands.shown in
+      let is : NamesNone r.body = names_none r.node r.body none in
+      record {
+        truncating = mark_kept es at r atomic_o_trunc b.truncating shown.truncating;
+        nodes = λ node. node_taken es (Asked at r) node (total_taken node (but_root items)) (lookup (nat_eq node) b.nodes.known.entries) (lookup (nat_eq node) nodes.known.entries) refl (ap (total_taken node) takes) (took node) (shown.nodes node);
+        keys = keys_kept es at r b.handles.opened.entries is.leaves shown.keys;
+        places = places_kept stands is.leaves;
+        calls = others_kept es at r b.calls is.no_tree shown.calls;
+      }
+
+  -- and leaves the books as they are
+  pub none_shows : nodes_named r ≡ [] → request_takes r ≡ [] → Stands c m es (Asked at r) b → BooksShow (es ++ Asked at r ∷ []) b
+  none_shows none takes stands =
+      let is : NamesNone r.body = names_none r.node r.body none in
+      shows_left takes is.leaves is.no_tree stands

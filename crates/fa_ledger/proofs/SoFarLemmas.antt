@@ -6,7 +6,7 @@ use Rattle.std.specs.Option.{option_map_or}
 use Rattle.std.specs.List.Sorted.{IsStrictlyIncreasing}
 use Rattle.std.proofs.lemmas.Bool.{cases_Bool, cases_lt}
 use Rattle.std.proofs.lemmas.Bool.Decides.{nat_tests}
-use Rattle.std.proofs.lemmas.List.{length-map, length-take}
+use Rattle.std.proofs.lemmas.List.{length-map, length-take, take-take}
 use Rattle.std.proofs.lemmas.List.Kept.{AllPairs-from_increasing}
 use Rattle.std.proofs.lemmas.Option.{slice_get_within, slice_get-map, get_or_from_slice_get, same_Some}
 use Rattle.fa_bodies.specs.Dirents.{PlainDirent}
@@ -15,9 +15,10 @@ use Rattle.fa_bodies.specs.Requests.PlainBody.{Forget, Readdir, BatchForget, Rea
 use Rattle.fa_bodies.specs.Replies.{IsSuccessBody}
 use Rattle.fa_bodies.specs.Replies.PlainReply.{Refused, Listed}
 use Rattle.fa_capture.specs.Message.{Message}
+use Rattle.fa_capture.proofs.CallerLemmas.{get_of_front}
 use Rattle.fa_session.specs.Events.{PlainEvent}
 use Rattle.fa_session.specs.Events.PlainEvent.{Asked, Answered}
-use Rattle.fa_session.proofs.CallerLemmas.{answered_asked, answered_once, get_of_front}
+use Rattle.fa_session.proofs.CallerLemmas.{answered_asked, answered_once}
 use Rattle.fa_ledger.specs.declared.call.Listing.{Listing}
 use Rattle.fa_ledger.specs.Events.{AreEvents}
 use Rattle.fa_ledger.specs.Kinds.{IsTreeRequest}
@@ -26,7 +27,6 @@ use Rattle.fa_ledger.specs.Listings.IsListedSoFar.{anew, unreached, further}
 use Rattle.fa_ledger.specs.Calls.{PlainAnswer, PlainCall, HasAnswer, IsCall, AreCallsOf}
 use Rattle.fa_ledger.specs.SoFar.{entries_of, entries_answered, call_asked, before_of, listed_within, listing_so_far}
 use Rattle.fa_ledger.specs.Laws.{CallsListSoFar}
-use Rattle.fa_ledger.proofs.GoodLemmas.{take_front}
 use Rattle.fa_ledger.proofs.ListedLemmas.{uses_is_one, listed_is_one}
 use Rattle.fa_ledger.proofs.CallLemmas.{numbers, answers_at, call_at, call_with}
 use Rattle.fa_ledger.proofs.CallStepLemmas.{message_of, request_there, request_event, asked_later}
@@ -189,7 +189,7 @@ listed_further : (es : List PlainEvent) (calls : List PlainCall) (n place number
     → IsListedSoFar (take is.call.asked es) handle is.began (listed_within n calls is.call) adrift
     → IsListedSoFar (take number es) handle offset (listed_on n calls before) adrift
 listed_further es calls n place number handle offset before part away last same is adrift listed =
-    let front : take is.call.asked es ≡ take part.asked (take number es) = ap (λ k. take k es) is.asked ∙ sym (take_front es part.asked number (omega (arith, is.before))) in
+    let front : take is.call.asked es ≡ take part.asked (take number es) = ap (λ k. take k es) is.asked ∙ sym (take-take part.asked number es (omega (arith, is.before))) in
     let first : listed_on n calls before ≡ listed_on n calls (part.asked, part.count) = ap (listed_on n calls) same in
     let found : listed_on n calls (part.asked, part.count) ≡ listed_within n calls is.call ++ take part.count (entries_answered is.call) =
     ap (λ o. option_map_or (λ earlier. listed_within n calls earlier ++ take part.count (entries_answered earlier)) o []) is.found in
@@ -218,7 +218,7 @@ listed_so_far c es calls are exact (suc n) place call within stands handle offse
       | Some before ↦ λ goes.
           let part : Part = goes.1.0 in
           let found = parts_call c es calls are exact place call stands handle offset part goes.1.1.reaches in
-          let front : take part.asked (take call.asked es) ≡ take found.call.asked es = take_front es part.asked call.asked (omega (arith, found.before)) ∙ ap (λ k. take k es) (sym found.asked) in
+          let front : take part.asked (take call.asked es) ≡ take found.call.asked es = take-take part.asked call.asked es (omega (arith, found.before)) ∙ ap (λ k. take k es) (sym found.asked) in
           let there : UsesHandle (take found.call.asked es) part.request handle = subst (λ x. UsesHandle x part.request handle) front goes.1.1.reaches.uses in
           let used : UsesHandle (take found.call.asked es) found.call.request handle = subst (λ r. UsesHandle (take found.call.asked es) r handle) (sym found.request) there in
           let begins : offset_asked found.call.request.body ≡ Some found.began = ap (λ r. offset_asked r.body) found.request ∙ found.begins in

@@ -1,8 +1,9 @@
 -- What a table has after a write, in the words of the steps.
-use Rattle.std.proofs.Common.{◌≡◌, ℕ, Bool, true, false, cond, List, [], ◌∷◌, Option, None, Some, Result, Ok, Err, refl, sym, ◌∙◌, arith}
+use Rattle.std.proofs.Common.{◌≡◌, ℕ, Bool, true, false, cond, List, Option, None, Some, Result, Ok, Err, refl, sym, ◌∙◌, arith}
 use Rattle.std.specs.Prelude.{◌==◌, ◌&&◌, nat_eq, IsOk, OnOk, OnErr, IfErr}
 use Rattle.std.proofs.lemmas.Bool.Decides.{nat_tests}
 use Rattle.std.specs.Map.{lookup}
+use Rattle.fa_capture.proofs.CallerLemmas.{found_alike}
 use Rattle.fa_ledger.specs.contracts.key.KeyPartialEq.TheImpl as derived
 use Rattle.fa_ledger.specs.contracts.key.HandleKindPartialEq.TheImpl as derived_kind
 use Rattle.fa_ledger.specs.contracts.name.NodeNamePartialEq.TheImpl as derived_name
@@ -50,11 +51,6 @@ keys_alike : (a b : Key) → derived.eq-value.it a b ≡ key_eq a b
 keys_alike a b =
     rw (names_alike a.node b.node, numbers_alike a.fh b.fh, kinds_alike a.kind b.kind)
     (both_ways (name_eq a.node b.node) (a.fh == b.fh) (kind_eq a.kind b.kind))
-
--- what two tests that agree find
-found_alike : {K V : Type 0} (test other : K → Bool) (es : List (K × V)) → ((k : K) → test k ≡ other k) → lookup test es ≡ lookup other es
-found_alike test other [] same = refl
-found_alike test other (e ∷ es) same = rw (same e.0, found_alike test other es same) refl
 
 -- what a table has at a key
 pub at_key : {V : Type 0} (key : Key) (es : List (Key × V)) → lookup (derived.eq-value.it key) es ≡ lookup (key_eq key) es

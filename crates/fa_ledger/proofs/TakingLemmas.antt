@@ -5,6 +5,7 @@ use Rattle.std.specs.Prelude.{◌==◌, if◌then◌else◌, nat_eq, not}
 use Rattle.std.proofs.lemmas.Bool.Decides.{nat_tests}
 use Rattle.std.proofs.lemmas.List.Elements.{filter-append}
 use Rattle.std.proofs.lemmas.List.{append-nil}
+use Rattle.fa_capture.proofs.CallerLemmas.{snoc_cases}
 use Rattle.fa_bodies.specs.declared.requests.TheConstants.{ROOT_ID}
 use Rattle.fa_ledger.specs.declared.nodes.Lookups.{Lookups}
 use Rattle.fa_ledger.specs.Counts.{total_taken}
@@ -111,20 +112,6 @@ none_lowered old = record {
   lowered = λ node. sym (lowered_none (lookup_of old node));
 }
 
--- an item of a list with one more is the last, or stands before it
-last_or_before : {X : Type 0} (xs : List X) (x : X) (earlier later : List X) (y : X) → xs ++ x ∷ [] ≡ earlier ++ y ∷ later
-    → ((earlier ≡ xs) × (y ≡ x)) ⊎ ((rest : List X) × (xs ≡ earlier ++ y ∷ rest))
-last_or_before [] x [] later y is = let same : x ≡ y = cc in inl (refl, sym same)
-last_or_before [] x (e ∷ earlier) later y is = let tails : [] ≡ earlier ++ y ∷ later = cc in absurd (no_item earlier y later tails)
-last_or_before (z ∷ xs) x [] later y is = let same : z ≡ y = cc in inr (xs, ap (λ k. k ∷ xs) same)
-last_or_before (z ∷ xs) x (e ∷ earlier) later y is =
-    let heads : z ≡ e = cc in
-    let tails : xs ++ x ∷ [] ≡ earlier ++ y ∷ later = cc in
-    elim (last_or_before xs x earlier later y tails) [
-      | inl last ↦ inl ((let fronts = last.0 in cc), last.1)
-      | inr before ↦ inr (before.0, let rest = before.1 in cc)
-    ]
-
 -- one more item that takes no more than is left
 pub one_lowered : (front : List (ℕ × ℕ)) (old mid now : List (ℕ × Lookups)) (id n : ℕ) → AreLowered front old mid
     → (id ≢ ROOT_ID → n ≤ count_left (lookup_of mid id))
@@ -152,7 +139,7 @@ one_lowered front old mid now id n are within wrote =
           (λ node. ap (total_taken node) same ∙ total_both node (but_root front) ((id, n) ∷ [])) in
           record {
             within = λ earlier later node nlookup is.
-                elim (last_or_before (but_root front) (id, n) earlier later (node, nlookup) (sym same ∙ is)) [
+                elim (snoc_cases (but_root front) earlier later (id, n) (node, nlookup) (sym same ∙ is)) [
                   | inl last ↦
                       let ids : node ≡ id = ap (λ (y : ℕ × ℕ). y.0) last.1 in
                       let counts : nlookup ≡ n = ap (λ (y : ℕ × ℕ). y.1) last.1 in

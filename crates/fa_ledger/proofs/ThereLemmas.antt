@@ -1,20 +1,18 @@
 -- Good messages have never no calls: with each message comes its event, and with a tree request or its answer what the calls say
 -- of it.
-use Rattle.std.proofs.Common.{◌≡◌, ℕ, zero, suc, ◌<◌, ◌≤◌, List, [], ◌∷◌, ◌++◌, length, take, Some, refl, sym, subst, ◌∙◌, arith}
-use Rattle.std.specs.Prelude.{slice_get, All}
-use Rattle.std.proofs.lemmas.List.{take_all, length-take}
-use Rattle.std.proofs.lemmas.Option.{slice_get_within}
+use Rattle.std.proofs.Common.{◌≡◌, ℕ, zero, suc, ◌≤◌, List, [], ◌∷◌, ◌++◌, length, take, refl, sym, subst, ◌∙◌, arith}
+use Rattle.std.specs.Prelude.{All}
+use Rattle.std.proofs.lemmas.List.{take_all}
 use Rattle.fa_capture.specs.declared.packet.Direction.{Direction}
 use Rattle.fa_capture.specs.declared.packet.Direction.TheVariants.{FromServer}
 use Rattle.fa_capture.specs.Checks.{AllHold}
 use Rattle.fa_capture.specs.Message.{Message}
-use Rattle.fa_capture.proofs.CallerLemmas.{hold_front, hold_later}
+use Rattle.fa_capture.proofs.CallerLemmas.{hold_front, hold_later, take_with_next}
 use Rattle.fa_bodies.specs.Requests.{PlainRequest}
 use Rattle.fa_bodies.specs.Replies.{PlainReply}
 use Rattle.fa_session.specs.Allowed.{session_checks}
 use Rattle.fa_session.specs.Events.{PlainEvent, IsEvent}
 use Rattle.fa_session.specs.Events.PlainEvent.{Asked, Answered, Notice}
-use Rattle.fa_session.proofs.CallerLemmas.{get_of_front}
 use Rattle.fa_ledger.specs.Events.{AreEvents}
 use Rattle.fa_ledger.specs.Counts.{nodes_given}
 use Rattle.fa_ledger.specs.Kinds.{IsTreeRequest}
@@ -23,19 +21,12 @@ use Rattle.fa_ledger.specs.Passing.{MayBeGiven, ledger_checks_by, Passes, AreGoo
 use Rattle.fa_ledger.specs.Laws.{CallsAreThere}
 use Rattle.fa_ledger.specs.parts.Steps.{with_answer}
 use Rattle.fa_ledger.proofs.EventLemmas.{element_at}
-use Rattle.fa_ledger.proofs.GoodLemmas.{take_front, passes_rules}
-use Rattle.fa_ledger.proofs.GrowthLemmas.{take_more}
+use Rattle.fa_ledger.proofs.GoodLemmas.{passes_rules}
 use Rattle.fa_ledger.proofs.CallStepLemmas.{events_more, calls_kept, calls_asked, calls_answered}
 use Rattle.fa_ledger.proofs.EventThereLemmas.{event_there}
 use Rattle.fa_ledger.proofs.BalanceLemmas.{given_names}
 use Rattle.fa_ledger.proofs.AskedThereLemmas.{mark_there, asked_there}
-
--- the first of good messages are good
-good_front : (c : List Message) (n : ℕ) → AreGood c → AreGood (take n c)
-good_front c n good i m within there =
-    let below : i < n = omega (arith, within, length-take n c) in
-    let here : slice_get c i ≡ Some m = get_of_front c n i m there in
-    subst (λ before. Passes before m) (sym (take_front c i n (omega (arith, below)))) (good i m (slice_get_within c i m here) here)
+use Rattle.fa_ledger.proofs.FrontLemmas.{good_front}
 
 -- the nodes that a reply gives may be given, where it passes
 gives_may : (before : List Message) (m : Message) (at p : ℕ) (r : PlainRequest) (reply : PlainReply) → Passes before m → IsEvent before m (Answered at p r reply)
@@ -97,7 +88,7 @@ first_called c good zero within none =
 first_called c good (suc n) within none =
     first_called c good n (omega (arith, within)) (λ es calls are exact.
     let message = element_at c n within in
-    let more : take (suc n) c ≡ take n c ++ message.0 ∷ [] = take_more c n message.0 message.1 in
+    let more : take (suc n) c ≡ take n c ++ message.0 ∷ [] = take_with_next c n message.0 message.1 in
     let passes : Passes (take n c) message.0 = good n message.0 within message.1 in
     let event = event_there (take n c) message.0 (hold_front (session_checks (take n c) message.0) (ledger_checks_by message.0.direction (take n c) message.0) passes) in
     event_goes (take n c) message.0 es calls (good_front c n good) passes are exact event.0 event.1 (λ further is.

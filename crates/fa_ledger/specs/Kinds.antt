@@ -1,6 +1,8 @@
--- Kinds of requests: which act on the tree, and which of those only read (this profile).
-use Rattle.fa_bodies.specs.Requests.{PlainBody}
+-- Kinds of requests: which act on the tree, and which of those leave it as it is (this profile).
+use Rattle.std.specs.Prelude.{◌⊎◌}
+use Rattle.fa_bodies.specs.Requests.{PlainRequest, PlainBody}
 use Rattle.fa_bodies.specs.Requests.PlainBody.{Lookup, Forget, Getattr, Setattr, Readlink, Symlink, Mknod, Mkdir, Unlink, Rmdir, Rename, Link, Open, Read, Write, Release, Flush, Init, Opendir, Readdir, Releasedir, Create, BatchForget, Readdirplus, Passed}
+use Rattle.fa_bodies.specs.Replies.{PlainReply, IsError}
 
 -- a tree request, one that acts on the tree
 abbrev pub IsTreeRequest : PlainBody → Type 0
@@ -57,3 +59,7 @@ IsReadingRequest (Create flags mode umask name) = ⊥
 IsReadingRequest (BatchForget count items) = ⊥
 IsReadingRequest (Readdirplus r) = Unit {0}
 IsReadingRequest Passed = ⊥
+
+-- a request with this reply leaves the tree as it is: the reply is an error, or the request only reads
+abbrev pub KeepsTree : PlainRequest → PlainReply → Type 0
+KeepsTree r reply = IsError reply ⊎ IsReadingRequest r.body

@@ -8,8 +8,8 @@ use Rattle.fa_ledger.specs.Calls.{PlainCall}
 
 -- How many messages came; whether success of OPEN with O_TRUNC empties a file, since FUSE_ATOMIC_O_TRUNC (fuse.h) was
 -- negotiated; the nodes that are known but for the root, by rising ids; the keys that are open, in the order of their
--- table, which says nothing; for keys of directories, of each offset that an answer has an entry with, the last such answer, in orders
--- that say nothing; and the calls.
+-- table, which says nothing; for a key that is open, of each offset that an answer on its handle has an entry with, the last such answer;
+-- and the calls. The orders of offsets say nothing, nor does a key that stands there without any.
 pub record PlainLedger : Type 0 where
   pub messages : ℕ
   pub truncating : Bool

@@ -1,6 +1,6 @@
 -- What a ledger shows of some messages.
 use Rattle.std.specs.Prelude.{◌≡◌, ◌↔◌, ℕ, ◌+◌, ◌<◌, List, length, nat_eq, take, IsTrue, Option, None, Some, option_and_then}
-use Rattle.std.specs.FinMap.{find}
+use Rattle.std.specs.FinMap.{find, is_sorted}
 use Rattle.std.specs.Map.{lookup}
 use Rattle.std.specs.Ordering.{nat_cmp}
 use Rattle.fa_bodies.specs.Dirents.{PlainDirent}
@@ -76,6 +76,7 @@ pub record ShowsEvents (es : List PlainEvent) (s : PlainLedger) : Type 0 where
   pub counted : s.messages ≡ length es
   pub truncating : IsTrue s.truncating ↔ IsNegotiatedFlag es atomic_o_trunc
   pub nodes : (node : ℕ) → IsNodeOf es node (find nat_cmp node s.nodes)
+  pub rising : IsTrue (is_sorted nat_cmp s.nodes)
   pub handles : (key : Key) → IsKeyOf es key (lookup (key_eq key) s.handles)
   pub listed : ArePlaces es (place_in s.listed)
   pub calls : AreCallsOf es s.calls

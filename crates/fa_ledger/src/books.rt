@@ -20,7 +20,7 @@ ghost use Rattle.fa_ledger.specs.parts.CallParts.{WaitsAt, waiting_of};
 ghost use Rattle.fa_ledger.specs.parts.ListingParts.{place_of, listing_by, ListsStillIfAny};
 
 use crate::call::{Answer, Call, Listing};
-use crate::call_list::{CallList, Waiting};
+use crate::call_list::{CallList, WaitingCall};
 use crate::error::LedgerError;
 use crate::giving::{may_be_given, names_given, opened, settles_truncation};
 use crate::handles::{Handle, Handles};
@@ -238,7 +238,7 @@ impl<'a> Books<'a> {
     /// What the answer to this call lists on its file handle, if that is open still.
     fn listed<'b>(
         &self,
-        waiting: Waiting,
+        waiting: WaitingCall,
         body: &RequestBody<'_>,
         reply: &Reply<'b>,
     ) -> Option<ListedOn<'b>>
@@ -274,7 +274,7 @@ impl<'a> Books<'a> {
         &mut self,
         at: u32,
         asked: u32,
-        waiting: Waiting,
+        waiting: WaitingCall,
         request: &Request<'a>,
         reply: Reply<'a>,
     ) -> Result<(), LedgerError>

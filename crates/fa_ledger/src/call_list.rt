@@ -15,7 +15,7 @@ use std::marker::Model;
 
 /// What is known of a call that waits for its answer.
 #[derive(Clone, Copy, Debug)]
-pub(crate) struct Waiting {
+pub(crate) struct WaitingCall {
     /// The node of its header, by name.
     pub node: NodeName,
     /// The file handle that it uses, by name.
@@ -76,13 +76,13 @@ impl<'a> CallList<'a> {
     /// The call that waits under this number.
     ///
     /// Takes no memory, in expected constant time.
-    pub fn find(&self, asked: u32) -> Option<Waiting>
+    pub fn find(&self, asked: u32) -> Option<WaitingCall>
         ensures some { IfSome result (λ waiting. (place : ℕ) × (call : PlainCall) × WaitsAt self.now asked place call × (waiting ≡ waiting_of call)) }
         ensures none { IfNone result ((place : ℕ) (call : PlainCall) → WaitsAt self.now asked place call → ⊥) }
     {
         let place = *self.waiting.get(&asked)?;
         let call = &self.list[place];
-        Some(Waiting {
+        Some(WaitingCall {
             node: call.node,
             handle: call.handle,
             adrift: is_adrift(call.listing),

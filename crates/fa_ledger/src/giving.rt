@@ -166,8 +166,7 @@ pub(crate) fn settles_truncation(body: &RequestBody<'_>, reply: &Reply<'_>) -> b
 {
     match (body, reply) {
         (RequestBody::Init(init), Reply::Negotiated(answer)) => {
-            let flag = InitFlags::ATOMIC_O_TRUNC;
-            init.flags.contains(flag) && answer.flags.contains(flag)
+            init.agreed(answer).contains(InitFlags::ATOMIC_O_TRUNC)
         }
         _ => false,
     }

@@ -1,10 +1,11 @@
 //! What kind a request is.
 
 ghost use Rattle.std.specs.Prelude.{◌↔◌, IsTrue};
-ghost use Rattle.fa_bodies.specs.Requests.{body_shown};
-ghost use Rattle.fa_ledger.specs.Kinds.{IsReadingRequest};
+ghost use Rattle.fa_bodies.specs.Requests.{body_shown, request_shown};
+ghost use Rattle.fa_bodies.specs.Replies.{reply_shown};
+ghost use Rattle.fa_ledger.specs.Kinds.{IsReadingRequest, KeepsTree};
 
-use fa_bodies::RequestBody;
+use fa_bodies::{Reply, Request, RequestBody};
 
 /// Whether a request of this body is a tree request that only reads: it asks, and leaves the tree as it is (this profile).
 ///
@@ -22,4 +23,13 @@ pub fn only_reads(body: &RequestBody<'_>) -> bool
             | RequestBody::Readdir(_)
             | RequestBody::Readdirplus(_)
     )
+}
+
+/// Whether a request that is answered so leaves the tree as it is: the reply is an error, or the request only reads.
+///
+/// Takes no memory, in constant time.
+pub fn keeps_tree(request: &Request<'_>, reply: &Reply<'_>) -> bool
+    ensures { IsTrue result ↔ KeepsTree (request_shown request.now) (reply_shown reply.now) }
+{
+    matches!(reply, Reply::Refused(_)) || only_reads(&request.body)
 }

@@ -22,6 +22,6 @@ mod placing;
 pub use call::{Answer, Call, GivenNodes, Listing};
 pub use calls::Calls;
 pub use error::LedgerError;
-pub use kinds::only_reads;
+pub use kinds::{keeps_tree, only_reads};
 pub use ledger::Ledger;
 pub use name::NodeName;

@@ -15,7 +15,7 @@ use Rattle.fa_order.specs.Paths.{Path, path_text, IsPath, name_of, IsAt}
 use Rattle.fa_order.specs.TreeLines.{TreeLine, letter, octal, body_text, fields_text, line_text, SpellsBody, AddsFile, AddsName, Adds}
 use Rattle.fa_order.specs.TreeLines.TreeLine.{NewFile, FurtherName}
 use Rattle.fa_order.specs.TreeText.{LacksAddition}
-use Rattle.fa_order.specs.parts.Splits.{LacksByte}
+use Rattle.fa_bodies.specs.Names.{LacksByte}
 use Rattle.fa_order.specs.parts.Ways.{Reaches}
 use Rattle.fa_order.specs.parts.Fields.{IsFileLine, IsNameLine, LacksFile, LacksName}
 use Rattle.fa_order.specs.parts.Outcomes.{IsFileAdded, IsNameAdded, IsLineAdded}

@@ -7,7 +7,7 @@ use Rattle.hex.proofs.HexLemmas.{decode_of-ok, decode_of-same}
 use Rattle.fa_bodies.specs.declared.mode.Kind.{Kind}
 use Rattle.fa_bodies.specs.declared.mode.Kind.TheVariants.{Fifo, CharDevice, Directory, BlockDevice, Regular, Symlink, Socket}
 use Rattle.fa_order.specs.TreeLines.{SpellsBytes, SpellsBody, body_text}
-use Rattle.fa_order.specs.parts.Splits.{LacksByte}
+use Rattle.fa_bodies.specs.Names.{LacksByte}
 
 one_bytes : (spelled : Option (List ℕ)) (a b : List ℕ) → SpellsBytes spelled a → SpellsBytes spelled b → a ≡ b
 one_bytes None a b is too = absurd is

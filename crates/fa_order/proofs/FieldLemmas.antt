@@ -6,7 +6,7 @@ use Rattle.fa_bodies.specs.declared.mode.Kind.TheVariants.{Fifo, CharDevice, Dir
 use Rattle.fa_tree.specs.Attributes.{all_bits}
 use Rattle.fa_order.specs.Lines.{LacksLine}
 use Rattle.fa_order.specs.TreeLines.{letter, octal, body_text}
-use Rattle.fa_order.specs.parts.Splits.{LacksByte}
+use Rattle.fa_bodies.specs.Names.{LacksByte}
 use Rattle.fa_order.specs.parts.Fields.{IsFileLine, IsNameLine, LacksFile, LacksName}
 use Rattle.fa_order.proofs.SplitLemmas.{no_split, one_split}
 

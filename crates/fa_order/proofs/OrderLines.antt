@@ -32,7 +32,8 @@ one_line_end (Some m) (Some n) x y fits others e =
     let lines : 10 ∷ x ≡ 10 ∷ y = both.1 in
     (ap (λ (k : ℕ). Some k) both.0, cc)
 
-same_entry : (d e : Entry) → d.at ≡ e.at → d.wrote ≡ e.wrote → d ≡ e
+-- entries with the same number and the same count are one
+pub same_entry : (d e : Entry) → d.at ≡ e.at → d.wrote ≡ e.wrote → d ≡ e
 same_entry d e same_at same_wrote =
     let both : (d.at, d.wrote) ≡ (e.at, e.wrote) = cc in
     let made : ℕ × Option ℕ → Entry = λ p. record { at = p.0; wrote = p.1 } in

@@ -4,7 +4,7 @@ use Rattle.std.specs.List.{flat_map}
 use Rattle.std.proofs.lemmas.List.Elements.{All-append, All-cons, All-head, All-nil, All-tail, All-weaker}
 use Rattle.fa_tree.specs.State.{Store, root, HasName}
 use Rattle.fa_order.specs.Paths.{Path, path_text, slashed, IsSpelledName, IsPath, name_of, LeadsTo, IsParentOf, IsAt}
-use Rattle.fa_order.specs.parts.Splits.{LacksByte}
+use Rattle.fa_bodies.specs.Names.{LacksByte}
 use Rattle.fa_order.specs.parts.Ways.{Reaches}
 use Rattle.fa_order.proofs.SplitLemmas.{no_split, one_split}
 use Rattle.fa_order.proofs.WayLemmas.{no_slash, path_on}

@@ -5,7 +5,7 @@ use Rattle.std.proofs.lemmas.List.Elements.{All-cons, All-head, All-tail, All-ni
 use Rattle.percent_encoding.specs.Percent.{percent_decode}
 use Rattle.fa_tree.specs.State.{Store, HasName}
 use Rattle.fa_order.specs.Paths.{slashed, IsSpelledName, LeadsTo}
-use Rattle.fa_order.specs.parts.Splits.{LacksByte}
+use Rattle.fa_bodies.specs.Names.{LacksByte}
 use Rattle.fa_order.specs.parts.Ways.{Reaches}
 use Rattle.fa_order.proofs.SplitLemmas.{no_split, one_split}
 

@@ -1,7 +1,5 @@
 -- decimal digits
 pub mod Digits
--- bytes that are split
-pub mod Splits
 -- ways down a tree
 pub mod Ways
 -- the fields of lines

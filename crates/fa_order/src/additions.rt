@@ -9,9 +9,8 @@ ghost use Rattle.fa_order.specs.TreeText.{LacksAddition};
 ghost use Rattle.fa_order.specs.parts.Outcomes.{IsFileAdded, IsNameAdded, IsLineAdded};
 
 use crate::fields::{Fields, FileFields, NameFields, fields_of};
-use crate::lines::split_at_byte;
 use crate::paths::find_parent;
-use fa_bodies::Kind;
+use fa_bodies::{Kind, split_at_byte};
 use fa_tree::{FileId, StepError, Tree};
 use hex::FromHexError;
 use std::alloc::{AllocError, Global};

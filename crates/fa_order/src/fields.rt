@@ -7,8 +7,7 @@ ghost use Rattle.fa_order.specs.Lines.{LacksLine};
 ghost use Rattle.fa_order.specs.TreeLines.{letter, octal};
 ghost use Rattle.fa_order.specs.parts.Fields.{HasFields, LacksFile, LacksName};
 
-use crate::lines::split_at_byte;
-use fa_bodies::Kind;
+use fa_bodies::{Kind, split_at_byte};
 
 /// A new file: its type, its permission bits, its path, and what spells its bytes.
 #[derive(Clone, Copy)]

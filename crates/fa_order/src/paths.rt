@@ -6,8 +6,7 @@ ghost use Rattle.fa_tree.specs.State as state;
 ghost use Rattle.fa_order.specs.Paths.{IsSpelledByte, HasHexDigit, HasWholeEscapes, IsSpelledName};
 ghost use Rattle.fa_order.specs.parts.Ways.{Reaches};
 
-use crate::lines::split_at_byte;
-use fa_bodies::is_name;
+use fa_bodies::{is_name, split_at_byte};
 use fa_tree::{FileId, Tree};
 use percent_encoding::percent_decode;
 use std::alloc::AllocError;

@@ -8,25 +8,25 @@ use Rattle.std.proofs.lemmas.List.Elements.{All-nil, All-cons, All-contains, Con
 use Rattle.std.proofs.lemmas.List.Kept.{AllPairs-cons}
 use Rattle.fa_capture.specs.Checks.{AllHold}
 use Rattle.fa_capture.specs.Message.{Message}
+use Rattle.fa_capture.proofs.CallerLemmas.{contains_cases, contains_first, contains_behind, pairs_behind, pairs_tail}
 use Rattle.fa_session.specs.Events.{PlainEvent}
 use Rattle.fa_ledger.specs.Calls.{PlainAnswer, PlainCall, IsCall, AreCalls}
-use Rattle.fa_ledger.proofs.CallerLemmas.{events_are_one, call_at, call_with, call_is_one, calls_are_there}
-use Rattle.fa_ledger.proofs.CallStepLemmas.{request_event}
+use Rattle.fa_ledger.specs.Kinds.{KeepsTree}
+use Rattle.fa_ledger.proofs.CallerLemmas.{events_are_one, call_at, call_with, call_is_one, calls_are_there, request_event}
 use Rattle.fa_tree.specs.State.{TreeState}
 use Rattle.fa_order.specs.declared.entry.Entry.{Entry}
 use Rattle.fa_check.specs.Orders.{IsTreeRequestAt, numbers}
 use Rattle.fa_check.specs.Faults.{order_checks}
-use Rattle.fa_check.proofs.ListLemmas.{contains_cases, contains_first, contains_behind, pairs_behind}
-use Rattle.fa_check.proofs.OrderLemmas.{number_still, number_now}
-use Rattle.fa_check.proofs.MessageLemmas.{one_place, one_answered}
+use Rattle.fa_check.proofs.CallerLemmas.{number_still, number_now}
 use Rattle.fa_propose.specs.declared.rank.Group.{Group}
 use Rattle.fa_propose.specs.declared.rank.Group.TheVariants.{Unchanging, Changing, Unanswered}
 use Rattle.fa_propose.specs.declared.rank.Rank.{Rank}
 use Rattle.fa_propose.specs.declared.proposing.TheConstants.{MAX_TRIED}
-use Rattle.fa_propose.specs.Proposals.{entry_of, IsCandidate, KeepsStore, IsRankIn, IsRank, group_number, IsTriedBefore, AreCandidates, AreTried, StepsTo, HasNoStep, IsNext, IsStuck, AllPlaced, IsProposedSoFar, IsProposal}
+use Rattle.fa_propose.specs.Proposals.{entry_of, IsCandidate, IsRankIn, IsRank, group_number, IsTriedBefore, AreCandidates, AreTried, StepsTo, HasNoStep, IsNext, IsStuck, AllPlaced, IsProposedSoFar, IsProposal}
 use Rattle.fa_propose.specs.Proposals.IsProposedSoFar.{begun, further}
 use Rattle.fa_propose.specs.Laws.{ProposalIsThere}
-use Rattle.fa_propose.proofs.CandidateLemmas.{tried_on, pairs_tail}
+use Rattle.fa_propose.proofs.CandidateLemmas.{tried_on}
+use Rattle.fa_propose.proofs.RankLemmas.{in_group}
 
 -- ---- what can't be refused
 
@@ -125,7 +125,7 @@ rank_is_there call not = by call.answer refl
     by : (answer : Option PlainAnswer) → call.answer ≡ answer → ⊥
     by None is = not (record { group = Unanswered; position = call.asked }) (is, refl)
     by (Some answer) is =
-        either (KeepsStore call answer) (λ known. elim known [
+        either (KeepsTree call.request answer.reply) (λ known. elim known [
           | inl keeps ↦ not (record { group = Unchanging; position = answer.at }) (answer, is, keeps, refl)
           | inr changes ↦ not (record { group = Changing; position = answer.at }) (answer, is, changes, refl)
         ])
@@ -145,12 +145,6 @@ same_group Unanswered Unanswered is = refl
 -- ---- candidates
 
 module _ (c : List Message) (calls : List PlainCall) (are : AreCalls c calls) where
-  -- calls of the same rank stand at one place
-  one_ranked : (group : Group) (i j position : ℕ) (a b : PlainCall) → slice_get calls i ≡ Some a → slice_get calls j ≡ Some b → IsRankIn group position a → IsRankIn group position b → i ≡ j
-  one_ranked Unchanging i j position a b here there is too = one_answered c calls are i j position (a, is.0, here, is.1, sym is.3) (b, too.0, there, too.1, sym too.3)
-  one_ranked Changing i j position a b here there is too = one_answered c calls are i j position (a, is.0, here, is.1, sym is.3) (b, too.0, there, too.1, sym too.3)
-  one_ranked Unanswered i j position a b here there is too = one_place c calls are i j a b here there (sym is.1 ∙ too.1)
-
   -- that of calls at two places one is tried before the other
   calls_ordered : (i j : ℕ) (a b : PlainCall) → slice_get calls i ≡ Some a → slice_get calls j ≡ Some b → (i ≡ j → ⊥) → AreOrdered IsTriedBefore a b
   calls_ordered i j a b here there apart not =
@@ -169,7 +163,7 @@ module _ (c : List Message) (calls : List PlainCall) (are : AreCalls c calls) wh
                       let position : rank.position ≡ other.position = omega (arith, above, below) in
                       let moved : IsRankIn other.group other.position a =
                       subst (λ (p : ℕ). IsRankIn other.group p a) position (subst (λ (g : Group). IsRankIn g rank.position a) group is) in
-                      apart (one_ranked other.group i j other.position a b here there moved too)
+                      apart (in_group c calls are other.group other.position i j a b here there moved too)
                 ]
               ]
         ]

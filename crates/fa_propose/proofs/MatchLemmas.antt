@@ -4,14 +4,13 @@ use Rattle.std.specs.Prelude.{slice_get, All, AllPairs, Contains}
 use Rattle.std.proofs.lemmas.List.Elements.{All-nil, All-cons, All-head, All-tail}
 use Rattle.std.proofs.lemmas.Option.{same_Some}
 use Rattle.fa_capture.specs.Message.{Message}
+use Rattle.fa_capture.proofs.CallerLemmas.{contains_cases, contains_first, contains_behind}
 use Rattle.fa_ledger.specs.Calls.{PlainCall, IsCall, AreCalls}
 use Rattle.fa_ledger.proofs.CallerLemmas.{call_at, call_is_one, events_are_one}
 use Rattle.fa_tree.specs.State.{TreeState}
 use Rattle.fa_order.specs.declared.entry.Entry.{Entry}
 use Rattle.fa_check.specs.Runs.{EntrySteps}
-use Rattle.fa_check.proofs.EntryLemmas.{choice_allowed}
-use Rattle.fa_check.proofs.ListLemmas.{contains_cases, contains_first, contains_behind}
-use Rattle.fa_check.proofs.MessageLemmas.{tree_is_call}
+use Rattle.fa_check.proofs.CallerLemmas.{choice_allowed, tree_is_call}
 use Rattle.fa_propose.specs.declared.rank.Group.TheVariants.{Unchanging}
 use Rattle.fa_propose.specs.declared.rank.Rank.{Rank}
 use Rattle.fa_propose.specs.declared.proposing.TheConstants.{MAX_TRIED}

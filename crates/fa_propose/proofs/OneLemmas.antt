@@ -3,11 +3,11 @@ use Rattle.std.proofs.Common.{◌≡◌, ◌<◌, ◌⊎◌, List, [], ◌∷◌
 use Rattle.std.specs.Prelude.{All}
 use Rattle.std.proofs.lemmas.Bool.{cases_lt}
 use Rattle.fa_capture.specs.Message.{Message}
+use Rattle.fa_capture.proofs.CallerLemmas.{same_parts, longer_front, all_middle}
 use Rattle.fa_ledger.specs.Calls.{PlainCall}
 use Rattle.fa_tree.specs.State.{TreeState}
 use Rattle.fa_order.specs.declared.entry.Entry.{Entry}
-use Rattle.fa_check.proofs.ListLemmas.{same_parts, longer_front, all_middle}
-use Rattle.fa_check.proofs.RunLemmas.{run_is_one}
+use Rattle.fa_check.proofs.CallerLemmas.{run_is_one}
 use Rattle.fa_propose.specs.Proposals.{entry_of, StepsTo, HasNoStep, IsNext, IsStuck, AllPlaced, IsProposedSoFar}
 use Rattle.fa_propose.specs.Proposals.IsProposedSoFar.{begun, further}
 use Rattle.fa_propose.specs.Laws.{ProposalIsOne}

@@ -5,16 +5,13 @@ use Rattle.std.specs.Prelude.{All}
 use Rattle.std.proofs.lemmas.List.{length-append}
 use Rattle.std.proofs.lemmas.List.Elements.{All-take}
 use Rattle.fa_capture.specs.Message.{Message}
+use Rattle.fa_capture.proofs.CallerLemmas.{all_middle}
 use Rattle.fa_ledger.specs.Calls.{PlainCall}
 use Rattle.fa_tree.specs.State.{TreeState}
 use Rattle.fa_order.specs.declared.entry.Entry.{Entry}
 use Rattle.fa_check.specs.Runs.{Runs}
 use Rattle.fa_check.specs.Faults.{EachPlaced}
-use Rattle.fa_check.proofs.ListLemmas.{all_middle}
-use Rattle.fa_check.proofs.OrderLemmas.{placed_valid}
-use Rattle.fa_check.proofs.RunLemmas.{run_more}
-use Rattle.fa_check.proofs.EntryLemmas.{each_more}
-use Rattle.fa_check.proofs.FaultLemmas.{placed_no_fault}
+use Rattle.fa_check.proofs.CallerLemmas.{placed_valid, run_more, each_more, placed_no_fault}
 use Rattle.fa_propose.specs.declared.proposing.TheConstants.{MAX_TRIED}
 use Rattle.fa_propose.specs.Proposals.{entry_of, IsCandidate, AreTried, IsProposedSoFar}
 use Rattle.fa_propose.specs.Proposals.IsProposedSoFar.{begun, further}

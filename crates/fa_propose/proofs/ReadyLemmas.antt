@@ -13,9 +13,7 @@ use Rattle.fa_order.specs.declared.entry.Entry.{Entry}
 use Rattle.fa_check.specs.Orders.{numbers}
 use Rattle.fa_check.specs.Faults.{order_checks}
 use Rattle.fa_check.specs.Replays.{IsFront}
-use Rattle.fa_check.proofs.CallerLemmas.{may_come_next, comes_before_front}
-use Rattle.fa_check.proofs.MessageLemmas.{asked_rise, one_place}
-use Rattle.fa_check.proofs.OrderLemmas.{number_more, number_still, number_now}
+use Rattle.fa_check.proofs.CallerLemmas.{may_come_next, comes_before_front, asked_rise, one_place, number_more, number_still, number_now}
 use Rattle.fa_propose.specs.declared.rank.Rank.{Rank}
 use Rattle.fa_propose.specs.Proposals.{entry_of, IsCandidate, IsRank}
 use Rattle.fa_propose.specs.parts.Ready.{IsReadyCall, HasEntry, IsReady, AreAllSeen, IsOffered, MayEachComeNext}

@@ -8,6 +8,7 @@ use Rattle.std.proofs.lemmas.List.Elements.{All-contains}
 use Rattle.std.proofs.lemmas.Option.{same_Some}
 use Rattle.fa_capture.specs.Checks.{AllHold}
 use Rattle.fa_capture.specs.Message.{Message}
+use Rattle.fa_capture.proofs.CallerLemmas.{contains_first}
 use Rattle.fa_session.specs.Answers.{IsAnsweredBy, IsUnanswered}
 use Rattle.fa_ledger.specs.Calls.{PlainAnswer, PlainCall, IsCall, AreCalls}
 use Rattle.fa_ledger.specs.Passing.{AreGood}
@@ -15,12 +16,10 @@ use Rattle.fa_ledger.specs.SoFar.{listing_so_far}
 use Rattle.fa_ledger.proofs.CallerLemmas.{events_are_one, call_is_one, calls_are_there}
 use Rattle.fa_tree.specs.State.{TreeState}
 use Rattle.fa_order.specs.declared.entry.Entry.{Entry}
+use Rattle.fa_order.proofs.CallerLemmas.{same_entry}
 use Rattle.fa_check.specs.Runs.{IsCallAt, EntrySteps, Runs, IsLegalRun}
 use Rattle.fa_check.specs.Faults.{order_checks, EachPlaced}
-use Rattle.fa_check.proofs.ListLemmas.{contains_first}
-use Rattle.fa_check.proofs.OrderLemmas.{valid_where_each_is_placed}
-use Rattle.fa_check.proofs.RunLemmas.{run_is_one, run_at}
-use Rattle.fa_check.proofs.MessageLemmas.{tree_is_call, call_answered, call_unanswered, call_of_message}
+use Rattle.fa_check.proofs.CallerLemmas.{valid_where_each_is_placed, run_is_one, run_at, tree_is_call, call_answered, call_unanswered, call_of_message}
 use Rattle.fa_propose.specs.declared.proposing.TheConstants.{MAX_TRIED}
 use Rattle.fa_propose.specs.Proposals.{count_proposed, entry_of, IsCandidate, HasNoStep, IsStuck, AllPlaced, IsProposedSoFar}
 use Rattle.fa_propose.specs.Proposals.IsProposedSoFar.{begun, further}
@@ -28,13 +27,6 @@ use Rattle.fa_propose.specs.Laws.{IsSerial, SerialProposalIsLegal}
 use Rattle.fa_propose.proofs.PlacedLemmas.{tried_is_candidate, proposed_placed, whole_proposal_is_legal}
 
 -- ---- entries
-
--- entries with the same number and the same count are one
-same_entry : (e f : Entry) → e.at ≡ f.at → e.wrote ≡ f.wrote → e ≡ f
-same_entry e f same_at same_wrote =
-    let made : ℕ → Option ℕ → Entry = λ n w. record { at = n; wrote = w } in
-    let whole : made e.at e.wrote ≡ made f.at f.wrote = rw (same_at, same_wrote) refl in
-    whole
 
 -- two counts are the same, or they are not
 counts_decided : (a b : Option ℕ) → (a ≡ b) ⊎ (a ≡ b → ⊥)

@@ -2,17 +2,15 @@
 -- 64 of them are tried in a fixed order, and the first that has a step is taken. The order ends where all answered requests are
 -- placed, or none that is tried has a step. It is a guess: where requests overlap, the order that explains them may be another
 -- (this profile).
-use Rattle.std.specs.Prelude.{◌≡◌, ◌⊎◌, ℕ, ℤ, ◌<◌, List, [], ◌∷◌, ◌++◌, take, All, AllPairs, Contains, Option, None, Some}
+use Rattle.std.specs.Prelude.{◌≡◌, ◌⊎◌, ℕ, ◌<◌, List, [], ◌∷◌, ◌++◌, take, All, AllPairs, Contains, Option, None, Some}
 use Rattle.fa_capture.specs.Checks.{AllHold}
 use Rattle.fa_capture.specs.Message.{Message}
 use Rattle.fa_bodies.specs.Requests.{PlainBody}
 use Rattle.fa_bodies.specs.Requests.PlainBody.{Lookup, Forget, Getattr, Setattr, Readlink, Symlink, Mknod, Mkdir, Unlink, Rmdir, Rename, Link, Open, Read, Write, Release, Flush, Init, Opendir, Readdir, Releasedir, Create, BatchForget, Readdirplus, Passed}
-use Rattle.fa_bodies.specs.Replies.{PlainReply}
-use Rattle.fa_bodies.specs.Replies.PlainReply.{Refused}
 use Rattle.fa_session.specs.Events.{PlainEvent}
 use Rattle.fa_ledger.specs.Events.{AreEvents}
 use Rattle.fa_ledger.specs.Calls.{PlainAnswer, PlainCall, IsCall}
-use Rattle.fa_ledger.specs.Kinds.{IsReadingRequest}
+use Rattle.fa_ledger.specs.Kinds.{KeepsTree}
 use Rattle.fa_tree.specs.State.{TreeState}
 use Rattle.fa_order.specs.declared.entry.Entry.{Entry}
 use Rattle.fa_check.specs.Runs.{EntrySteps}
@@ -73,19 +71,11 @@ pub record IsCandidate (c : List Message) (es : List Entry) (call : PlainCall) :
 
 -- ---- in which order they are tried
 
--- the reply is an error
-abbrev pub IsError : PlainReply → Type 0
-IsError reply = (error : ℤ) × (reply ≡ Refused error)
-
--- an answered call that leaves what is stored as it is: it only reads, or it was refused
-abbrev pub KeepsStore : PlainCall → PlainAnswer → Type 0
-KeepsStore call answer = IsReadingRequest call.request.body ⊎ IsError answer.reply
-
--- The rank of a call. Answered calls that leave what is stored as it is are tried first, then the other answered ones, both by the
+-- The rank of a call. Answered calls that leave the tree as it is are tried first, then the other answered ones, both by the
 -- places of their answers; and last those without an answer, by their own places.
 abbrev pub IsRankIn : Group → (position : ℕ) → PlainCall → Type 0
-IsRankIn Unchanging position call = (answer : PlainAnswer) × (call.answer ≡ Some answer) × KeepsStore call answer × (position ≡ answer.at)
-IsRankIn Changing position call = (answer : PlainAnswer) × (call.answer ≡ Some answer) × (KeepsStore call answer → ⊥) × (position ≡ answer.at)
+IsRankIn Unchanging position call = (answer : PlainAnswer) × (call.answer ≡ Some answer) × KeepsTree call.request answer.reply × (position ≡ answer.at)
+IsRankIn Changing position call = (answer : PlainAnswer) × (call.answer ≡ Some answer) × (KeepsTree call.request answer.reply → ⊥) × (position ≡ answer.at)
 IsRankIn Unanswered position call = (call.answer ≡ None) × (position ≡ call.asked)
 
 abbrev pub IsRank : Rank → PlainCall → Type 0

@@ -1,17 +1,14 @@
 //! In which order candidates are tried.
 
-ghost use Rattle.std.specs.Prelude.{◌↔◌, IsTrue};
-ghost use Rattle.fa_bodies.specs.Replies.{reply_shown};
 ghost use Rattle.fa_ledger.specs.Calls.{call_shown};
-ghost use Rattle.fa_propose.specs.Proposals.{IsRank, IsError};
+ghost use Rattle.fa_propose.specs.Proposals.{IsRank};
 
-use fa_bodies::Reply;
-use fa_ledger::{Call, only_reads};
+use fa_ledger::{Call, keeps_tree};
 
 /// The groups of calls, in the order in which they are tried.
 #[derive(Clone, Copy, Debug, PartialEq, Eq, PartialOrd, Ord, Hash)]
 pub(crate) enum Group {
-    /// Answered, and it leaves what is stored as it is: it only reads, or it was refused.
+    /// Answered, and it leaves the tree as it is: it only reads, or it was refused.
     Unchanging,
     /// Answered with the success of a changing request.
     Changing,
@@ -38,7 +35,7 @@ impl Rank {
                 position: call.asked,
             };
         };
-        let group = if only_reads(&call.request.body) || is_error(&answer.reply) {
+        let group = if keeps_tree(&call.request, &answer.reply) {
             Group::Unchanging
         } else {
             Group::Changing
@@ -48,11 +45,4 @@ impl Rank {
             position: answer.at,
         }
     }
-}
-
-/// Whether a reply is an error.
-fn is_error(reply: &Reply<'_>) -> bool
-    ensures { IsTrue result ↔ IsError (reply_shown reply.now) }
-{
-    matches!(reply, Reply::Refused(_))
 }

@@ -2,15 +2,14 @@
 use Rattle.fa_bodies.proofs.CallerLemmas.{request_is_one, reply_head_is_one}
 use Rattle.fa_session.specs.Laws.{AnswersOne, AnsweredOnce}
 use Rattle.fa_session.proofs.LawsLemmas.{answers_one_lem, answered_once_lem}
--- a list with one more, or cut off
-pub use Rattle.fa_session.proofs.GrowthLemmas.{get_kept, get_back, get_last, get_cases, take_before, take_all_before}
-pub use Rattle.fa_session.proofs.LawsLemmas.{get_of_front, get_in_front}
 -- one message more: requests, what is outstanding, answers, what is allowed
 pub use Rattle.fa_session.proofs.GrowthLemmas.{one_direction, asked_before, asked_still, asked_now, asked_cases}
 pub use Rattle.fa_session.proofs.GrowthLemmas.{waited, not_now, waits_now, waits_still}
 pub use Rattle.fa_session.proofs.GrowthLemmas.{answered_now, answered_still, answered_cases, replied_still, settled_still, allowed_more}
 -- requests and their answers
 pub use Rattle.fa_session.proofs.LawsLemmas.{one_request, answered_asked, answer_after}
+-- what two tests say together
+pub use Rattle.fa_session.proofs.TableLemmas.{both_first, both_second}
 
 -- a message answers at most one request
 pub answers_one : AnswersOne

@@ -1,55 +1,16 @@
 -- One message more: what was so among the messages before stays so, and what the new one adds.
-use Rattle.std.proofs.Common.{◌≡◌, ℕ, zero, suc, ◌+◌, ◌<◌, ◌≤◌, ◌⊎◌, List, [], ◌∷◌, ◌++◌, length, take, Option, Some, None, refl, sym, ap, subst, ◌∙◌, inl, inr, arith}
-use Rattle.std.specs.Prelude.{slice_get}
-use Rattle.std.proofs.lemmas.Bool.{cases_lt}
+use Rattle.std.proofs.Common.{◌≡◌, ℕ, ◌+◌, ◌<◌, ◌⊎◌, List, [], ◌∷◌, ◌++◌, length, take, Option, Some, None, sym, ap, subst, ◌∙◌, inl, inr, arith}
 use Rattle.std.proofs.lemmas.Option.{slice_get_within}
-use Rattle.std.proofs.lemmas.List.{take-append-le, take_at, length-append}
+use Rattle.std.proofs.lemmas.List.{length-append}
 use Rattle.fa_capture.specs.declared.packet.Direction.TheVariants.{ToServer, FromServer}
 use Rattle.fa_capture.specs.Message.{Message}
+use Rattle.fa_capture.proofs.CallerLemmas.{get_kept, get_back, get_last, get_cases, take_before, take_all_before}
 use Rattle.fa_bodies.specs.Requests.{MayBeAnswered, PlainRequest}
 use Rattle.fa_bodies.specs.Replies.{PlainReply}
 use Rattle.fa_session.specs.Answers.{IsRequestMessage, IsRequestAt, HasUnique, IsOutstanding, Answers, AnswersAt, IsRepliedAt}
 use Rattle.fa_session.specs.Rules.{IsInit}
 use Rattle.fa_session.specs.Allowed.{IsAllowed, EachAllowed}
 use Rattle.fa_session.specs.Shows.{IsNegotiated}
-
--- ---- lists
-
--- what stands before the end stands there still
-pub get_kept : {X : Type 0} (xs ys : List X) (i : ℕ) (x : X) → slice_get xs i ≡ Some x → slice_get (xs ++ ys) i ≡ Some x
-get_kept [] ys i x is = absurd cc
-get_kept (y ∷ xs) ys zero x is = is
-get_kept (y ∷ xs) ys (suc i) x is = get_kept xs ys i x is
-
--- what stands before the end stood there
-pub get_back : {X : Type 0} (xs ys : List X) (i : ℕ) (x : X) → i < length xs → slice_get (xs ++ ys) i ≡ Some x → slice_get xs i ≡ Some x
-get_back [] ys i x within is = absurd (omega (arith, within))
-get_back (y ∷ xs) ys zero x within is = is
-get_back (y ∷ xs) ys (suc i) x within is = get_back xs ys i x (omega (arith, within)) is
-
--- the new one
-pub get_last : {X : Type 0} (xs : List X) (y : X) → slice_get (xs ++ y ∷ []) (length xs) ≡ Some y
-get_last [] y = refl
-get_last (x ∷ xs) y = get_last xs y
-
--- each place is one from before, or the new one
-pub get_cases : {X : Type 0} (xs : List X) (y : X) (i : ℕ) (x : X) → slice_get (xs ++ y ∷ []) i ≡ Some x → (i < length xs) ⊎ ((i ≡ length xs) × (x ≡ y))
-get_cases xs y i x is =
-    let within : i < length (xs ++ y ∷ []) = slice_get_within (xs ++ y ∷ []) i x is in
-    let counted : length (xs ++ y ∷ []) ≡ length xs + 1 = length-append xs (y ∷ []) in
-    elim (cases_lt i (length xs)) [
-      | inl below ↦ inl below
-      | inr above ↦ let here : i ≡ length xs = omega (arith, within, counted, above) in
-          let there : slice_get (xs ++ y ∷ []) (length xs) ≡ Some x = subst (λ (k : ℕ). slice_get (xs ++ y ∷ []) k ≡ Some x) here is in
-          let last : slice_get (xs ++ y ∷ []) (length xs) ≡ Some y = get_last xs y in
-          inr (here, cc)
-    ]
-
-pub take_before : {X : Type 0} (xs : List X) (y : X) (i : ℕ) → i ≤ length xs → take i (xs ++ y ∷ []) ≡ take i xs
-take_before xs y i within = take-append-le i xs (y ∷ []) within
-
-pub take_all_before : {X : Type 0} (xs : List X) (y : X) → take (length xs) (xs ++ y ∷ []) ≡ xs
-take_all_before xs y = take_at xs (y ∷ []) (length xs) refl
 
 -- ---- messages
 

@@ -1,6 +1,6 @@
 -- What holds of answers: a message answers at most one request, a request is answered by at most one message, and
 -- among messages that are allowed each reply answers a request.
-use Rattle.std.proofs.Common.{◌≡◌, ℕ, zero, suc, ◌<◌, List, [], ◌∷◌, ◌++◌, length, take, Some, sym, ap, subst, ◌∙◌, inl, inr, arith}
+use Rattle.std.proofs.Common.{◌≡◌, ℕ, ◌<◌, List, ◌++◌, length, take, Some, sym, ap, subst, ◌∙◌, inl, inr, arith}
 use Rattle.std.specs.Prelude.{slice_get}
 use Rattle.std.proofs.lemmas.Bool.{cases_lt}
 use Rattle.std.proofs.lemmas.List.{length-take}
@@ -8,6 +8,7 @@ use Rattle.std.proofs.lemmas.Option.{slice_get_within}
 use Rattle.fa_capture.specs.declared.packet.Direction.{Direction}
 use Rattle.fa_capture.specs.Checks.{AllHold, checks_of}
 use Rattle.fa_capture.specs.Message.{Message}
+use Rattle.fa_capture.proofs.CallerLemmas.{hold_later, get_of_front, get_in_front}
 use Rattle.fa_bodies.specs.Laws.{RequestIsOne, ReplyHeadIsOne}
 use Rattle.fa_bodies.specs.declared.replies.ReplyHead.{ReplyHead}
 use Rattle.fa_bodies.specs.Requests.{PlainRequest, IsRequest}
@@ -15,23 +16,6 @@ use Rattle.fa_bodies.specs.Replies.{reply_head_checks}
 use Rattle.fa_session.specs.Answers.{IsReplyMessage, IsRequestAt, Answers, AnswersAt}
 use Rattle.fa_session.specs.Allowed.{ForReply, reply_rules, answer_checks, checks_by}
 use Rattle.fa_session.specs.Laws.{AnswersOne, AnsweredOnce, EachReplyAnswers}
-
--- ---- lists
-
--- what stands in a front of a list stands in the list
-pub get_of_front : {X : Type 0} (xs : List X) (count at : ℕ) (x : X) → slice_get (take count xs) at ≡ Some x → slice_get xs at ≡ Some x
-get_of_front [] zero at x is = is
-get_of_front [] (suc count) at x is = is
-get_of_front (y ∷ xs) zero at x is = absurd cc
-get_of_front (y ∷ xs) (suc count) zero x is = is
-get_of_front (y ∷ xs) (suc count) (suc at) x is = get_of_front xs count at x is
-
--- what stands in a list stands in each front that is long enough
-pub get_in_front : {X : Type 0} (xs : List X) (count at : ℕ) (x : X) → at < count → slice_get xs at ≡ Some x → slice_get (take count xs) at ≡ Some x
-get_in_front [] count at x below is = absurd cc
-get_in_front (y ∷ xs) zero at x below is = absurd (omega (arith, below))
-get_in_front (y ∷ xs) (suc count) zero x below is = is
-get_in_front (y ∷ xs) (suc count) (suc at) x below is = get_in_front xs count at x (omega (arith, below)) is
 
 -- one place holds one thing
 one_there : {X : Type 0} (xs : List X) (at : ℕ) (x y : X) → slice_get xs at ≡ Some x → slice_get xs at ≡ Some y → x ≡ y
@@ -103,15 +87,10 @@ answered_once_lem one_of_bytes c i j p r s at other =
       ]
     ]
 
--- the checks behind others hold
-behind : (front later : List (ℕ × Type 0)) → AllHold (front ++ later) → AllHold later
-behind [] later hold = hold
-behind (check ∷ front) later hold = behind front later hold.1
-
 -- among messages that are all allowed, each reply answers a request
 pub each_reply_answers_lem : EachReplyAnswers
 each_reply_answers_lem c allowed i unique m is reply =
     let checks = subst (λ (d : Direction). AllHold (checks_by d (take i c) m)) reply.1.0 (allowed i m is) in
-    let answering = behind (reply_head_checks m.bytes) (answer_checks (take i c) m ++ checks_of (ForReply (take i c) m) reply_rules) checks in
+    let answering = hold_later (reply_head_checks m.bytes) (answer_checks (take i c) m ++ checks_of (ForReply (take i c) m) reply_rules) checks in
     let answer = answering.1.0 unique reply in
     (answer.0, answer.1, (m, is, answer.2))

@@ -8,6 +8,7 @@ use Rattle.std.proofs.lemmas.Bool.{eqb-true, eqb-false}
 use Rattle.std.proofs.lemmas.List.{length-append}
 use Rattle.fa_capture.specs.Checks.{AllHold}
 use Rattle.fa_capture.specs.Message.{Message}
+use Rattle.fa_capture.proofs.CallerLemmas.{get_last, take_all_before}
 use Rattle.fa_bodies.specs.declared.replies.ReplyHead.{ReplyHead}
 use Rattle.fa_bodies.specs.declared.init.InitIn.{InitIn}
 use Rattle.fa_bodies.specs.declared.init.Negotiated.{Negotiated}
@@ -23,7 +24,7 @@ use Rattle.fa_session.specs.Allowed.{IsAllowed}
 use Rattle.fa_session.specs.Plain.{PlainSession, PlainWaiting}
 use Rattle.fa_session.specs.Shows.{Shows, IsNegotiated}
 use Rattle.fa_session.specs.parts.Steps.{request_checked, waiting_for, flags_of, NotesRequest, NotesReply, noticed}
-use Rattle.fa_session.proofs.GrowthLemmas.{one_direction, asked_cases, waited, not_now, waits_now, waits_still, get_last, take_all_before, settled_still, allowed_more}
+use Rattle.fa_session.proofs.GrowthLemmas.{one_direction, asked_cases, waited, not_now, waits_now, waits_still, settled_still, allowed_more}
 use Rattle.fa_session.proofs.RequestLemmas.{outstanding_is}
 
 -- two numbers are equal or not

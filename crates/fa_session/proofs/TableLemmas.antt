@@ -45,11 +45,11 @@ less_by_rank x y Equal means below = absurd below
 less_by_rank x y Greater means below = absurd below
 
 -- what two tests say together, each says alone
-both_first : (a b : Bool) → T (a && b) → T a
+pub both_first : (a b : Bool) → T (a && b) → T a
 both_first true b both = tt
 both_first false b both = both
 
-both_second : (a b : Bool) → T (a && b) → T b
+pub both_second : (a b : Bool) → T (a && b) → T b
 both_second true b both = both
 both_second false b both = absurd both
 

@@ -60,7 +60,3 @@ IsAnsweredBy c p q = (r : PlainRequest) × AnswersAt c q p r
 -- no message of the list answers the request at p
 abbrev pub IsUnanswered : List Message → ℕ → Type 0
 IsUnanswered c p = (q : ℕ) → IsAnsweredBy c p q → ⊥
-
--- the request at p was answered, and its reply says this
-abbrev pub IsRepliedTo : List Message → ℕ → PlainRequest → PlainReply → Type 0
-IsRepliedTo c p r reply = (q : ℕ) × IsRepliedAt c q p r reply

@@ -2,7 +2,6 @@
 
 ghost use Rattle.std.specs.Prelude.{◌≡◌, ◌↔◌, IsTrue, OnOk, IfErr};
 ghost use Rattle.fa_capture.specs.Checks.{AllHold, FirstFailure};
-ghost use Rattle.fa_bodies.specs.Flags.{HasFlag, init_bits};
 ghost use Rattle.fa_bodies.specs.Requests.{body_shown, request_shown};
 ghost use Rattle.fa_bodies.specs.Replies.{reply_shown};
 ghost use Rattle.fa_session.specs.Rules.{IsInit, IsInterrupt};
@@ -38,13 +37,6 @@ pub(crate) fn may_replace(waiting: &Request<'_>, request: &Request<'_>) -> bool
     is_interrupt(request) && is_interrupt(waiting)
 }
 
-/// Whether both sides set the flag.
-fn is_agreed(init: &InitIn, answer: &Negotiated, flag: InitFlags) -> bool
-    ensures { IsTrue result ↔ (HasFlag (init_bits init.now.flags) (init_bits flag) × HasFlag (init_bits answer.now.flags) (init_bits flag)) }
-{
-    init.flags.contains(flag) && answer.flags.contains(flag)
-}
-
 /// Looks whether a success of INIT keeps the rules. The error is the code of the first rule that it breaks.
 fn check_init_answer(init: &InitIn, answer: &Negotiated) -> Result<(), u16>
     ensures ok { OnOk result (AllHold (init_checked init.now answer.now)) }
@@ -53,9 +45,8 @@ fn check_init_answer(init: &InitIn, answer: &Negotiated) -> Result<(), u16>
     if init.major != MAJOR || answer.major != MAJOR || init.minor.min(answer.minor) != MINOR {
         return Err(codes::VERSION);
     }
-    if is_agreed(init, answer, InitFlags::WRITEBACK_CACHE)
-        || is_agreed(init, answer, InitFlags::POSIX_ACL)
-    {
+    let agreed = init.agreed(answer);
+    if agreed.contains(InitFlags::WRITEBACK_CACHE) || agreed.contains(InitFlags::POSIX_ACL) {
         return Err(codes::NEGOTIATED_FLAGS);
     }
     Ok(())
@@ -83,9 +74,7 @@ pub(crate) fn agreed_flags(asked: &RequestBody<'_>, reply: &Reply<'_>) -> Option
     ensures { result ≡ flags_of (body_shown asked.now) (reply_shown reply.now) }
 {
     match (asked, reply) {
-        (RequestBody::Init(init), Reply::Negotiated(answer)) => {
-            Some(init.flags.bits() & answer.flags.bits())
-        }
+        (RequestBody::Init(init), Reply::Negotiated(answer)) => { Some(init.agreed(answer).bits()) }
         _ => None,
     }
 }

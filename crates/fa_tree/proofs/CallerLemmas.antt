@@ -4,3 +4,8 @@
 pub use Rattle.fa_tree.proofs.PartLemmas.{IsPartOf, OpensNone, UsesKept, whole_part, step_same, step_failed, step_read, step_lost, step_answers}
 -- a call as it is shown
 pub use Rattle.fa_tree.proofs.StepLemmas.{shown_at}
+-- what a tree knows, and the code that is told where it does not know what a call names
+pub use Rattle.fa_tree.proofs.KnownLemmas.{IsKnownIn, IsOpenedIn, UsesOpened, step_keeps_node, step_keeps_open, step_gives, step_opens, all_known, told_unknown}
+pub use Rattle.fa_tree.proofs.ListingStepLemmas.{unknown_by}
+-- a step where all checks hold
+pub use Rattle.fa_tree.proofs.LawLemmas.{steps_where_all_hold}

@@ -8,6 +8,7 @@ use Rattle.std.specs.FinMap.{get, insert, entries, find, put, get-insert, get-en
 use Rattle.std.specs.FinMap.Entries.{by_order}
 use Rattle.std.proofs.lemmas.List.{length-take, length-append, length-replicate}
 use Rattle.std.proofs.lemmas.List.Sums.{sum_by-cons}
+use Rattle.fa_capture.proofs.CallerLemmas.{get_last}
 use Rattle.fa_bodies.specs.declared.attributes.Attributes.{Attributes}
 use Rattle.fa_bodies.specs.declared.attributes.AttrOut.{AttrOut}
 use Rattle.fa_bodies.specs.declared.entry.EntryOut.{EntryOut}
@@ -112,11 +113,6 @@ found_after s directory name file =
     get-insert place_cmp_total s.names (directory, name) file (directory, name)
     ∙ ap (λ b. cond b (Some file) (get s.names (directory, name))) (place_self (directory, name))
 
--- the file behind the others
-last_there : (files : List File) (new : File) → slice_get (files ++ new ∷ []) (length files) ≡ Some new
-last_there [] new = refl
-last_there (file ∷ files) new = last_there files new
-
 -- the facts of a file that is made
 pub made_facts : (s : Store) (directory : ℕ) (name : List ℕ) (new : File) (facts : Facts) → IsFree s directory name
     → AreNewFacts s new.kind new.bits (length new.bytes) facts
@@ -126,7 +122,7 @@ made_facts s directory name new facts free are = (
   found_after s directory name (length s.files),
   record {
     file = new;
-    there = last_there s.files new;
+    there = get_last s.files new;
     kind = are.kind_is;
     bits = are.bits_are;
     size = are.size_is;

@@ -7,6 +7,7 @@ pub mod EditedLemmas
 pub mod FileLemmas
 pub mod JudgeLemmas
 pub mod JudgingLemmas
+pub mod KnownLemmas
 pub mod LawLemmas
 pub mod ListingLemmas
 pub mod ListingStepLemmas

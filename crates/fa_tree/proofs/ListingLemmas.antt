@@ -1,14 +1,17 @@
 -- The entries of a listing: what holds of all that are judged, and the nodes that they give.
-use Rattle.std.proofs.Common.{append_assoc, ◌≡◌, ◌≢◌, ℕ, Bool, true, false, List, [], ◌∷◌, ◌++◌, length, slice_get, Option, None, Some, refl, sym, ap, subst, ◌∙◌}
+use Rattle.std.proofs.Common.{append_assoc, ◌≡◌, ◌≢◌, ℕ, Bool, true, false, List, [], ◌∷◌, ◌++◌, length, slice_get, Option, None, Some, refl, sym, ap, subst, ◌∙◌, ◌<◌}
 use Rattle.std.specs.Prelude.{◌↔◌, All, IsTrue, if◌then◌else◌, not, option_map}
 use Rattle.std.specs.FinMap.{get}
 use Rattle.std.proofs.lemmas.List.{append-nil}
-use Rattle.std.proofs.lemmas.List.Elements.{All-nil, All-push, All-append, filter-append}
+use Rattle.std.specs.Bool.{MatchBool}
+use Rattle.std.specs.List.{AllWithin, HoldsAt}
+use Rattle.std.proofs.lemmas.Bool.{MatchBool-at_true}
+use Rattle.std.proofs.lemmas.Iterator.Search.{true_from_All}
+use Rattle.std.proofs.lemmas.List.Elements.{All-nil, All-cons, All-head, All-tail, All-filter, All-from_all_within, filter_passes}
 use Rattle.fa_bodies.specs.declared.mode.Kind.{Kind}
 use Rattle.fa_bodies.specs.Dirents.{PlainDirent}
 use Rattle.fa_ledger.specs.Counts.{is_dots, nodes_of_entry}
 use Rattle.fa_ledger.specs.declared.name.NodeName.{NodeName}
-use Rattle.fa_ledger.proofs.CallerLemmas.{all_at}
 use Rattle.fa_tree.specs.State.{File, Store}
 use Rattle.fa_tree.specs.Directories.{judged}
 use Rattle.fa_tree.specs.Judging.{file_if, files_listed}
@@ -32,31 +35,33 @@ typed_by files number kind P b is told = by (slice_get files number) is
 
 -- ---- the entries that are judged
 
--- one more, of which it holds if it is judged
-pub judged_more : (P : PlainDirent → Type 0) (front : List PlainDirent) (d : PlainDirent) → All P (judged front) → (not (is_dots d.name) ≡ true → P d)
-    → All P (judged (front ++ d ∷ []))
-judged_more P front d so_far holds =
-    subst (All P) (sym (filter-append (λ (e : PlainDirent). not (is_dots e.name)) front (d ∷ []))) (All-append P (judged front) (judged (d ∷ [])) so_far one)
+-- it holds of an entry that is judged; and the entry is judged, and it does not hold
+abbrev pub HoldsIfJudged : (PlainDirent → Type 0) → PlainDirent → Type 0
+HoldsIfJudged P d = not (is_dots d.name) ≡ true → P d
+
+abbrev pub FailsJudged : (PlainDirent → Type 0) → PlainDirent → Type 0
+FailsJudged P d = (not (is_dots d.name) ≡ true) × (P d → ⊥)
+
+-- what holds of each entry that is judged
+judged_each : (P : PlainDirent → Type 0) (ds : List PlainDirent) → All P (judged ds) → All (HoldsIfJudged P) ds
+judged_each P [] each = All-nil (HoldsIfJudged P)
+judged_each P (d ∷ ds) each = by (not (is_dots d.name)) refl each (judged_each P ds)
   where
-    one : All P (judged (d ∷ []))
-    one = elim (not (is_dots d.name)) as (λ b. (b ≡ true → P d) → All P (if b then d ∷ [] else [])) [
-      | true ↦ λ does. All-push P [] d (All-nil P) (does refl)
-      | false ↦ λ does. All-nil P
-    ] holds
+    by : (b : Bool) → not (is_dots d.name) ≡ b → All P (if b then d ∷ judged ds else judged ds) → (All P (judged ds) → All (HoldsIfJudged P) ds) → All (HoldsIfJudged P) (d ∷ ds)
+    by true own each rest = All-cons (HoldsIfJudged P) d ds (λ is. All-head P d (judged ds) each) (rest (All-tail P d (judged ds) each))
+    by false own each rest = All-cons (HoldsIfJudged P) d ds (λ is. let no = sym own ∙ is in absurd cc) (rest each)
 
--- what holds of all that are judged holds of one of them
-pub judged_at : (P : PlainDirent → Type 0) (all front rest : List PlainDirent) (d : PlainDirent) → all ≡ front ++ d ∷ rest → not (is_dots d.name) ≡ true
-    → All P (judged all) → P d
-judged_at P all front rest d is own each =
-    let test : PlainDirent → Bool = λ e. not (is_dots e.name) in
-    let stays : judged (d ∷ rest) ≡ d ∷ judged rest = ap (λ b. if b then d ∷ judged rest else judged rest) own in
-    let whole : judged all ≡ judged front ++ d ∷ judged rest = ap judged is ∙ filter-append test front (d ∷ rest) ∙ ap (λ ds. judged front ++ ds) stays in
-    all_at P (judged front) (judged rest) d (subst (All P) whole each)
-
--- all are judged where none is left
-pub judged_all : (P : PlainDirent → Type 0) (all front left : List PlainDirent) → all ≡ front ++ left → left ≡ [] → All P (judged front) → All P (judged all)
-judged_all P all front left is none so_far =
-    subst (λ ds. All P (judged ds)) (sym (is ∙ ap (λ ds. front ++ ds) none ∙ append-nil front)) so_far
+-- a run over the entries that stops at the first which is judged and of which it does not hold
+pub run_of_judged : (P : PlainDirent → Type 0) (ds : List PlainDirent) (b : Bool)
+    → MatchBool b (AllWithin (HoldsIfJudged P) ds 0 (length ds)) ((k : ℕ) × (k < length ds) × HoldsAt (FailsJudged P) ds k) → IsTrue b ↔ All P (judged ds)
+run_of_judged P ds b ran = (
+  (λ all.
+      let each = All-from_all_within (HoldsIfJudged P) ds (MatchBool-at_true _ _ all ran) in
+      let held = All-filter (λ (d : PlainDirent). not (is_dots d.name)) (HoldsIfJudged P) ds each in
+      let passed = filter_passes (λ (d : PlainDirent). not (is_dots d.name)) ds in
+      λ k d within. held k d within (passed k d within)),
+  (λ each. true_from_All (HoldsIfJudged P) (FailsJudged P) b ds (λ d holds fails. fails.1 (holds fails.0)) ran (judged_each P ds each)),
+)
 
 -- ---- the nodes that they give
 

@@ -3,11 +3,10 @@ use Rattle.std.proofs.Common.{◌≡◌, ℕ, zero, suc, Bool, true, false, cond
 use Rattle.std.specs.Prelude.{Contains}
 use Rattle.std.specs.Cmp.{tied_itself}
 use Rattle.std.specs.Ordering.{eq_by_cmp, is_eq}
-use Rattle.std.specs.declared.cmp.Ordering.{Ordering}
-use Rattle.std.specs.declared.cmp.Ordering.TheVariants.{Less, Equal, Greater}
 use Rattle.std.specs.FinMap.{FinMap, get, insert, get-insert}
 use Rattle.std.proofs.lemmas.Option.{same_Some}
 use Rattle.fa_capture.specs.Checks.{AllHold}
+use Rattle.fa_capture.proofs.CallerLemmas.{contains_first, contains_behind}
 use Rattle.fa_bodies.specs.Dirents.{PlainDirent}
 use Rattle.fa_bodies.specs.Requests.PlainBody.{Lookup, Getattr, Readlink, Read, Opendir, Readdir, Readdirplus}
 use Rattle.fa_ledger.specs.declared.name.NodeName.{NodeName}
@@ -21,7 +20,7 @@ use Rattle.fa_tree.specs.Outcomes.{Outcome, outcome, count_written}
 use Rattle.fa_tree.specs.Outcomes.Outcome.{Fails, Succeeds, Unanswered}
 use Rattle.fa_tree.specs.Steps.{tree_after, setting, outcome_checks, checks_of_files, Steps}
 use Rattle.fa_tree.specs.Laws.{ReadingEditsNothing, WithoutEditsOpenStays, EachOpenByItself, NamesKeepFiles, GivenNamesStand}
-use Rattle.fa_tree.proofs.NodeLemmas.{node_total, node_same}
+use Rattle.fa_tree.proofs.NodeLemmas.{node_total, name_same}
 use Rattle.fa_tree.proofs.NameLemmas.{get-each_open}
 use Rattle.fa_tree.proofs.ChangedLemmas.{stays_open}
 
@@ -31,21 +30,6 @@ use Rattle.fa_tree.proofs.ChangedLemmas.{stays_open}
 abbrev pub NodesWithin : (part whole : FinMap node_cmp ℕ) → Type 0
 NodesWithin part whole = (name : NodeName) (file : ℕ) → get part name ≡ Some file → get whole name ≡ Some file
 
-first_in : {X : Type 0} (x : X) (xs : List X) → Contains (x ∷ xs) x
-first_in x xs = (0, omega arith, refl)
-
-behind_in : {X : Type 0} (y : X) (xs : List X) (x : X) → Contains xs x → Contains (y ∷ xs) x
-behind_in y xs x has = (suc has.0, omega (arith, has.1), has.2)
-
--- names that tie are one
-pub tied_names : (r s : NodeName) → eq_by_cmp node_cmp r s ≡ true → r ≡ s
-tied_names r s tie = by (node_cmp r s) refl tie
-  where
-    by : (o : Ordering) → node_cmp r s ≡ o → is_eq o ≡ true → r ≡ s
-    by Less is tie = absurd cc
-    by Equal is tie = node_same r s is
-    by Greater is tie = absurd cc
-
 -- a name that may be given leaves the others, and they may be given after it
 module _ (one : NodeName × ℕ) (given : List (NodeName × ℕ)) (nodes : FinMap node_cmp ℕ) (may : AreBound nodes (one ∷ given)) where
   one_within : NodesWithin nodes (insert nodes one.0 one.1)
@@ -53,8 +37,8 @@ module _ (one : NodeName × ℕ) (given : List (NodeName × ℕ)) (nodes : FinMa
     where
       by : (b : Bool) → eq_by_cmp node_cmp name one.0 ≡ b → get (insert nodes one.0 one.1) name ≡ cond b (Some one.1) (get nodes name) → get (insert nodes one.0 one.1) name ≡ Some file
       by true tie has =
-          let own : name ≡ one.0 = tied_names name one.0 tie in
-          has ∙ ap (λ (n : ℕ). Some n) (may.known one.0 one.1 file (first_in one given) (subst (λ (k : NodeName). get nodes k ≡ Some file) own is))
+          let own : name ≡ one.0 = name_same name one.0 tie in
+          has ∙ ap (λ (n : ℕ). Some n) (may.known one.0 one.1 file (contains_first one given) (subst (λ (k : NodeName). get nodes k ≡ Some file) own is))
       by false apart has = has ∙ is
 
   rest_bound : AreBound (insert nodes one.0 one.1) given
@@ -62,12 +46,12 @@ module _ (one : NodeName × ℕ) (given : List (NodeName × ℕ)) (nodes : FinMa
     known = λ name file other there is.
         elim (eq_by_cmp node_cmp name one.0) as (λ (b : Bool). eq_by_cmp node_cmp name one.0 ≡ b → get (insert nodes one.0 one.1) name ≡ cond b (Some one.1) (get nodes name) → file ≡ other) [
           | true ↦ λ tie has.
-              let own : name ≡ one.0 = tied_names name one.0 tie in
+              let own : name ≡ one.0 = name_same name one.0 tie in
               let here : one.1 ≡ other = same_Some one.1 other (sym has ∙ is) in
-              may.one one.0 file one.1 (behind_in one given (one.0, file) (subst (λ (k : NodeName). Contains given (k, file)) own there)) (first_in one given) ∙ here
-          | false ↦ λ apart has. may.known name file other (behind_in one given (name, file) there) (sym has ∙ is)
+              may.one one.0 file one.1 (contains_behind one given (one.0, file) (subst (λ (k : NodeName). Contains given (k, file)) own there)) (contains_first one given) ∙ here
+          | false ↦ λ apart has. may.known name file other (contains_behind one given (name, file) there) (sym has ∙ is)
         ] refl (get-insert node_total nodes one.0 one.1 name);
-    one = λ name file other there also. may.one name file other (behind_in one given (name, file) there) (behind_in one given (name, other) also);
+    one = λ name file other there also. may.one name file other (contains_behind one given (name, file) there) (contains_behind one given (name, other) also);
   }
 
 -- names that may be given leave what was known

@@ -118,7 +118,7 @@ all_bound given i nodes all past left = sym (ap (λ xs. nodes_after xs nodes) (d
 -- ---- names that stand for one file
 
 -- names that tie are one, and each ties with itself
-name_same : (r s : NodeName) → eq_by_cmp node_cmp r s ≡ true → r ≡ s
+pub name_same : (r s : NodeName) → eq_by_cmp node_cmp r s ≡ true → r ≡ s
 name_same r s tie = by (node_cmp r s) refl tie
   where
     by : (o : Ordering) → node_cmp r s ≡ o → is_eq o ≡ true → r ≡ s

@@ -12,8 +12,9 @@ use Rattle.std.specs.FinMap as map
 use Rattle.std.specs.FinMap.{FinMap, put, get-entries, entries-insert, len-entries, len-empty}
 use Rattle.std.proofs.lemmas.Bool.Decides.{nat_tests}
 use Rattle.std.proofs.lemmas.List.Sums.{length-filter}
+use Rattle.std.proofs.lemmas.Bool.{or_parts}
 use Rattle.fa_tree.specs.State as state
-use Rattle.fa_tree.specs.State.{place_cmp, name_cmp}
+use Rattle.fa_tree.specs.State.{place_cmp}
 use Rattle.fa_tree.specs.declared.slots.Place.{Place}
 use Rattle.fa_tree.specs.declared.slots.Slot.{Slot}
 use Rattle.fa_tree.specs.declared.slots.Slot.TheVariants.{There, Gone}
@@ -70,15 +71,11 @@ some_file : (slot : Slot) → file_in slot ≡ None → is_some (file_in slot) �
 some_file (There file born) none = absurd (let clash : Some file ≡ None = none in cc)
 some_file (Gone at) none = refl
 
-neither : (a b : Bool) → (a || b) ≡ false → (a ≡ false) × (b ≡ false)
-neither true b none = absurd (let clash : true ≡ false = none in cc)
-neither false b none = (refl, none)
-
 -- where no slot has a name in it the directory has none
 none_in : (directory : ℕ) (slots : List (Place × Slot)) → list_any (has_in directory) slots ≡ false → (name : List ℕ) → option_and_then file_in (slot_at slots (directory, name)) ≡ None
 none_in directory [] none name = refl
 none_in directory (e ∷ slots) none name =
-    let parts = neither (has_in directory e) (list_any (has_in directory) slots) none in
+    let parts = or_parts (has_in directory e) (list_any (has_in directory) slots) none in
     by (is_at (directory, name) e.0) refl parts.0 (none_in directory slots parts.1 name)
   where
     by : (b : Bool) → is_at (directory, name) e.0 ≡ b → has_in directory e ≡ false → option_and_then file_in (slot_at slots (directory, name)) ≡ None

@@ -1,18 +1,14 @@
 -- What places have after a write at one.
-use Rattle.std.proofs.Common.{◌≡◌, Bool, true, false, cond, List, [], ◌∷◌, Option, refl, sym, ap, subst, ◌∙◌}
+use Rattle.std.proofs.Common.{◌≡◌, Bool, true, false, cond, List, Option, refl, sym, ap, subst, ◌∙◌}
 use Rattle.std.specs.Map.{lookup, KeepsOthers}
 use Rattle.std.specs.Ordering.{eq_by_cmp}
+use Rattle.fa_capture.proofs.CallerLemmas.{found_alike}
 use Rattle.fa_tree.specs.State as state
 use Rattle.fa_tree.specs.State.{place_cmp}
 use Rattle.fa_tree.specs.declared.slots.Place.{Place}
 use Rattle.fa_tree.specs.declared.slots.Slot.{Slot}
 use Rattle.fa_tree.specs.parts.PlaceLaws.{same_place, place_equiv, place_test}
 use Rattle.fa_tree.specs.parts.SlotParts.{place_of, is_at, slot_at}
-
--- what two tests that agree find
-pub found_alike : {K V : Type 0} (test other : K → Bool) (es : List (K × V)) → ((k : K) → test k ≡ other k) → lookup test es ≡ lookup other es
-found_alike test other [] same = refl
-found_alike test other (e ∷ es) same = rw (same e.0, found_alike test other es same) refl
 
 -- a key that one place has, another has not
 apart : (q place : state.Place) (key : Place) → eq_by_cmp place_cmp q place ≡ false → is_at place key ≡ true → is_at q key ≡ false

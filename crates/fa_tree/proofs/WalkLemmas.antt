@@ -1,11 +1,12 @@
 -- The walk up the tree, from a directory to its parent.
-use Rattle.std.proofs.Common.{◌≡◌, ◌⊎◌, ◌↔◌, ◌==◌, ◌&&◌, ◌-◌, ◌<◌, ◌≤◌, length, unwrap_or, ℕ, zero, suc, Bool, true, false, cond, T, List, [], ◌∷◌, Option, None, Some, refl, sym, ap, subst, ◌∙◌, inl, inr, arith, eq-eqb, eqb-true}
+use Rattle.std.proofs.Common.{◌≡◌, ◌⊎◌, ◌↔◌, ◌==◌, ◌-◌, ◌<◌, ◌≤◌, length, unwrap_or, ℕ, zero, suc, Bool, true, false, cond, T, List, [], ◌∷◌, Option, None, Some, refl, sym, ap, subst, ◌∙◌, inl, inr, arith, eq-eqb, eqb-true}
 use Rattle.std.proofs.lemmas.Option.{slice_get_within}
 use Rattle.std.specs.Ordering.{eq_by_cmp, is_eq, is_lt}
 use Rattle.std.specs.declared.cmp.Ordering.{Ordering}
 use Rattle.std.specs.declared.cmp.Ordering.TheVariants.{Less, Equal, Greater}
 use Rattle.std.specs.FinMap.{entries, get-entries, entries_sorted, find, is_sorted}
 use Rattle.std.specs.FinMap.Entries.{below_all}
+use Rattle.fa_session.proofs.CallerLemmas.{both_first, both_second}
 use Rattle.fa_tree.specs.State.{Store, Place, place_cmp, HasName, IsDirectory, IsParent, IsBelow}
 use Rattle.fa_tree.specs.State.IsBelow.{child, further}
 use Rattle.fa_tree.specs.Shape.{IsRooted, IsTree}
@@ -48,16 +49,6 @@ none_above s f d none (further _ between _ is rest) = none between is
 
 -- ---- parents among the entries
 
--- of two tests that hold, the first
-first : (a b : Bool) → T (a && b) → T a
-first true b both = tt
-first false b both = absurd both
-
--- and the second
-second : (a b : Bool) → T (a && b) → T b
-second true b both = both
-second false b both = absurd both
-
 -- what is below does not tie
 below_apart : (r : Ordering) → T (is_lt r) → is_eq r ≡ false
 below_apart Less is = refl
@@ -68,9 +59,9 @@ below_apart Greater is = absurd is
 none_found : (place : Place) (es : List (Place × ℕ)) → T (below_all place_cmp place es) → find place_cmp place es ≡ None
 none_found place [] below = refl
 none_found place (e ∷ es) below =
-    let low : is_eq (place_cmp place e.0) ≡ false = below_apart (place_cmp place e.0) (first (is_lt (place_cmp place e.0)) (below_all place_cmp place es) below) in
+    let low : is_eq (place_cmp place e.0) ≡ false = below_apart (place_cmp place e.0) (both_first (is_lt (place_cmp place e.0)) (below_all place_cmp place es) below) in
     ap (λ b. cond b (Some e.1) (find place_cmp place es)) low
-    ∙ none_found place es (second (is_lt (place_cmp place e.0)) (below_all place_cmp place es) below)
+    ∙ none_found place es (both_second (is_lt (place_cmp place e.0)) (below_all place_cmp place es) below)
 
 -- what is found later in a list in order is found in it
 find_later : (e : Place × ℕ) (es : List (Place × ℕ)) (place : Place) (file : ℕ) → T (is_sorted place_cmp (e ∷ es)) → find place_cmp place es ≡ Some file
@@ -80,7 +71,7 @@ find_later e es place file sorted is = by (eq_by_cmp place_cmp place e.0) refl
     by : (b : Bool) → eq_by_cmp place_cmp place e.0 ≡ b → cond b (Some e.1) (find place_cmp place es) ≡ Some file
     by true tie =
         let same : place ≡ e.0 = same_place place e.0 tie in
-        let none : find place_cmp place es ≡ None = subst (λ p. find place_cmp p es ≡ None) (sym same) (none_found e.0 es (first (below_all place_cmp e.0 es) (is_sorted place_cmp es) sorted)) in
+        let none : find place_cmp place es ≡ None = subst (λ p. find place_cmp p es ≡ None) (sym same) (none_found e.0 es (both_first (below_all place_cmp e.0 es) (is_sorted place_cmp es) sorted)) in
         let clash : None ≡ Some file = sym none ∙ is in
         absurd cc
     by false apart = is
@@ -97,7 +88,7 @@ parent_found (e ∷ es) file parent sorted is =
           subst (λ p. (name : List ℕ) × (find place_cmp (p, name) (e ∷ es) ≡ Some file)) at
           (e.0.1, ap (λ b. cond b (Some e.1) (find place_cmp e.0 es)) (place_self e.0) ∙ ap (λ x. Some x) own)
       | false ↦ λ test later.
-          let found = parent_found es file parent (second (below_all place_cmp e.0 es) (is_sorted place_cmp es) sorted) later in
+          let found = parent_found es file parent (both_second (below_all place_cmp e.0 es) (is_sorted place_cmp es) sorted) later in
           (found.0, find_later e es (parent, found.0) file sorted found.1)
     ] refl is
 

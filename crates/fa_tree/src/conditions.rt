@@ -70,9 +70,10 @@ impl Stored {
         ensures { IsTrue result ↔ MayReplace self.now.store file other }
     {
         other == file
-            || match self.is_directory(file) {
-                true => self.is_empty_directory(other),
-                false => !self.is_directory(other),
+            || if self.is_directory(file) {
+                self.is_empty_directory(other)
+            } else {
+                !self.is_directory(other)
             }
     }
 

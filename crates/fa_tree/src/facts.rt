@@ -36,9 +36,10 @@ impl Facts {
     fn has_links(&self, nlink: u32) -> bool
         ensures { IsTrue result ↔ (nlink ≡ self.now.links + (if self.now.further then 1 else 0)) }
     {
-        match self.further {
-            true => nlink > 0 && (nlink - 1) as usize == self.links,
-            false => nlink as usize == self.links,
+        if self.further {
+            nlink > 0 && (nlink - 1) as usize == self.links
+        } else {
+            nlink as usize == self.links
         }
     }
 }

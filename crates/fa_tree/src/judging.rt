@@ -36,9 +36,10 @@ use fa_bodies::{Attributes, EntryOut, FattrFlags, Kind, Reply, RequestBody, Seta
 fn bits_set(setattr: &SetattrIn, kind: Kind, bits: u32) -> u32
     ensures { result ≡ bits_set setattr.now kind bits }
 {
-    match kind == Kind::Symlink || !setattr.valid.contains(FattrFlags::MODE) {
-        true => bits,
-        false => permission_bits(setattr.mode),
+    if kind == Kind::Symlink || !setattr.valid.contains(FattrFlags::MODE) {
+        bits
+    } else {
+        permission_bits(setattr.mode)
     }
 }
 
@@ -46,9 +47,10 @@ fn bits_set(setattr: &SetattrIn, kind: Kind, bits: u32) -> u32
 fn size_set(setattr: &SetattrIn, size: usize) -> usize
     ensures { result ≡ size_set setattr.now size }
 {
-    match setattr.valid.contains(FattrFlags::SIZE) {
-        true => setattr.size as usize,
-        false => size,
+    if setattr.valid.contains(FattrFlags::SIZE) {
+        setattr.size as usize
+    } else {
+        size
     }
 }
 
@@ -56,10 +58,7 @@ fn size_set(setattr: &SetattrIn, size: usize) -> usize
 fn is_lookup(body: &RequestBody<'_>) -> bool
     ensures { IsTrue result ↔ IsLookup (body_shown body.now) }
 {
-    match body {
-        RequestBody::Lookup { .. } => true,
-        _ => false,
-    }
+    matches!(body, RequestBody::Lookup { .. })
 }
 
 /// Whether an entry says that a name that is looked up is not there.
@@ -73,84 +72,66 @@ fn finds_nothing(body: &RequestBody<'_>, entry: &EntryOut) -> bool
 fn wants_entry(body: &RequestBody<'_>) -> bool
     ensures { (entry : EntryOut) → IsTrue result ↔ IsAnswerTo (body_shown body.now) (Entry entry) }
 {
-    match body {
+    matches!(
+        body,
         RequestBody::Lookup { .. }
-        | RequestBody::Symlink { .. }
-        | RequestBody::Mknod { .. }
-        | RequestBody::Mkdir { .. }
-        | RequestBody::Link { .. } => true,
-        _ => false,
-    }
+            | RequestBody::Symlink { .. }
+            | RequestBody::Mknod { .. }
+            | RequestBody::Mkdir { .. }
+            | RequestBody::Link { .. }
+    )
 }
 
 /// Whether an entry with a handle answers the request.
 fn wants_created(body: &RequestBody<'_>) -> bool
     ensures { (entry : EntryOut) (out : OpenOut) → IsTrue result ↔ IsAnswerTo (body_shown body.now) (Created entry out) }
 {
-    match body {
-        RequestBody::Create { .. } => true,
-        _ => false,
-    }
+    matches!(body, RequestBody::Create { .. })
 }
 
 /// Whether attributes answer the request.
 fn wants_attributes(body: &RequestBody<'_>) -> bool
     ensures { (a : AttrOut) → IsTrue result ↔ IsAnswerTo (body_shown body.now) (AttributesReply a) }
 {
-    match body {
-        RequestBody::Getattr(_) | RequestBody::Setattr(_) => true,
-        _ => false,
-    }
+    matches!(body, RequestBody::Getattr(_) | RequestBody::Setattr(_))
 }
 
 /// Whether nothing more than that it is done answers the request.
 fn wants_nothing(body: &RequestBody<'_>) -> bool
     ensures { IsTrue result ↔ IsAnswerTo (body_shown body.now) Empty }
 {
-    match body {
-        RequestBody::Unlink { .. } | RequestBody::Rmdir { .. } | RequestBody::Rename { .. } => true,
-        _ => false,
-    }
+    matches!(
+        body,
+        RequestBody::Unlink { .. } | RequestBody::Rmdir { .. } | RequestBody::Rename { .. }
+    )
 }
 
 /// Whether a handle answers the request.
 fn wants_opened(body: &RequestBody<'_>) -> bool
     ensures { (out : OpenOut) → IsTrue result ↔ IsAnswerTo (body_shown body.now) (Opened out) }
 {
-    match body {
-        RequestBody::Open(_) | RequestBody::Opendir(_) => true,
-        _ => false,
-    }
+    matches!(body, RequestBody::Open(_) | RequestBody::Opendir(_))
 }
 
 /// Whether bytes answer the request.
 fn wants_bytes(body: &RequestBody<'_>) -> bool
     ensures { (bytes : List ℕ) → IsTrue result ↔ IsAnswerTo (body_shown body.now) (Bytes bytes) }
 {
-    match body {
-        RequestBody::Readlink | RequestBody::Read(_) => true,
-        _ => false,
-    }
+    matches!(body, RequestBody::Readlink | RequestBody::Read(_))
 }
 
 /// Whether a number of bytes answers the request.
 fn wants_written(body: &RequestBody<'_>) -> bool
     ensures { (size : ℕ) → IsTrue result ↔ IsAnswerTo (body_shown body.now) (Written size) }
 {
-    match body {
-        RequestBody::Write { .. } => true,
-        _ => false,
-    }
+    matches!(body, RequestBody::Write { .. })
 }
 
 /// Whether entries answer the request.
 fn wants_listed(body: &RequestBody<'_>) -> bool
     ensures { (entries : List PlainDirent) → IsTrue result ↔ IsAnswerTo (body_shown body.now) (Listed entries) }
 {
-    match body {
-        RequestBody::Readdir(_) | RequestBody::Readdirplus(_) => true,
-        _ => false,
-    }
+    matches!(body, RequestBody::Readdir(_) | RequestBody::Readdirplus(_))
 }
 
 /// Whether the answer has the form that answers the request.

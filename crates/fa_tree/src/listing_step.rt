@@ -165,9 +165,10 @@ impl Tree {
         ensures ok { IfOk result (λ nodes. IsTrue holds × (nodes.items ≡ [])) }
         ensures refused { IfErr result (λ e. (e ≡ Refused code) × IsFalse holds) }
     {
-        match holds {
-            true => Ok(Vec::new(self.stored.alloc)),
-            false => Err(StepError::Refused(code)),
+        if holds {
+            Ok(Vec::new(self.stored.alloc))
+        } else {
+            Err(StepError::Refused(code))
         }
     }
 

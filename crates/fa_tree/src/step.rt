@@ -233,9 +233,10 @@ impl Tree {
         ensures ok { OnOk result ((count : ℕ) (so_far : List PlainDirent) → AllHold (outcome_checks self.now.nodes (setting self.now.store (named_shown named.now None) (question (call_shown call.now)) count so_far) Unanswered)) }
         ensures fault { IfErr result (λ code. (count : ℕ) (so_far : List PlainDirent) → FirstFailure (outcome_checks self.now.nodes (setting self.now.store (named_shown named.now None) (question (call_shown call.now)) count so_far) Unanswered) code) }
     {
-        match self.may_be_done(named, call) {
-            true => Ok(()),
-            false => Err(codes::SUCCESS_NOT_ALLOWED),
+        if self.may_be_done(named, call) {
+            Ok(())
+        } else {
+            Err(codes::SUCCESS_NOT_ALLOWED)
         }
     }
 
@@ -244,9 +245,10 @@ impl Tree {
         ensures ok { OnOk result ((count : ℕ) (so_far : List PlainDirent) → AllHold (outcome_checks self.now.nodes (setting self.now.store (named_shown named.now None) (question (call_shown call.now)) count so_far) (Fails error))) }
         ensures fault { IfErr result (λ code. (count : ℕ) (so_far : List PlainDirent) → FirstFailure (outcome_checks self.now.nodes (setting self.now.store (named_shown named.now None) (question (call_shown call.now)) count so_far) (Fails error)) code) }
     {
-        match self.has_cause(named, call, error) {
-            true => Ok(()),
-            false => Err(codes::ERROR_WITHOUT_CAUSE),
+        if self.has_cause(named, call, error) {
+            Ok(())
+        } else {
+            Err(codes::ERROR_WITHOUT_CAUSE)
         }
     }
 

@@ -3,7 +3,7 @@ use Rattle.std.specs.Prelude.{◌≡◌, ◌↔◌, ℕ, nat_eq, false, List, ma
 use Rattle.std.specs.Map.{lookup}
 use Rattle.std.specs.Option.{option_map_or}
 use Rattle.fa_ledger.specs.declared.call_list.CallList.TheInside.{Inside}
-use Rattle.fa_ledger.specs.declared.call_list.Waiting.{Waiting}
+use Rattle.fa_ledger.specs.declared.call_list.WaitingCall.{WaitingCall}
 use Rattle.fa_ledger.specs.Calls.{PlainCall, call_shown}
 
 -- at this place stands this call, which has this number and waits for its answer
@@ -17,7 +17,7 @@ abbrev pub Waits : List PlainCall → ℕ → Type 0
 Waits calls asked = (place : ℕ) × (call : PlainCall) × WaitsAt calls asked place call
 
 -- what is known of a call that waits
-abbrev pub waiting_of : PlainCall → Waiting
+abbrev pub waiting_of : PlainCall → WaitingCall
 waiting_of call =
     record { node = call.node; handle = call.handle; adrift = option_map_or (λ listing. listing.adrift) call.listing false }
 

@@ -9,7 +9,7 @@ use Rattle.fa_bodies.specs.Requests.{PlainBody}
 use Rattle.fa_bodies.specs.Replies.{PlainReply}
 use Rattle.fa_bodies.specs.Replies.PlainReply.{Listed}
 use Rattle.fa_ledger.specs.declared.books.Used.{Used}
-use Rattle.fa_ledger.specs.declared.call_list.Waiting.{Waiting}
+use Rattle.fa_ledger.specs.declared.call_list.WaitingCall.{WaitingCall}
 use Rattle.fa_ledger.specs.declared.call.Listing.{Listing}
 use Rattle.fa_ledger.specs.declared.handles.Handle.{Handle}
 use Rattle.fa_ledger.specs.declared.key.Key.{Key}
@@ -86,7 +86,7 @@ listing_by (Some offset) None place = None
 listing_by (Some offset) (Some used) place = Some (going_on offset used.handle.shared (place used.key offset))
 
 -- The answer to a call that waits lists these entries on its handle, which is open still under this key.
-pub record ListsStill (opened : List (Key × Handle)) (waiting : Waiting) (body : PlainBody) (reply : PlainReply) (key : Key) (entries : List PlainDirent) : Type 0 where
+pub record ListsStill (opened : List (Key × Handle)) (waiting : WaitingCall) (body : PlainBody) (reply : PlainReply) (key : Key) (entries : List PlainDirent) : Type 0 where
   pub lists : reply ≡ Listed entries
   pub some : entries ≢ []
   pub used : handle_used body ≡ Some (key.fh, key.kind)
@@ -96,7 +96,7 @@ pub record ListsStill (opened : List (Key × Handle)) (waiting : Waiting) (body 
   pub named : waiting.handle ≡ Some handle.name
 
 -- what such an answer lists, if it lists any
-abbrev pub ListsStillIfAny : List (Key × Handle) → Waiting → PlainBody → PlainReply → Option ListedOn → Type 0
+abbrev pub ListsStillIfAny : List (Key × Handle) → WaitingCall → PlainBody → PlainReply → Option ListedOn → Type 0
 ListsStillIfAny opened waiting body reply None = (key : Key) (entries : List PlainDirent) → ListsStill opened waiting body reply key entries → ⊥
 ListsStillIfAny opened waiting body reply (Some l) =
     ListsStill opened waiting body reply l.key (entries_left l.entries) × (l.adrift ≡ waiting.adrift) × (l.count ≡ length (entries_left l.entries))

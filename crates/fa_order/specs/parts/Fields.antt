@@ -6,7 +6,7 @@ use Rattle.fa_tree.specs.Attributes.{all_bits}
 use Rattle.fa_order.specs.declared.fields.Fields.{Fields}
 use Rattle.fa_order.specs.declared.fields.Fields.TheVariants.{File, Name}
 use Rattle.fa_order.specs.TreeLines.{letter, octal, body_text}
-use Rattle.fa_order.specs.parts.Splits.{LacksByte}
+use Rattle.fa_bodies.specs.Names.{LacksByte}
 
 -- the fields of a file, in a line
 abbrev pub file_text : Kind → (bits : ℕ) → (path : List ℕ) → (body : Option (List ℕ)) → List ℕ

@@ -4,8 +4,9 @@ use Rattle.std.proofs.lemmas.List.{length-map}
 use Rattle.std.proofs.lemmas.Option.{slice_get_within}
 use Rattle.fa_ledger.specs.Calls.{call_shown}
 use Rattle.fa_check.specs.Cuts.{Stays}
-use Rattle.fa_check.proofs.CuttingLemmas.{is_none, on_none, no_call, found_as, shown_open, shown_early, shown_goes, shown_stays}
+use Rattle.fa_check.proofs.CuttingLemmas.{on_none, no_call, found_as, shown_open, shown_early, shown_goes, shown_stays}
 use Rattle.fa_check.proofs.cutting.left_of.Goals as goal
+use Rattle.fa_check.proofs.PlacingLemmas.{none_of}
 
 pub returns-in_default-clause-goes : goal.returns-in_default-clause-goes
 returns-in_default-clause-goes c = λ messages is.
@@ -23,7 +24,7 @@ pub returns-in_default-answer-clause-stays : goal.returns-in_default-answer-clau
 returns-in_default-answer-clause-stays c = λ messages is.
     shown_open c.args.calls.now c.in-Some.place c.args.messages c.args.entry c.index-call.result.now
     (found_as c.args.calls.now c.in-Some.place c.args.entry.at c.index-call.result.now c.in-Some.ensures.found c.index-call.ensures) messages is
-    (is_none c.index-call.result.now.answer c.in_default-answer.not-Some)
+    (none_of c.index-call.result.now.answer c.in_default-answer.not-Some)
 
 pub returns-then-answer-messages-clause-stays : goal.returns-then-answer-messages-clause-stays
 returns-then-answer-messages-clause-stays c = λ messages is.
@@ -31,15 +32,15 @@ returns-then-answer-messages-clause-stays c = λ messages is.
     (found_as c.args.calls.now c.in-Some.place c.args.entry.at c.index-call.result.now c.in-Some.ensures.found c.index-call.ensures) messages is
     c.in-Some-answer.answer c.in-Some-answer.is c.if-answer-messages.true
 
-pub returns-then-leaves_nothing-clause-goes : goal.returns-then-leaves_nothing-clause-goes
-returns-then-leaves_nothing-clause-goes c = λ messages is.
+pub returns-then-keeps_tree-clause-goes : goal.returns-then-keeps_tree-clause-goes
+returns-then-keeps_tree-clause-goes c = λ messages is.
     shown_goes c.args.calls.now c.in-Some.place c.args.messages c.args.entry c.index-call.result.now
     (found_as c.args.calls.now c.in-Some.place c.args.entry.at c.index-call.result.now c.in-Some.ensures.found c.index-call.ensures) messages is
-    c.in-Some-answer.answer c.in-Some-answer.is c.if-answer-messages.false (c.leaves_nothing.ensures.0 c.if-leaves_nothing.true)
+    c.in-Some-answer.answer c.in-Some-answer.is c.if-answer-messages.false (c.keeps_tree.ensures.0 c.if-keeps_tree.true)
 
 pub returns-clause-stays : goal.returns-clause-stays
 returns-clause-stays c = λ messages is.
     subst (λ (w : Option ℕ). Stays messages c.args.messages c.args.entry (record { at = c.args.entry.at; wrote = w })) (sym c.wrote_without.ensures)
     (shown_stays c.args.calls.now c.in-Some.place c.args.messages c.args.entry c.index-call.result.now
     (found_as c.args.calls.now c.in-Some.place c.args.entry.at c.index-call.result.now c.in-Some.ensures.found c.index-call.ensures) messages is
-    c.in-Some-answer.answer c.in-Some-answer.is c.if-answer-messages.false (λ leaves. let told = c.leaves_nothing.ensures.1 leaves in let other = c.if-leaves_nothing.false in absurd cc))
+    c.in-Some-answer.answer c.in-Some-answer.is c.if-answer-messages.false (λ leaves. let told = c.keeps_tree.ensures.1 leaves in let other = c.if-keeps_tree.false in absurd cc))

@@ -1,40 +1,16 @@
-use Rattle.std.proofs.Common.{◌++◌, ◌∷◌, [], ap, refl, sym, ◌∙◌}
+use Rattle.std.proofs.Common.{refl, rules, tests}
+use Rattle.std.proofs.lemmas.Iterator.{cases_from_all}
+use Rattle.std.proofs.lemmas.Iterator.Consumers.{YieldsList-from_first}
 use Rattle.fa_bodies.specs.Dirents.{dirent_shown}
-use Rattle.fa_ledger.proofs.CallerLemmas.{moved_on}
+use Rattle.fa_bodies.specs.Listing.{entries_left}
 use Rattle.fa_tree.specs.Directories.{IsTypedAsStayed}
 use Rattle.fa_tree.specs.parts.OpenParts.{open_of}
-use Rattle.fa_tree.proofs.ListingLemmas.{judged_more, judged_at, judged_all}
+use Rattle.fa_tree.proofs.ListingLemmas.{HoldsIfJudged, FailsJudged, run_of_judged}
 use Rattle.fa_tree.proofs.stored.Stored.all_typed_as_stayed.Goals as goal
-use Rattle.fa_tree.proofs.stored.Stored.all_typed_as_stayed.Goals.{else-is_judged-via-then-is_judged+else-not-is_typed_as_stayed, else-is_judged-via-else-is_judged}
-
-pub loop-dirent-preserved : goal.loop-dirent-preserved
-loop-dirent-preserved c =
-    let front = c.loop-dirent.invariant.2.0 in
-    let d = dirent_shown c.in-Some.dirent in
-    let whole = moved_on _ front _ _ d c.loop-dirent.invariant.2.1 c.in-Some.ensures.steps in (
-      tt,
-      tt,
-      (
-        front ++ d ∷ [],
-        whole,
-        judged_more (IsTypedAsStayed c.args.self.now.store (open_of c.args.names.now)) front d c.loop-dirent.invariant.2.2 (λ own.
-            elim c.else-is_judged.branch [
-              | else-is_judged-via-then-is_judged+else-not-is_typed_as_stayed w ↦ w.if-not-is_typed_as_stayed.ensures.0 refl
-              | else-is_judged-via-else-is_judged w ↦ let no = w.if-is_judged.ensures ∙ own in absurd cc
-            ]),
-      ),
-    )
-
-pub returns-then-not-is_typed_as_stayed : goal.returns-then-not-is_typed_as_stayed
-returns-then-not-is_typed_as_stayed c =
-    let front = c.loop-dirent.invariant.2.0 in
-    let d = dirent_shown c.in-Some.dirent in
-    let whole = c.loop-dirent.invariant.2.1 ∙ ap (λ ys. front ++ ys) c.in-Some.ensures.steps in (
-      (λ no. absurd cc),
-      (λ each. c.if-not-is_typed_as_stayed.ensures.1 (judged_at (IsTypedAsStayed c.args.self.now.store (open_of c.args.names.now)) _ front _ d whole (sym c.if-is_judged.ensures) each)),
-    )
 
 pub returns : goal.returns
 returns c =
-    let all = judged_all (IsTypedAsStayed c.args.self.now.store (open_of c.args.names.now)) _ c.loop-dirent.invariant.2.0 _ c.loop-dirent.invariant.2.1 c.in-None.ensures.steps.0 c.loop-dirent.invariant.2.2 in
-    ((λ t. all), (λ each. refl))
+    let each = IsTypedAsStayed c.args.self.now.store (open_of c.args.names.now) in
+    run_of_judged each (entries_left c.args.entries) c.all.result
+    (cases_from_all c.all.new.self _ c.all.result (HoldsIfJudged each) (FailsJudged each) c.all.ensures.ran (YieldsList-from_first dirent_shown entries_left (entries_left c.args.entries) refl)
+    (λ x q k. search (rules, tests)) (λ x q k. search (rules, tests)))

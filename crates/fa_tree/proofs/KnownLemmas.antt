@@ -11,6 +11,7 @@ use Rattle.std.proofs.lemmas.List.Elements.{All-head, All-tail}
 use Rattle.std.proofs.lemmas.Option.{same_Some}
 use Rattle.fa_capture.specs.declared.codes.TheConstants.{UNKNOWN_HERE}
 use Rattle.fa_capture.specs.Checks.{AllHold, FirstFailure}
+use Rattle.fa_capture.proofs.CallerLemmas.{contains_cases, contains_first, contains_behind, not_told}
 use Rattle.fa_bodies.specs.declared.entry.EntryOut.{EntryOut}
 use Rattle.fa_bodies.specs.declared.handles.OpenIn.{OpenIn}
 use Rattle.fa_bodies.specs.declared.handles.OpenOut.{OpenOut}
@@ -37,7 +38,6 @@ use Rattle.fa_tree.specs.Outcomes.Outcome.{Fails, Succeeds, Unanswered}
 use Rattle.fa_tree.specs.Steps.{tree_after, setting, outcome_checks, checks_of_files, step_checks, Steps}
 use Rattle.fa_tree.proofs.NodeLemmas.{node_total}
 use Rattle.fa_tree.proofs.NameLemmas.{get-each_open}
-use Rattle.fa_check.proofs.ListLemmas.{contains_cases, contains_first, contains_behind}
 
 -- ---- what is known
 
@@ -288,19 +288,6 @@ all_known t call node others handles none =
     absurd cc
 
 -- ---- the code that is told where something is not known
-
--- none of these checks has the code
-abbrev HaveNot : ℕ → List (ℕ × Type 0) → Type 0
-HaveNot code [] = Unit {0}
-HaveNot code (check ∷ checks) = (code ≡ check.0 → ⊥) × HaveNot code checks
-
-pub not_told : (code : ℕ) (checks : List (ℕ × Type 0)) → HaveNot code checks → FirstFailure checks code → ⊥
-not_told code [] others fails = fails
-not_told code (check ∷ checks) others fails =
-    elim fails [
-      | inl here ↦ others.0 here.1
-      | inr later ↦ not_told code checks others.1 later.1
-    ]
 
 -- it is told of a call that names something which the tree does not know
 pub told_unknown : (t : TreeState) (call : PlainCall) (wrote : Option ℕ) (so_far : List PlainDirent) → FirstFailure (step_checks t call wrote so_far) UNKNOWN_HERE → resolved t call ≡ None

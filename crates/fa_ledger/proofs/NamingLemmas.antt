@@ -1,12 +1,12 @@
 -- Where the nodes and the open directories that requests name come from: from answers before them, to tree requests.
 use Rattle.std.proofs.Common.{◌≡◌, ◌≢◌, ◌⊎◌, ℕ, suc, ◌<◌, ◌≤◌, ◌==◌, Bool, true, false, List, [], ◌∷◌, ◌++◌, length, take, Option, None, Some, refl, sym, ap, subst, ◌∙◌, inl, inr, arith}
-use Rattle.std.specs.Prelude.{slice_get, Contains, count_by, if◌then◌else◌, option_map, option_and_then}
+use Rattle.std.specs.Prelude.{slice_get, Contains, if◌then◌else◌, option_map, option_and_then}
 use Rattle.std.proofs.lemmas.Bool.{cases_lt}
 use Rattle.std.proofs.lemmas.Bool.Decides.{nat_tests}
-use Rattle.std.proofs.lemmas.List.{length-take}
-use Rattle.std.proofs.lemmas.List.Sums.{sum_by-cons}
+use Rattle.std.proofs.lemmas.List.{length-take, take-take}
 use Rattle.std.proofs.lemmas.Option.{slice_get_within, same_Some}
 use Rattle.fa_capture.specs.Message.{Message}
+use Rattle.fa_capture.proofs.CallerLemmas.{get_of_front, get_in_front, counted_there}
 use Rattle.fa_bodies.specs.declared.handles.OpenIn.{OpenIn}
 use Rattle.fa_bodies.specs.declared.handles.OpenOut.{OpenOut}
 use Rattle.fa_bodies.specs.declared.requests.TheConstants.{ROOT_ID}
@@ -14,7 +14,7 @@ use Rattle.fa_bodies.specs.Requests.{PlainRequest, PlainBody}
 use Rattle.fa_bodies.specs.Requests.PlainBody.{Forget, Open, Release, Flush, Init, Opendir, Readdir, Releasedir, Create, BatchForget, Readdirplus, Passed}
 use Rattle.fa_bodies.specs.Replies.{PlainReply}
 use Rattle.fa_bodies.specs.Replies.PlainReply.{Created, Opened}
-use Rattle.fa_session.specs.Answers.{IsAnsweredBy}
+use Rattle.fa_session.specs.Answers.{IsRequestAt, IsAnsweredBy}
 use Rattle.fa_session.specs.Events.{PlainEvent}
 use Rattle.fa_session.specs.Events.PlainEvent.{Asked, Answered, Notice}
 use Rattle.fa_session.proofs.CallerLemmas.{answered_once, answered_asked}
@@ -32,13 +32,10 @@ use Rattle.fa_ledger.specs.Keys.{handle_used, key_at, key_used}
 use Rattle.fa_ledger.specs.Handles.{opened_by, opening, times_opened, times_closed, IsHandle}
 use Rattle.fa_ledger.specs.Listings.{offset_asked}
 use Rattle.fa_ledger.specs.Calls.{PlainAnswer, PlainCall, OpensAnew, IsAnswerOf, HasAnswer, IsCall}
-use Rattle.fa_ledger.proofs.CallerLemmas.{take_front, answered_place}
 use Rattle.fa_ledger.proofs.CallLemmas.{answers_at}
-use Rattle.fa_ledger.proofs.CallStepLemmas.{message_of, request_event, request_there}
+use Rattle.fa_ledger.proofs.CallStepLemmas.{answered_place, message_of, request_event, request_there}
 use Rattle.fa_ledger.proofs.NameLemmas.{name_is_least}
 use Rattle.fa_ledger.proofs.ReplyLemmas.{plain_gives_nothing}
-use Rattle.fa_check.specs.Orders.{IsTreeRequestAt}
-use Rattle.fa_check.proofs.ListLemmas.{get_from_take, get_in_take, contains_first, contains_behind}
 
 -- ---- an answer before a message
 
@@ -46,7 +43,7 @@ use Rattle.fa_check.proofs.ListLemmas.{get_from_take, get_in_take, contains_firs
 pub record IsTreeAnswer (c : List Message) (es : List PlainEvent) (p q asked : ℕ) (request : PlainRequest) (reply : PlainReply) : Type 0 where
   pub there : slice_get es q ≡ Some (Answered q asked request reply)
   pub before : q < p
-  pub tree : IsTreeRequestAt c asked
+  pub tree : (r : PlainRequest) × IsRequestAt c asked r × IsTreeRequest r.body
   pub answered : IsAnsweredBy c asked q
 
 -- a request is one of the tree, or none
@@ -65,7 +62,7 @@ tree_answer : (c : List Message) (es : List PlainEvent) → AreEvents c es → (
     → slice_get (take p es) q ≡ Some (Answered at asked request reply) → IsTreeRequest request.body → IsTreeAnswer c es p q asked request reply
 tree_answer c es are p q at asked request reply stands tree =
     let within = slice_get_within (take p es) q (Answered at asked request reply) stands in
-    let whole : slice_get es q ≡ Some (Answered at asked request reply) = get_from_take p es q (Answered at asked request reply) stands in
+    let whole : slice_get es q ≡ Some (Answered at asked request reply) = get_of_front es p q (Answered at asked request reply) stands in
     let place : at ≡ q = answered_place c es are q at asked request reply whole in
     let there : slice_get es q ≡ Some (Answered q asked request reply) = subst (λ n. slice_get es q ≡ Some (Answered n asked request reply)) place whole in
     let answers = answers_at c es are q q asked request reply there in
@@ -77,19 +74,6 @@ tree_answer c es are p q at asked request reply stands tree =
     }
 
 -- ---- nodes
-
--- a node that is counted in a list is in it
-often_there : (nodes : List ℕ) (node : ℕ) → 0 < count_by (λ n. n == node) nodes → Contains nodes node
-often_there [] node some = absurd (omega (arith, some))
-often_there (n ∷ nodes) node some =
-    elim (n == node) as (λ b. (n == node) ≡ b → Contains (n ∷ nodes) node) [
-      | true ↦ λ test.
-          let same : n ≡ node = grind (arith, nat_tests, test) in
-          subst (Contains (n ∷ nodes)) same (contains_first n nodes)
-      | false ↦ λ test.
-          let none : ◌≡◌ {A = ℕ} (if n == node then 1 else 0) 0 = rw test refl in
-          contains_behind n nodes node (often_there nodes node (omega (arith, some, none, sum_by-cons (λ k. if k == node then 1 else 0) n nodes)))
-    ] refl
 
 -- a name that is not the root's has the id of its node
 not_root_named : (es : List PlainEvent) (node id g : ℕ) → name_at es node ≡ Some (Given id g) → (node ≢ ROOT_ID) × (id ≡ node)
@@ -112,12 +96,12 @@ module _ (es : List PlainEvent) (node g p : ℕ) (since : IsCountedSince (take p
   counted_now : IsCountedSince (take (suc g) es) node g
   counted_now = record {
     event = since.event;
-    there = get_in_take (suc g) es g since.event (omega arith) (get_from_take p es g since.event since.there);
+    there = get_in_front es (suc g) g since.event (omega arith) (get_of_front es p g since.event since.there);
     gives = since.gives;
     stays = λ r later inside.
         let below : r ≤ suc g = omega (arith, inside, length-take (suc g) es) in
         let far : r ≤ p = omega (arith, below, within, length-take p es) in
-        subst (λ xs. IsCounted xs node) (take_front es r p far ∙ sym (take_front es r (suc g) below))
+        subst (λ xs. IsCounted xs node) (take-take r p es far ∙ sym (take-take r (suc g) es below))
         (since.stays r later (omega (arith, below, within)));
   }
 
@@ -125,7 +109,7 @@ module _ (es : List PlainEvent) (node g p : ℕ) (since : IsCountedSince (take p
   counted_still : (h : ℕ) → h < g → IsCountedSince (take (suc g) es) node h → IsCountedSince (take p es) node h
   counted_still h earlier other = record {
     event = other.event;
-    there = get_in_take p es h other.event (omega (arith, earlier, within, length-take p es)) (get_from_take (suc g) es h other.event other.there);
+    there = get_in_front es p h other.event (omega (arith, earlier, within, length-take p es)) (get_of_front es (suc g) h other.event other.there);
     gives = other.gives;
     stays = λ r later inside.
         elim (cases_lt g r) [
@@ -133,7 +117,7 @@ module _ (es : List PlainEvent) (node g p : ℕ) (since : IsCountedSince (take p
           | inr front ↦
               let far : r ≤ p = omega (arith, front, within, length-take p es) in
               let below : r ≤ suc g = omega (arith, front) in
-              subst (λ xs. IsCounted xs node) (take_front es r (suc g) below ∙ sym (take_front es r p far))
+              subst (λ xs. IsCounted xs node) (take-take r (suc g) es below ∙ sym (take-take r p es far))
               (other.stays r later (omega (arith, front, within, length-take p es, length-take (suc g) es)))
         ];
   }
@@ -186,7 +170,7 @@ name_given c es are p node id g is =
     by (Answered at asked r reply) event =
         let stands : slice_get (take p es) g ≡ Some (Answered at asked r reply) = since.there ∙ ap (λ e. Some e) event in
         let gives : 0 < times_given node (Answered at asked r reply) = subst (λ e. 0 < times_given node e) event since.gives in
-        let has : Contains (nodes_given r.body reply) node = often_there (nodes_given r.body reply) node gives in
+        let has : Contains (nodes_given r.body reply) node = counted_there (nodes_given r.body reply) node gives in
         elim (tree_or_not r.body) [
           | inl tree ↦ record {
             asked = asked;
@@ -197,7 +181,7 @@ name_given c es are p node id g is =
             named = now;
           }
           | inr plain ↦
-              let message = message_of c es are g (Answered at asked r reply) (get_from_take p es g (Answered at asked r reply) stands) in
+              let message = message_of c es are g (Answered at asked r reply) (get_of_front es p g (Answered at asked r reply) stands) in
               let nothing = plain_gives_nothing (take g c) message.0 at asked r reply message.2 plain in
               let none : Contains [] node = subst (λ nodes. Contains nodes node) nothing.0 has in
               absurd (omega (arith, none.1))
@@ -268,7 +252,7 @@ handle_opened c es are p key handle kind h =
     let both = opens_directory (take handle front) (front ++ e ∷ []) h.request.node h.request.body h.reply key stands.out opens kind in
     let answer : IsTreeAnswer c es p h.since handle h.request h.reply =
     tree_answer c es are p h.since h.since handle h.request h.reply h.answer (subst IsTreeRequest (sym both.0.1) tt) in
-    let kept : take h.since (take p es) ≡ take h.since es = take_front es h.since p (let before = answer.before in omega (arith, before)) in
+    let kept : take h.since (take p es) ≡ take h.since es = take-take h.since p es (let before = answer.before in omega (arith, before)) in
     record {
       by = h.since;
       request = h.request;

@@ -8,8 +8,8 @@ ghost use Rattle.fa_ledger.specs.SoFar.{listing_so_far};
 ghost use Rattle.fa_tree.specs.Directories.{judged, WasThere, IsTypedAsStayed, IsThereIfLookedUp, IsListed};
 ghost use Rattle.fa_tree.specs.parts.OpenParts.{open_of};
 
+use crate::entries::is_judged;
 use crate::id::FileId;
-use crate::listing::is_judged;
 use crate::open::OpenNames;
 use crate::orderly::is_orderly;
 use crate::stored::Stored;
@@ -19,15 +19,10 @@ use std::alloc::AllocError;
 
 impl OpenNames<'_> {
     /// Whether each name that is listed was in the directory at some moment since it was opened.
-    fn all_were_there(&self, entries: Entries<'_>) -> bool
+    fn all_were_there(&self, mut entries: Entries<'_>) -> bool
         ensures { IsTrue result ↔ All (WasThere (open_of self.now)) (judged (entries_left entries.entry)) }
     {
-        for dirent in entries {
-            if is_judged(&dirent) && !self.had(dirent.name) {
-                return false;
-            }
-        }
-        true
+        entries.all(|dirent| !is_judged(&dirent) || self.had(dirent.name))
     }
 }
 
@@ -43,15 +38,10 @@ impl Stored {
     }
 
     /// Whether the types of the entries are those of the files which stayed under their names.
-    fn all_typed_as_stayed(&self, names: &OpenNames<'_>, entries: Entries<'_>) -> bool
+    fn all_typed_as_stayed(&self, names: &OpenNames<'_>, mut entries: Entries<'_>) -> bool
         ensures { IsTrue result ↔ All (IsTypedAsStayed self.now.store (open_of names.now)) (judged (entries_left entries.entry)) }
     {
-        for dirent in entries {
-            if is_judged(&dirent) && !self.is_typed_as_stayed(names, &dirent) {
-                return false;
-            }
-        }
-        true
+        entries.all(|dirent| !is_judged(&dirent) || self.is_typed_as_stayed(names, &dirent))
     }
 
     /// Whether each entry that is judged is what the rule of listings allows, whatever the others are.

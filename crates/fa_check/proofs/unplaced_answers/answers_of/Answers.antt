@@ -2,11 +2,11 @@ use Rattle.std.proofs.Common.{◌≡◌, ◌+◌, length, Some, Bool, Vec, Globa
 use Rattle.std.specs.Prelude.{map, slice_get, option_map}
 use Rattle.std.proofs.lemmas.List.{length-map}
 use Rattle.fa_ledger.specs.Calls.{call_shown, answer_shown, PlainAnswer}
-use Rattle.fa_tree.proofs.StepLemmas.{shown_at}
+use Rattle.fa_tree.proofs.CallerLemmas.{shown_at}
 use Rattle.fa_check.proofs.PlacingLemmas.{AreAnswersOf, answers_none, answers_kept, answers_more, answers_all, none_of}
 use Rattle.fa_check.proofs.GoodLemmas.{answer_below}
-use Rattle.fa_check.proofs.waiting.answers_of.Goals as goal
-use Rattle.fa_check.proofs.waiting.answers_of.Goals.{in-Some, in_default}
+use Rattle.fa_check.proofs.unplaced_answers.answers_of.Goals as goal
+use Rattle.fa_check.proofs.unplaced_answers.answers_of.Goals.{in-Some, in_default}
 
 pub loop-call-init : goal.loop-call-init
 loop-call-init c = answers_none (map call_shown c.args.calls.now.list.items) c.args.calls.now.messages c.in_ok-marks.marks.items c.in_ok-marks.ensures

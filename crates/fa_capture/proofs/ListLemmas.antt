@@ -1,31 +1,34 @@
--- Lists: what stands at a place, in parts, behind a write, and in lists of numbers that rise.
-use Rattle.std.proofs.Common.{◌≡◌, ℕ, zero, suc, ◌+◌, ◌<◌, ◌≤◌, ◌⊎◌, Bool, true, false, cond, List, [], ◌∷◌, ◌++◌, length, take, drop, get_or, set, Some, None, refl, sym, ap, subst, ◌∙◌, inl, inr, zero-add, suc-add, add-one, arith}
-use Rattle.std.specs.Prelude.{slice_get, All, AllPairs, Contains, position, nat_lt}
+-- Lists: what stands at a place, in parts, in a front, behind a write or one more, and in lists of numbers that rise.
+use Rattle.std.proofs.Common.{◌≡◌, ℕ, zero, suc, ◌+◌, ◌<◌, ◌≤◌, ◌==◌, ◌⊎◌, Bool, true, false, cond, List, [], ◌∷◌, ◌++◌, length, take, drop, get_or, set, Some, None, refl, sym, ap, subst, ◌∙◌, inl, inr, zero-add, suc-add, add-one, arith}
+use Rattle.std.specs.Prelude.{slice_get, All, AllPairs, Contains, position, nat_lt, count_by, if◌then◌else◌}
 use Rattle.std.specs.List.{position_or_len}
 use Rattle.std.specs.List.Sorted.{IsStrictlyIncreasing}
-use Rattle.std.proofs.lemmas.Bool.{cases_eq, ltb-false}
+use Rattle.std.specs.Map.{lookup}
+use Rattle.std.proofs.lemmas.Bool.{cases_eq, cases_lt, ltb-false}
+use Rattle.std.proofs.lemmas.Bool.Decides.{nat_tests}
 use Rattle.std.proofs.lemmas.Option.{slice_get_within, slice_get-get_or, get_or_from_slice_get}
-use Rattle.std.proofs.lemmas.List.{length-append, length-take, length-set, take-take, take-append-drop, get_or-take, drop_more, get_or_at, get_or_append_left, get_or-append-add, get_or-set_same, get_or-set_other}
+use Rattle.std.proofs.lemmas.List.{length-append, length-take, length-set, take-take, take_at, take-append-drop, take-append-le, get_or-take, drop_more, get_or_at, get_or_append_left, get_or-append-add, get_or-set_same, get_or-set_other}
 use Rattle.std.proofs.lemmas.List.Elements.{Contains-get_or, Contains-append_left}
 use Rattle.std.proofs.lemmas.List.Kept.{AllPairs-from_increasing}
 use Rattle.std.proofs.lemmas.List.Quantifiers.{position-Some}
-use Rattle.std.proofs.lemmas.List.Sums.{fails_before_first}
+use Rattle.std.proofs.lemmas.List.Sums.{fails_before_first, sum_by-cons}
 
 -- ---- places
 
--- what stands in a front stands in the whole
-pub get_from_take : {X : Type 0} (n : ℕ) (xs : List X) (i : ℕ) (x : X) → slice_get (take n xs) i ≡ Some x → slice_get xs i ≡ Some x
-get_from_take zero xs i x is = absurd cc
-get_from_take (suc n) [] i x is = absurd cc
-get_from_take (suc n) (y ∷ xs) zero x is = is
-get_from_take (suc n) (y ∷ xs) (suc i) x is = get_from_take n xs i x is
+-- what stands in a front of a list stands in the list
+pub get_of_front : {X : Type 0} (xs : List X) (count at : ℕ) (x : X) → slice_get (take count xs) at ≡ Some x → slice_get xs at ≡ Some x
+get_of_front [] zero at x is = is
+get_of_front [] (suc count) at x is = is
+get_of_front (y ∷ xs) zero at x is = absurd cc
+get_of_front (y ∷ xs) (suc count) zero x is = is
+get_of_front (y ∷ xs) (suc count) (suc at) x is = get_of_front xs count at x is
 
--- what stands in the whole stands in a front that is long enough
-pub get_in_take : {X : Type 0} (n : ℕ) (xs : List X) (i : ℕ) (x : X) → i < n → slice_get xs i ≡ Some x → slice_get (take n xs) i ≡ Some x
-get_in_take zero xs i x within is = absurd (omega (arith, within))
-get_in_take (suc n) [] i x within is = absurd cc
-get_in_take (suc n) (y ∷ xs) zero x within is = is
-get_in_take (suc n) (y ∷ xs) (suc i) x within is = get_in_take n xs i x (omega (arith, within)) is
+-- what stands in a list stands in each front that is long enough
+pub get_in_front : {X : Type 0} (xs : List X) (count at : ℕ) (x : X) → at < count → slice_get xs at ≡ Some x → slice_get (take count xs) at ≡ Some x
+get_in_front [] count at x below is = absurd cc
+get_in_front (y ∷ xs) zero at x below is = absurd (omega (arith, below))
+get_in_front (y ∷ xs) (suc count) zero x below is = is
+get_in_front (y ∷ xs) (suc count) (suc at) x below is = get_in_front xs count at x (omega (arith, below)) is
 
 -- ---- the same list in two parts
 
@@ -68,6 +71,19 @@ contains_first x xs = (0, omega arith, refl)
 pub contains_behind : {X : Type 0} (y : X) (xs : List X) (x : X) → Contains xs x → Contains (y ∷ xs) x
 contains_behind y xs x has = (suc has.0, omega (arith, has.1), has.2)
 
+-- a number that is counted in a list is in it
+pub counted_there : (numbers : List ℕ) (number : ℕ) → 0 < count_by (λ n. n == number) numbers → Contains numbers number
+counted_there [] number some = absurd (omega (arith, some))
+counted_there (n ∷ numbers) number some =
+    elim (n == number) as (λ b. (n == number) ≡ b → Contains (n ∷ numbers) number) [
+      | true ↦ λ test.
+          let same : n ≡ number = grind (arith, nat_tests, test) in
+          subst (Contains (n ∷ numbers)) same (contains_first n numbers)
+      | false ↦ λ test.
+          let none : ◌≡◌ {A = ℕ} (if n == number then 1 else 0) 0 = rw test refl in
+          contains_behind n numbers number (counted_there numbers number (omega (arith, some, none, sum_by-cons (λ k. if k == number then 1 else 0) n numbers)))
+    ] refl
+
 -- what holds of each element holds of the one in the middle
 pub all_middle : {X : Type 0} (P : X → Type 0) (xs ys : List X) (x : X) → All P (xs ++ x ∷ ys) → P x
 all_middle P xs ys x all =
@@ -108,56 +124,65 @@ pub contains_front : {X : Type 0} (xs : List X) (i j : ℕ) (d : X) → i < j �
 contains_front {X = X} xs i j d before within =
     subst (Contains (take j xs)) (get_or-take j xs i d before) (Contains-get_or (take j xs) i d (omega (arith, before, within, length-take j xs)))
 
--- ---- numbers that rise
+-- ---- lists in order
 
--- behind the first they rise too
-pub tail_pairs : (x : ℕ) (xs : List ℕ) → AllPairs (λ a b. a < b) (x ∷ xs) → AllPairs (λ a b. a < b) xs
-tail_pairs x xs pairs i j d before within = pairs (suc i) (suc j) d (omega (arith, before)) (omega (arith, within))
+module _ {X : Type 0} (R : X → X → Type 0) where
+  -- behind the first the others are in order too
+  pub pairs_tail : (x : X) (xs : List X) → AllPairs R (x ∷ xs) → AllPairs R xs
+  pairs_tail x xs pairs i j d before within = pairs (suc i) (suc j) d (omega (arith, before)) (omega (arith, within))
+
+  module _ (strict : (x y : X) → R x y → R y x → ⊥) where
+    -- what two lists in order have behind the same first
+    behind_kept : (x : X) (xs ys : List X) → AllPairs R (x ∷ xs) → ((z : X) → Contains (x ∷ xs) z → Contains (x ∷ ys) z) → (z : X) → Contains xs z → Contains ys z
+    behind_kept x xs ys pairs kept z has =
+        elim (contains_cases x ys z (kept z (contains_behind x xs z has))) [
+          | inl first ↦
+              let itself : R x x = subst (R x) (sym first) (pairs_behind R [] xs x z pairs has) in
+              absurd (strict x x itself itself)
+          | inr behind ↦ behind
+        ]
+
+    -- lists in order that have the same elements have the same first
+    same_first : (x y : X) (xs ys : List X) → AllPairs R (x ∷ xs) → AllPairs R (y ∷ ys) → Contains (y ∷ ys) x → Contains (x ∷ xs) y → x ≡ y
+    same_first x y xs ys pairs others to from =
+        elim (contains_cases y ys x to) [
+          | inl same ↦ sym same
+          | inr behind ↦ elim (contains_cases x xs y from) [
+            | inl same ↦ same
+            | inr later ↦ absurd (strict y x (pairs_behind R [] ys y x others behind) (pairs_behind R [] xs x y pairs later))
+          ]
+        ]
+
+    -- lists in order that have the same elements are one
+    pub same_order : (xs ys : List X) → AllPairs R xs → AllPairs R ys → ((z : X) → Contains xs z → Contains ys z) → ((z : X) → Contains ys z → Contains xs z) → xs ≡ ys
+    same_order [] [] pairs others to from = refl
+    same_order [] (y ∷ ys) pairs others to from = let has : Contains [] y = from y (contains_first y ys) in absurd (omega (arith, has.1))
+    same_order (x ∷ xs) [] pairs others to from = let has : Contains [] x = to x (contains_first x xs) in absurd (omega (arith, has.1))
+    same_order (x ∷ xs) (y ∷ ys) pairs others to from =
+        let first : x ≡ y = same_first x y xs ys pairs others (to x (contains_first x xs)) (from y (contains_first y ys)) in
+        let there : (z : X) → Contains (x ∷ xs) z → Contains (x ∷ ys) z = subst (λ (u : X). (z : X) → Contains (x ∷ xs) z → Contains (u ∷ ys) z) (sym first) to in
+        let back : (z : X) → Contains (x ∷ ys) z → Contains (x ∷ xs) z = subst (λ (u : X). (z : X) → Contains (u ∷ ys) z → Contains (x ∷ xs) z) (sym first) from in
+        let moved : AllPairs R (x ∷ ys) = subst (λ (u : X). AllPairs R (u ∷ ys)) (sym first) others in
+        let rest : xs ≡ ys = same_order xs ys (pairs_tail x xs pairs) (pairs_tail x ys moved) (behind_kept x xs ys pairs there) (behind_kept x ys xs moved back) in
+        cc
+
+-- ---- numbers that rise
 
 -- the first is below all others
 pub first_least : (x : ℕ) (xs : List ℕ) (y : ℕ) → AllPairs (λ a b. a < b) (x ∷ xs) → Contains xs y → x < y
 first_least x xs y pairs has = pairs_behind (λ a b. a < b) [] xs x y pairs has
 
--- what two such lists have behind the same first
-tail_kept : (x : ℕ) (xs ys : List ℕ) → AllPairs (λ a b. a < b) (x ∷ xs) → ((z : ℕ) → Contains (x ∷ xs) z → Contains (x ∷ ys) z) → (z : ℕ) → Contains xs z → Contains ys z
-tail_kept x xs ys pairs kept z has =
-    elim (contains_cases x ys z (kept z (contains_behind x xs z has))) [
-      | inl first ↦ let above : x < z = first_least x xs z pairs has in absurd (omega (arith, first, above))
-      | inr behind ↦ behind
-    ]
-
--- one of the firsts is not below the other
-first_kept : (x y : ℕ) (xs ys : List ℕ) → AllPairs (λ a b. a < b) (y ∷ ys) → Contains (y ∷ ys) x → y ≤ x
-first_kept x y xs ys pairs has =
-    elim (contains_cases y ys x has) [
-      | inl first ↦ omega (arith, first)
-      | inr behind ↦ let above : y < x = first_least y ys x pairs behind in omega (arith, above)
-    ]
-
--- lists of the same numbers, each below all behind it, are as long
-same_length : (xs ys : List ℕ) → AllPairs (λ a b. a < b) xs → AllPairs (λ a b. a < b) ys → ((z : ℕ) → Contains xs z → Contains ys z) → ((z : ℕ) → Contains ys z → Contains xs z) → length xs ≡ length ys
-same_length [] [] rise rises to from = refl
-same_length [] (y ∷ ys) rise rises to from = let has : Contains [] y = from y (contains_first y ys) in absurd (omega (arith, has.1))
-same_length (x ∷ xs) [] rise rises to from = let has : Contains [] x = to x (contains_first x xs) in absurd (omega (arith, has.1))
-same_length (x ∷ xs) (y ∷ ys) rise rises to from =
-    let low : y ≤ x = first_kept x y xs ys rises (to x (contains_first x xs)) in
-    let high : x ≤ y = first_kept y x ys xs rise (from y (contains_first y ys)) in
-    let same : y ≡ x = omega (arith, low, high) in
-    let there : (z : ℕ) → Contains (x ∷ xs) z → Contains (x ∷ ys) z = subst (λ (u : ℕ). (z : ℕ) → Contains (x ∷ xs) z → Contains (u ∷ ys) z) same to in
-    let back : (z : ℕ) → Contains (x ∷ ys) z → Contains (x ∷ xs) z = subst (λ (u : ℕ). (z : ℕ) → Contains (u ∷ ys) z → Contains (x ∷ xs) z) same from in
-    let others : AllPairs (λ a b. a < b) (x ∷ ys) = subst (λ (u : ℕ). AllPairs (λ a b. a < b) (u ∷ ys)) same rises in
-    ap suc (same_length xs ys (tail_pairs x xs rise) (tail_pairs x ys others) (tail_kept x xs ys rise there) (tail_kept x ys xs others back))
-
--- two lists of rising numbers that have the same numbers are as long
-pub rising_same : (xs ys : List ℕ) → IsStrictlyIncreasing xs → IsStrictlyIncreasing ys → ((z : ℕ) → Contains xs z → Contains ys z) → ((z : ℕ) → Contains ys z → Contains xs z) → length xs ≡ length ys
-rising_same xs ys rise rises to from = same_length xs ys (AllPairs-from_increasing xs rise) (AllPairs-from_increasing ys rises) to from
+-- lists of rising numbers that have the same numbers are one
+pub rising_is_one : (xs ys : List ℕ) → IsStrictlyIncreasing xs → IsStrictlyIncreasing ys → ((z : ℕ) → Contains xs z → Contains ys z) → ((z : ℕ) → Contains ys z → Contains xs z) → xs ≡ ys
+rising_is_one xs ys rise rises to from =
+    same_order (λ a b. a < b) (λ a b below above. omega (arith, below, above)) xs ys (AllPairs-from_increasing xs rise) (AllPairs-from_increasing ys rises) to from
 
 -- such a list from one number up to another is no longer than what lies between
 room : (xs : List ℕ) (low high : ℕ) → low ≤ high → AllPairs (λ a b. a < b) xs → ((z : ℕ) → Contains xs z → (low ≤ z) × (z < high)) → length xs + low ≤ high
 room [] low high ordered pairs between = omega (arith, ordered)
 room (x ∷ xs) low high ordered pairs between =
     let here : (low ≤ x) × (x < high) = between x (contains_first x xs) in
-    let behind : length xs + suc low ≤ high = room xs (suc low) high (omega (arith, here.0, here.1)) (tail_pairs x xs pairs)
+    let behind : length xs + suc low ≤ high = room xs (suc low) high (omega (arith, here.0, here.1)) (pairs_tail (λ a b. a < b) x xs pairs)
     (λ z has.
     let above : x < z = first_least x xs z pairs has in
     (omega (arith, here.0, above), (between z (contains_behind x xs z has)).1)) in
@@ -208,12 +233,6 @@ get_from_drop zero xs k x is = rw zero-add is
 get_from_drop (suc n) [] k x is = absurd cc
 get_from_drop (suc n) (y ∷ xs) k x is = rw suc-add (get_from_drop n xs k x is)
 
--- an element from this place on stands in the rest
-pub get_in_drop : {X : Type 0} (n : ℕ) (xs : List X) (k : ℕ) (x : X) → slice_get xs (n + k) ≡ Some x → slice_get (drop n xs) k ≡ Some x
-get_in_drop zero xs k x is = rw zero-add at is
-get_in_drop (suc n) [] k x is = absurd cc
-get_in_drop (suc n) (y ∷ xs) k x is = get_in_drop n xs k x (rw suc-add at is)
-
 -- ---- searches
 
 -- what a search finds
@@ -242,6 +261,44 @@ position_none p xs k x none there =
 
 -- ---- one more
 
+-- what stands before the end stands there still
+pub get_kept : {X : Type 0} (xs ys : List X) (i : ℕ) (x : X) → slice_get xs i ≡ Some x → slice_get (xs ++ ys) i ≡ Some x
+get_kept [] ys i x is = absurd cc
+get_kept (y ∷ xs) ys zero x is = is
+get_kept (y ∷ xs) ys (suc i) x is = get_kept xs ys i x is
+
+-- what stands before the end stood there
+pub get_back : {X : Type 0} (xs ys : List X) (i : ℕ) (x : X) → i < length xs → slice_get (xs ++ ys) i ≡ Some x → slice_get xs i ≡ Some x
+get_back [] ys i x within is = absurd (omega (arith, within))
+get_back (y ∷ xs) ys zero x within is = is
+get_back (y ∷ xs) ys (suc i) x within is = get_back xs ys i x (omega (arith, within)) is
+
+-- the new one
+pub get_last : {X : Type 0} (xs : List X) (y : X) → slice_get (xs ++ y ∷ []) (length xs) ≡ Some y
+get_last [] y = refl
+get_last (x ∷ xs) y = get_last xs y
+
+-- each place is one from before, or the new one
+pub get_cases : {X : Type 0} (xs : List X) (y : X) (i : ℕ) (x : X) → slice_get (xs ++ y ∷ []) i ≡ Some x → (i < length xs) ⊎ ((i ≡ length xs) × (x ≡ y))
+get_cases xs y i x is =
+    let within : i < length (xs ++ y ∷ []) = slice_get_within (xs ++ y ∷ []) i x is in
+    let counted : length (xs ++ y ∷ []) ≡ length xs + 1 = length-append xs (y ∷ []) in
+    elim (cases_lt i (length xs)) [
+      | inl below ↦ inl below
+      | inr above ↦ let here : i ≡ length xs = omega (arith, within, counted, above) in
+          let there : slice_get (xs ++ y ∷ []) (length xs) ≡ Some x = subst (λ (k : ℕ). slice_get (xs ++ y ∷ []) k ≡ Some x) here is in
+          let last : slice_get (xs ++ y ∷ []) (length xs) ≡ Some y = get_last xs y in
+          inr (here, cc)
+    ]
+
+-- a front of what stands before the end
+pub take_before : {X : Type 0} (xs : List X) (y : X) (i : ℕ) → i ≤ length xs → take i (xs ++ y ∷ []) ≡ take i xs
+take_before xs y i within = take-append-le i xs (y ∷ []) within
+
+-- all that stands before the end
+pub take_all_before : {X : Type 0} (xs : List X) (y : X) → take (length xs) (xs ++ y ∷ []) ≡ xs
+take_all_before xs y = take_at xs (y ∷ []) (length xs) refl
+
 -- an element of a list and one more is one of the list, or the new one
 pub snoc_cases : {X : Type 0} (xs ys zs : List X) (x y : X) → xs ++ x ∷ [] ≡ ys ++ y ∷ zs → ((ys ≡ xs) × (y ≡ x)) ⊎ ((rest : List X) × (xs ≡ ys ++ y ∷ rest))
 snoc_cases [] [] zs x y same = inl (refl, cc)
@@ -255,8 +312,19 @@ snoc_cases (v ∷ xs) (w ∷ ys) zs x y same =
       | inr inner ↦ inr (inner.0, (let rest = inner.1 in cc))
     ]
 
--- a front and what stands behind it
-pub take_one_more : {X : Type 0} (xs : List X) (i : ℕ) (x : X) → slice_get xs i ≡ Some x → take (i + 1) xs ≡ take i xs ++ x ∷ []
-take_one_more [] i x is = absurd cc
-take_one_more (y ∷ xs) zero x is = (let same : y ≡ x = cc in ap (λ (u : _). u ∷ []) same)
-take_one_more (y ∷ xs) (suc i) x is = rw add-one (ap (λ (us : List _). y ∷ us) (rw add-one at (take_one_more xs i x is)))
+-- a front, and the element behind it
+pub take_with_next : {X : Type 0} (xs : List X) (n : ℕ) (x : X) → slice_get xs n ≡ Some x → take (suc n) xs ≡ take n xs ++ x ∷ []
+take_with_next [] n x is = absurd cc
+take_with_next (y ∷ xs) zero x is = let same : y ≡ x = cc in cc
+take_with_next (y ∷ xs) (suc n) x is = let later = take_with_next xs n x is in cc
+
+-- the same of a place that is counted on
+pub take_one_more : {X : Type 0} (xs : List X) (n : ℕ) (x : X) → slice_get xs n ≡ Some x → take (n + 1) xs ≡ take n xs ++ x ∷ []
+take_one_more xs n x is = rw add-one (take_with_next xs n x is)
+
+-- ---- tables
+
+-- what two tests that agree find
+pub found_alike : {K V : Type 0} (test other : K → Bool) (es : List (K × V)) → ((k : K) → test k ≡ other k) → lookup test es ≡ lookup other es
+found_alike test other [] same = refl
+found_alike test other (e ∷ es) same = rw (same e.0, found_alike test other es same) refl

@@ -10,24 +10,24 @@ use std::alloc::{AllocError, Global};
 
 /// Which messages answer tree requests that are not placed.
 #[derive(Debug, Drop)]
-pub(crate) struct Waiting {
+pub(crate) struct UnplacedAnswers {
     /// For each message whether it is such an answer.
     answers: Vec<bool>,
     /// The number of the first that is, or that of all messages where none is.
     pub front: usize,
 }
 
-impl Waiting {
+impl UnplacedAnswers {
     /// All answers of these calls.
     pub fn all(alloc: Global, calls: &Calls<'_>) -> Result<Self, AllocError>
-        ensures wide { IfOk result (λ waiting. length waiting.answers.items ≡ calls.now.messages) }
-        ensures few { IfOk result (λ waiting. length waiting.answers.items < 2 ^ 32) }
-        ensures answers { IfOk result (λ waiting. AreAnswers (map call_shown calls.now.list.items) waiting.answers.items) }
-        ensures front { IfOk result (λ waiting. IsFirstSet waiting.answers.items waiting.front) }
+        ensures wide { IfOk result (λ unplaced. length unplaced.answers.items ≡ calls.now.messages) }
+        ensures few { IfOk result (λ unplaced. length unplaced.answers.items < 2 ^ 32) }
+        ensures answers { IfOk result (λ unplaced. AreAnswers (map call_shown calls.now.list.items) unplaced.answers.items) }
+        ensures front { IfOk result (λ unplaced. IsFirstSet unplaced.answers.items unplaced.front) }
     {
         let answers = answers_of(alloc, calls)?;
         let front = first_set(&answers);
-        Ok(Waiting { answers, front })
+        Ok(UnplacedAnswers { answers, front })
     }
 
     /// Takes an answer away, since its request is placed.

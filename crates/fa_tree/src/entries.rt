@@ -106,27 +106,17 @@ impl Stored {
     }
 
     /// Whether all names that the entries look up are in the directory now.
-    pub(crate) fn all_there(&self, directory: FileId, entries: Entries<'_>) -> bool
+    pub(crate) fn all_there(&self, directory: FileId, mut entries: Entries<'_>) -> bool
         ensures { IsTrue result ↔ All (IsThereIfLookedUp self.now.store directory) (judged (entries_left entries.entry)) }
     {
-        for dirent in entries {
-            if is_judged(&dirent) && !self.is_there_if_looked_up(directory, &dirent) {
-                return false;
-            }
-        }
-        true
+        entries.all(|dirent| !is_judged(&dirent) || self.is_there_if_looked_up(directory, &dirent))
     }
 
     /// Whether the types in the attributes of the entries fit.
-    pub(crate) fn all_typed(&self, directory: FileId, entries: Entries<'_>) -> bool
+    pub(crate) fn all_typed(&self, directory: FileId, mut entries: Entries<'_>) -> bool
         ensures { IsTrue result ↔ All (IsTypedIfLookedUp self.now.store directory) (judged (entries_left entries.entry)) }
     {
-        for dirent in entries {
-            if is_judged(&dirent) && !self.is_typed_if_looked_up(directory, &dirent) {
-                return false;
-            }
-        }
-        true
+        entries.all(|dirent| !is_judged(&dirent) || self.is_typed_if_looked_up(directory, &dirent))
     }
 
     /// The names of nodes that a listing gives, each with the file of its entry's name.
