@@ -21,7 +21,8 @@ use Rattle.fa_check.proofs.CallerLemmas.{verdict_is_there}
 use Rattle.fa_audit.specs.declared.judge.TheConstants.{ROOT_BITS}
 use Rattle.fa_audit.specs.declared.verdict.AuditError.{AuditError}
 use Rattle.fa_audit.specs.declared.verdict.AuditError.TheVariants.{OrderText, TreeText}
-use Rattle.fa_audit.specs.Verdict.{IsGivenTree, IsAnswer, AnswerIsThere}
+use Rattle.fa_audit.specs.Verdict.{IsGivenTree, IsAnswer}
+use Rattle.fa_audit.specs.Laws.{AnswerIsThere}
 use Rattle.fa_audit.proofs.AuditLemmas.{verdict_told}
 
 -- ---- messages
@@ -66,7 +67,7 @@ module _ (capture : List ℕ) (tree : Option (List ℕ)) (order : List ℕ) (non
   with_tree c first good given =
       order_text_or_fault order (λ either. elim either [
         | inl text ↦ verdict_is_there c first text.0 good.good (judged c first text.0 good given text.1)
-        | inr fault ↦ none (Err (OrderText fault.0)) (record { c = c; first = first; good = good; given = given; fault = fault.1 })
+        | inr fault ↦ none (Err (OrderText fault.0)) (record { messages = c; first = first; good = good; given = given; fault = fault.1 })
       ])
 
   -- where the capture is good
@@ -75,7 +76,7 @@ module _ (capture : List ℕ) (tree : Option (List ℕ)) (order : List ℕ) (non
   with_messages c good (Some text) is =
       tree_text_or_fault text (λ either. elim either [
         | inl first ↦ with_tree c first.0 good (subst (λ t. IsGivenTree t first.0) (sym is) first.1)
-        | inr fault ↦ none (Err (TreeText fault.0)) (record { c = c; text = text; good = good; handed_in = is; fault = fault.1 })
+        | inr fault ↦ none (Err (TreeText fault.0)) (record { messages = c; text = text; good = good; handed_in = is; fault = fault.1 })
       ])
 
   -- where all messages pass

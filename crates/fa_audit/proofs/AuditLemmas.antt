@@ -18,7 +18,8 @@ use Rattle.fa_audit.specs.declared.verdict.AuditError.{AuditError}
 use Rattle.fa_audit.specs.declared.verdict.AuditError.TheVariants.{OrderText, TreeText, Memory}
 use Rattle.fa_audit.specs.declared.verdict.StartError.{StartError}
 use Rattle.fa_audit.specs.declared.verdict.StartError.TheVariants as starts
-use Rattle.fa_audit.specs.Verdict.{IsGivenTree, IsAnswer, Exactly, OneAnswer}
+use Rattle.fa_audit.specs.Verdict.{IsGivenTree, IsAnswer, Exactly}
+use Rattle.fa_audit.specs.Laws.{OneAnswer}
 use Rattle.fa_audit.specs.Proposed.{answer_of}
 use Rattle.fa_audit.specs.declared.protocol.Broken.{Broken}
 use Rattle.fa_audit.specs.declared.protocol.Broken.TheVariants as broken
@@ -112,7 +113,7 @@ pub verdict_told : (capture : List ℕ) (tree : Option (List ℕ)) (order : List
     → IsGoodCapture capture c → IsGivenTree tree first → IsOrderText order es → IsVerdict c first es verdict → IsAnswer capture tree order (Ok verdict)
 verdict_told capture tree order c first es (Legal messages placed left) good given text is =
     record {
-      c = c;
+      messages = c;
       first = first;
       last = is.legal.last;
       entries = es;
@@ -121,18 +122,18 @@ verdict_told capture tree order c first es (Legal messages placed left) good giv
       text = text;
       valid = is.legal.valid;
       run = is.legal.run;
-      messages_are = is.messages_are;
+      count_is = is.messages_are;
       placed_are = is.placed_are;
       left_are = is.left_are;
     }
 verdict_told capture tree order c first es (Fault at code) good given text is = absurd is
 verdict_told capture tree order c first es (NotShown entry at code) good given text is =
-    record { c = c; first = first; entries = es; good = good; given = given; text = text; fault = is }
+    record { messages = c; first = first; entries = es; good = good; given = given; text = text; fault = is }
 
 -- a fault of the order text
 pub order_told : (capture : List ℕ) (tree : Option (List ℕ)) (order : List ℕ) (c : List Message) (first : TreeState) (error : AuditError)
     → IsGoodCapture capture c → IsGivenTree tree first → IsOrderRefused order error → Tells capture tree order (Err error)
-order_told capture tree order c first (OrderText line) good given fault = record { c = c; first = first; good = good; given = given; fault = fault }
+order_told capture tree order c first (OrderText line) good given fault = record { messages = c; first = first; good = good; given = given; fault = fault }
 order_told capture tree order c first (TreeText line) good given fault = absurd fault
 order_told capture tree order c first Memory good given fault = tt
 
@@ -143,14 +144,14 @@ pub calls_of_good : (bytes : List ℕ) (packets given : List Packet) (framing : 
     → IsReading bytes (messages packets) framing → given ≡ packets → AreGood (messages given) → calls.messages ≡ length given → AreCalls (messages given) (map call_shown calls.list.items)
     → framing ≡ None → AreCallsOf bytes calls
 calls_of_good bytes packets given framing calls read same good counted are none = record {
-  c = messages packets;
+  messages = messages packets;
   good = good_capture bytes packets given framing read same good none;
   are = messages_of packets given calls same good counted are;
 }
 
 -- they and the given tree are a start
 pub start_of : (bytes : List ℕ) (tree : Option (List ℕ)) (calls : Calls) (first : TreeState) → AreCallsOf bytes calls → IsGivenTree tree first → IsStartOf bytes tree calls first
-start_of bytes tree calls first of is_given = record { c = of.c; good = of.good; are = of.are; given = is_given }
+start_of bytes tree calls first of is_given = record { messages = of.messages; good = of.good; are = of.are; given = is_given }
 
 -- a capture that is refused is no start
 pub capture_no_start : (capture : List ℕ) (tree : Option (List ℕ)) (b : Broken) → IsCaptureRefused capture b → IsNoStart capture tree (start_refused b)
@@ -160,7 +161,7 @@ capture_no_start capture tree broken.Memory fault = tt
 -- a fault of the tree text behind a good capture
 pub tree_no_start : (capture : List ℕ) (tree : Option (List ℕ)) (c : List Message) (error : StartError) → IsGoodCapture capture c → IsTreeRefused tree error → IsNoStart capture tree error
 tree_no_start capture tree c (starts.Fault at code) good refused = absurd refused
-tree_no_start capture tree c (starts.TreeText line) good refused = record { c = c; text = refused.0; good = good; handed_in = refused.1; fault = refused.2 }
+tree_no_start capture tree c (starts.TreeText line) good refused = record { messages = c; text = refused.0; good = good; handed_in = refused.1; fault = refused.2 }
 tree_no_start capture tree c starts.Memory good refused = tt
 
 -- where there is no start, the audit tells it

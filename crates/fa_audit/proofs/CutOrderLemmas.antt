@@ -17,15 +17,16 @@ use Rattle.fa_check.specs.Cuts.{IsCut}
 use Rattle.fa_check.proofs.CallerLemmas.{cut_is_one}
 use Rattle.fa_audit.specs.declared.protocol.Broken.{Broken}
 use Rattle.fa_audit.specs.declared.protocol.Broken.TheVariants as broken
-use Rattle.fa_audit.specs.declared.run.RunFault.{RunFault}
-use Rattle.fa_audit.specs.declared.run.TheConstants.{MAX_INPUT_BYTES}
+use Rattle.fa_audit.specs.declared.running.RunFault.{RunFault}
+use Rattle.fa_audit.specs.declared.running.TheConstants.{MAX_INPUT_BYTES}
 use Rattle.fa_audit.specs.declared.verdict.AuditError.{AuditError}
 use Rattle.fa_audit.specs.declared.verdict.AuditError.TheVariants as errors
 use Rattle.fa_audit.specs.declared.verdict.CutError.{CutError}
 use Rattle.fa_audit.specs.declared.verdict.CutError.TheVariants.{Fault, OrderText, Memory}
 use Rattle.fa_audit.specs.Verdict.{ExactlyRefused}
 use Rattle.fa_audit.specs.Line.{IsCoded}
-use Rattle.fa_audit.specs.CutOrders.{IsCuttable, IsCutText, IsUncutAtLine, IsCutAnswer, OneCutAnswer, IsCutTold, IsCutFrom, answer_of_uncut}
+use Rattle.fa_audit.specs.CutOrders.{IsCuttable, IsCutText, IsUncutAtLine, IsCutAnswer, IsCutTold, IsCutFrom, answer_of_uncut}
+use Rattle.fa_audit.specs.Laws.{OneCutAnswer}
 use Rattle.fa_audit.specs.parts.Answers.{AreCallsOf, IsCaptureRefused, IsNoCut, cut_refused, cut_text_refused, text_answered}
 use Rattle.fa_audit.proofs.CodedLemmas.{fault_coded}
 use Rattle.fa_audit.proofs.OneAnswer.{one_first_fault, good_no_fault, one_good_capture}
@@ -33,9 +34,9 @@ use Rattle.fa_audit.proofs.OneAnswer.{one_first_fault, good_no_fault, one_good_c
 -- ---- the parts of the call
 
 -- the text of what is left
-pub text_left : (capture order : List ℕ) (m : ℕ) (calls : Calls) (es left : List Entry) (text : List ℕ) → (of : AreCallsOf capture calls) → IsOrderText order es → IsCut of.c m es left → IsOrderText text left → IsCutText capture order m text
+pub text_left : (capture order : List ℕ) (m : ℕ) (calls : Calls) (es left : List Entry) (text : List ℕ) → (of : AreCallsOf capture calls) → IsOrderText order es → IsCut of.messages m es left → IsOrderText text left → IsCutText capture order m text
 text_left capture order m calls es left text of read is_cut spelled = record {
-  c = of.c;
+  messages = of.messages;
   entries = es;
   left = left;
   good = of.good;
@@ -51,7 +52,7 @@ capture_no_cut capture order broken.Memory fault = tt
 
 -- an order text that is refused, behind a good capture
 pub order_no_cut : (capture order : List ℕ) (calls : Calls) (error : TextError) → AreCallsOf capture calls → IsOrderFaultTold order error → IsNoCut capture order (cut_text_refused error)
-order_no_cut capture order calls (texts.Line line) of fault = record { c = of.c; good = of.good; fault = fault }
+order_no_cut capture order calls (texts.Line line) of fault = record { messages = of.messages; good = of.good; fault = fault }
 order_no_cut capture order calls texts.Memory of fault = tt
 
 -- the code that is told has a text
@@ -64,7 +65,7 @@ no_cut_coded capture order Memory fault = tt
 
 -- where there is something to cut, the capture has no fault
 cuttable_no_fault : (capture order : List ℕ) (at code : ℕ) → IsCuttable capture order → IsFirstFault capture at code → ⊥
-cuttable_no_fault capture order at code is fault = good_no_fault one_reading capture is.c at code is.good fault
+cuttable_no_fault capture order at code is fault = good_no_fault one_reading capture is.messages at code is.good fault
 
 -- nor has the order text
 cuttable_no_line : (capture order : List ℕ) (line : ℕ) → IsCuttable capture order → IsUncutAtLine capture order line → ⊥
@@ -72,11 +73,11 @@ cuttable_no_line capture order line is fault = order_text_has_no_fault order is.
 
 -- where the order text has a fault, the capture has none
 line_no_fault : (capture order : List ℕ) (line at code : ℕ) → IsUncutAtLine capture order line → IsFirstFault capture at code → ⊥
-line_no_fault capture order line at code is fault = good_no_fault one_reading capture is.c at code is.good fault
+line_no_fault capture order line at code is fault = good_no_fault one_reading capture is.messages at code is.good fault
 
 -- what is cut may be
 pub cut_cuttable : (capture order : List ℕ) (m : ℕ) (text : List ℕ) → IsCutText capture order m text → IsCuttable capture order
-cut_cuttable capture order m text is = record { c = is.c; entries = is.entries; good = is.good; text = is.order_text }
+cut_cuttable capture order m text is = record { messages = is.messages; entries = is.entries; good = is.good; text = is.order_text }
 
 -- ---- what the call answers
 
@@ -137,11 +138,11 @@ module _ {T : Type 0} (capture order : List ℕ) where
 -- the text of what is left is one, since the cut is
 one_cut_text : (capture order : List ℕ) (m : ℕ) (text other : List ℕ) → IsCutText capture order m text → IsCutText capture order m other → text ≡ other
 one_cut_text capture order m text other x y =
-    let messages : x.c ≡ y.c = one_good_capture one_reading capture x.c y.c x.good y.good in
+    let messages : x.messages ≡ y.messages = one_good_capture one_reading capture x.messages y.messages x.good y.good in
     let entries : x.entries ≡ y.entries = one_order_text order x.entries y.entries x.order_text y.order_text in
-    let moved : IsCut y.c m y.entries x.left =
-    subst (λ (es : List Entry). IsCut y.c m es x.left) entries (subst (λ (c : List Message). IsCut c m x.entries x.left) messages x.is_cut) in
-    let left : x.left ≡ y.left = cut_is_one y.c m y.entries x.left y.left moved y.is_cut in
+    let moved : IsCut y.messages m y.entries x.left =
+    subst (λ (es : List Entry). IsCut y.messages m es x.left) entries (subst (λ (c : List Message). IsCut c m x.entries x.left) messages x.is_cut) in
+    let left : x.left ≡ y.left = cut_is_one y.messages m y.entries x.left y.left moved y.is_cut in
     x.spelled.spelled ∙ ap (λ (es : List Entry). order_text es) left ∙ sym y.spelled.spelled
 
 pub one_cut_answer : OneCutAnswer

@@ -17,7 +17,8 @@ use Rattle.fa_check.specs.declared.verdict.Verdict.TheVariants.{Legal, Fault, No
 use Rattle.fa_check.specs.Verdicts.{IsVerdict}
 use Rattle.fa_audit.specs.declared.verdict.AuditError.{AuditError}
 use Rattle.fa_audit.specs.declared.verdict.AuditError.TheVariants.{OrderText, TreeText, Memory}
-use Rattle.fa_audit.specs.Verdict.{IsGivenTree, IsLegal, IsNotShown, IsTreeTextAtFault, OneAnswer}
+use Rattle.fa_audit.specs.Verdict.{IsGivenTree, IsLegal, IsNotShown, IsTreeTextAtFault}
+use Rattle.fa_audit.specs.Laws.{OneAnswer}
 use Rattle.fa_capture.proofs.CallerLemmas.{no_failure, one_failure, one_reading}
 use Rattle.fa_order.proofs.CallerLemmas.{one_order_text, one_order_fault, order_text_has_no_fault, one_tree_text, one_tree_fault, tree_text_has_no_fault}
 use Rattle.fa_check.proofs.CallerLemmas.{verdict_is_one}
@@ -113,18 +114,18 @@ given_no_fault (Some text) first capture line given f =
 
 -- The capture is good, the texts are in their grammar, and this is the verdict on the order.
 record IsJudged (capture : List ℕ) (tree : Option (List ℕ)) (order : List ℕ) (verdict : Verdict) : Type 0 where
-  pub c : List Message
+  pub messages : List Message
   pub first : TreeState
   pub entries : List Entry
-  pub good : IsGoodCapture capture c
+  pub good : IsGoodCapture capture messages
   pub given : IsGivenTree tree first
   pub text : IsOrderText order entries
-  pub told : IsVerdict c first entries verdict
+  pub told : IsVerdict messages first entries verdict
 
 judged_legal : (capture : List ℕ) (tree : Option (List ℕ)) (order : List ℕ) (messages placed left : ℕ) → IsLegal capture tree order messages placed left → IsJudged capture tree order (Legal messages placed left)
 judged_legal capture tree order messages placed left a =
     record {
-      c = a.c;
+      messages = a.messages;
       first = a.first;
       entries = a.entries;
       good = a.good;
@@ -132,7 +133,7 @@ judged_legal capture tree order messages placed left a =
       text = a.text;
       told = record {
         legal = record { good = a.good.good; valid = a.valid; last = a.last; run = a.run };
-        messages_are = a.messages_are;
+        messages_are = a.count_is;
         placed_are = a.placed_are;
         left_are = a.left_are;
       };
@@ -140,19 +141,19 @@ judged_legal capture tree order messages placed left a =
 
 judged_not_shown : (capture : List ℕ) (tree : Option (List ℕ)) (order : List ℕ) (entry at code : ℕ) → IsNotShown capture tree order entry at code → IsJudged capture tree order (NotShown entry at code)
 judged_not_shown capture tree order entry at code a =
-    record { c = a.c; first = a.first; entries = a.entries; good = a.good; given = a.given; text = a.text; told = a.fault }
+    record { messages = a.messages; first = a.first; entries = a.entries; good = a.good; given = a.given; text = a.text; told = a.fault }
 
 -- an order has one verdict at most
 one_judged : (capture : List ℕ) (tree : Option (List ℕ)) (order : List ℕ) (a b : Verdict) → IsJudged capture tree order a → IsJudged capture tree order b → a ≡ b
 one_judged capture tree order a b x y =
-    let messages : x.c ≡ y.c = one_good_capture one_reading capture x.c y.c x.good y.good in
+    let messages : x.messages ≡ y.messages = one_good_capture one_reading capture x.messages y.messages x.good y.good in
     let first : x.first ≡ y.first = one_given tree x.first y.first x.given y.given in
     let entries : x.entries ≡ y.entries = one_order_text order x.entries y.entries x.text y.text in
-    let moved : IsVerdict y.c y.first y.entries a =
-    subst (λ (es : List Entry). IsVerdict y.c y.first es a) entries
-    (subst (λ (t : TreeState). IsVerdict y.c t x.entries a) first
+    let moved : IsVerdict y.messages y.first y.entries a =
+    subst (λ (es : List Entry). IsVerdict y.messages y.first es a) entries
+    (subst (λ (t : TreeState). IsVerdict y.messages t x.entries a) first
     (subst (λ (c : List Message). IsVerdict c x.first x.entries a) messages x.told)) in
-    verdict_is_one y.c y.first y.entries a b moved y.told
+    verdict_is_one y.messages y.first y.entries a b moved y.told
 
 -- ---- answers
 
@@ -177,7 +178,7 @@ pub one_answer : OneAnswer
 one_answer capture tree order (Ok (Legal messages placed left)) (Ok (Legal others entries rest)) a b =
     verdict_same (Legal messages placed left) (Legal others entries rest) (one_judged capture tree order (Legal messages placed left) (Legal others entries rest) (judged_legal capture tree order messages placed left a) (judged_legal capture tree order others entries rest b))
 one_answer capture tree order (Ok (Legal messages placed left)) (Ok (Fault place told)) a b =
-    absurd (good_no_fault one_reading capture a.c place told a.good b)
+    absurd (good_no_fault one_reading capture a.messages place told a.good b)
 one_answer capture tree order (Ok (Legal messages placed left)) (Ok (NotShown nth place told)) a b =
     verdict_same (Legal messages placed left) (NotShown nth place told) (one_judged capture tree order (Legal messages placed left) (NotShown nth place told) (judged_legal capture tree order messages placed left a) (judged_not_shown capture tree order nth place told b))
 one_answer capture tree order (Ok (Legal messages placed left)) (Err (TreeText other)) a b =
@@ -185,19 +186,19 @@ one_answer capture tree order (Ok (Legal messages placed left)) (Err (TreeText o
 one_answer capture tree order (Ok (Legal messages placed left)) (Err (OrderText other)) a b =
     absurd (order_text_has_no_fault order a.entries other a.text b.fault)
 one_answer capture tree order (Ok (Fault at code)) (Ok (Legal others entries rest)) a b =
-    absurd (good_no_fault one_reading capture b.c at code b.good a)
+    absurd (good_no_fault one_reading capture b.messages at code b.good a)
 one_answer capture tree order (Ok (Fault at code)) (Ok (Fault place told)) a b =
     fault_same at code place told (one_first_fault one_reading capture at code place told a b)
 one_answer capture tree order (Ok (Fault at code)) (Ok (NotShown nth place told)) a b =
-    absurd (good_no_fault one_reading capture b.c at code b.good a)
+    absurd (good_no_fault one_reading capture b.messages at code b.good a)
 one_answer capture tree order (Ok (Fault at code)) (Err (TreeText other)) a b =
-    absurd (good_no_fault one_reading capture b.c at code b.good a)
+    absurd (good_no_fault one_reading capture b.messages at code b.good a)
 one_answer capture tree order (Ok (Fault at code)) (Err (OrderText other)) a b =
-    absurd (good_no_fault one_reading capture b.c at code b.good a)
+    absurd (good_no_fault one_reading capture b.messages at code b.good a)
 one_answer capture tree order (Ok (NotShown entry at code)) (Ok (Legal others entries rest)) a b =
     verdict_same (NotShown entry at code) (Legal others entries rest) (one_judged capture tree order (NotShown entry at code) (Legal others entries rest) (judged_not_shown capture tree order entry at code a) (judged_legal capture tree order others entries rest b))
 one_answer capture tree order (Ok (NotShown entry at code)) (Ok (Fault place told)) a b =
-    absurd (good_no_fault one_reading capture a.c place told a.good b)
+    absurd (good_no_fault one_reading capture a.messages place told a.good b)
 one_answer capture tree order (Ok (NotShown entry at code)) (Ok (NotShown nth place told)) a b =
     verdict_same (NotShown entry at code) (NotShown nth place told) (one_judged capture tree order (NotShown entry at code) (NotShown nth place told) (judged_not_shown capture tree order entry at code a) (judged_not_shown capture tree order nth place told b))
 one_answer capture tree order (Ok (NotShown entry at code)) (Err (TreeText other)) a b =
@@ -207,7 +208,7 @@ one_answer capture tree order (Ok (NotShown entry at code)) (Err (OrderText othe
 one_answer capture tree order (Err (TreeText line)) (Ok (Legal others entries rest)) a b =
     absurd (given_no_fault tree b.first capture line b.given a)
 one_answer capture tree order (Err (TreeText line)) (Ok (Fault place told)) a b =
-    absurd (good_no_fault one_reading capture a.c place told a.good b)
+    absurd (good_no_fault one_reading capture a.messages place told a.good b)
 one_answer capture tree order (Err (TreeText line)) (Ok (NotShown nth place told)) a b =
     absurd (given_no_fault tree b.first capture line b.given a)
 one_answer capture tree order (Err (TreeText line)) (Err (TreeText other)) a b =
@@ -217,7 +218,7 @@ one_answer capture tree order (Err (TreeText line)) (Err (OrderText other)) a b 
 one_answer capture tree order (Err (OrderText line)) (Ok (Legal others entries rest)) a b =
     absurd (order_text_has_no_fault order b.entries line b.text a.fault)
 one_answer capture tree order (Err (OrderText line)) (Ok (Fault place told)) a b =
-    absurd (good_no_fault one_reading capture a.c place told a.good b)
+    absurd (good_no_fault one_reading capture a.messages place told a.good b)
 one_answer capture tree order (Err (OrderText line)) (Ok (NotShown nth place told)) a b =
     absurd (order_text_has_no_fault order b.entries line b.text a.fault)
 one_answer capture tree order (Err (OrderText line)) (Err (TreeText other)) a b =

@@ -12,7 +12,8 @@ use Rattle.fa_propose.specs.Laws.{ProposalIsOne}
 use Rattle.fa_audit.specs.declared.verdict.StartError.{StartError}
 use Rattle.fa_audit.specs.declared.verdict.StartError.TheVariants.{Fault, TreeText, Memory}
 use Rattle.fa_audit.specs.Verdict.{IsTreeTextAtFault, ExactlyRefused}
-use Rattle.fa_audit.specs.Proposed.{IsStart, IsProposed, OneProposalAnswer}
+use Rattle.fa_audit.specs.Proposed.{IsStart, IsProposed}
+use Rattle.fa_audit.specs.Laws.{OneProposalAnswer}
 use Rattle.fa_audit.specs.parts.Answers.{IsNoStart}
 use Rattle.fa_audit.proofs.OneAnswer.{one_first_fault, good_no_fault, one_good_capture, one_given, given_no_fault, tree_fault_same}
 
@@ -20,7 +21,7 @@ use Rattle.fa_audit.proofs.OneAnswer.{one_first_fault, good_no_fault, one_good_c
 
 -- where there is a start, the capture has no fault
 start_no_fault : (capture : List ℕ) (tree : Option (List ℕ)) (at code : ℕ) → IsStart capture tree → IsFirstFault capture at code → ⊥
-start_no_fault capture tree at code start fault = good_no_fault one_reading capture start.c at code start.good fault
+start_no_fault capture tree at code start fault = good_no_fault one_reading capture start.messages at code start.good fault
 
 -- nor has the tree text
 start_no_tree_fault : (capture : List ℕ) (tree : Option (List ℕ)) (line : ℕ) → IsStart capture tree → IsTreeTextAtFault capture tree line → ⊥
@@ -28,7 +29,7 @@ start_no_tree_fault capture tree line start fault = given_no_fault tree start.fi
 
 -- an order that is proposed has a start
 pub proposed_start : (capture : List ℕ) (tree : Option (List ℕ)) (text : List ℕ) → IsProposed capture tree text → IsStart capture tree
-proposed_start capture tree text p = record { c = p.c; first = p.first; good = p.good; given = p.given }
+proposed_start capture tree text p = record { messages = p.messages; first = p.first; good = p.good; given = p.given }
 
 -- ---- what the call answers
 
@@ -57,7 +58,7 @@ module _ {T : Type 0} (capture : List ℕ) (tree : Option (List ℕ)) where
   }
   exactly_fault (Err (TreeText line)) at code start none = record {
     only = λ same. absurd cc;
-    always = λ fault. absurd (good_no_fault one_reading capture none.c at code none.good fault);
+    always = λ fault. absurd (good_no_fault one_reading capture none.messages at code none.good fault);
   }
   exactly_fault (Err Memory) at code start none = record {
     only = λ same. absurd cc;
@@ -73,7 +74,7 @@ module _ {T : Type 0} (capture : List ℕ) (tree : Option (List ℕ)) where
   }
   exactly_tree_fault (Err (Fault place told)) line start none = record {
     only = λ same. absurd cc;
-    always = λ fault. absurd (good_no_fault one_reading capture fault.c place told fault.good none);
+    always = λ fault. absurd (good_no_fault one_reading capture fault.messages place told fault.good none);
   }
   exactly_tree_fault (Err (TreeText other)) line start none = record {
     only = λ same. let told_is : TreeText other ≡ TreeText line = cc in subst (IsNoStart capture tree) told_is none;
@@ -89,11 +90,11 @@ module _ {T : Type 0} (capture : List ℕ) (tree : Option (List ℕ)) where
 -- the text of an order that is proposed is one, since the proposal is
 one_proposed : ProposalIsOne → (capture : List ℕ) (tree : Option (List ℕ)) (text other : List ℕ) → IsProposed capture tree text → IsProposed capture tree other → text ≡ other
 one_proposed one capture tree text other x y =
-    let messages : x.c ≡ y.c = one_good_capture one_reading capture x.c y.c x.good y.good in
+    let messages : x.messages ≡ y.messages = one_good_capture one_reading capture x.messages y.messages x.good y.good in
     let first : x.first ≡ y.first = one_given tree x.first y.first x.given y.given in
-    let moved : IsProposal y.c y.first x.entries =
-    subst (λ (t : TreeState). IsProposal y.c t x.entries) first (subst (λ (c : List Message). IsProposal c x.first x.entries) messages x.proposal) in
-    let entries : x.entries ≡ y.entries = one y.c y.first x.entries y.entries moved y.proposal in
+    let moved : IsProposal y.messages y.first x.entries =
+    subst (λ (t : TreeState). IsProposal y.messages t x.entries) first (subst (λ (c : List Message). IsProposal c x.first x.entries) messages x.proposal) in
+    let entries : x.entries ≡ y.entries = one y.messages y.first x.entries y.entries moved y.proposal in
     x.spelled.spelled ∙ ap (λ (es : List Entry). order_text es) entries ∙ sym y.spelled.spelled
 
 pub one_proposal_answer : ProposalIsOne → OneProposalAnswer
@@ -106,9 +107,9 @@ one_proposal_answer one capture tree (Err (Fault at code)) (Err (Fault place tol
     let first : at ≡ place = same.0 in
     let second : code ≡ told = same.1 in
     cc
-one_proposal_answer one capture tree (Err (Fault at code)) (Err (TreeText line)) a b = absurd (good_no_fault one_reading capture b.c at code b.good a)
+one_proposal_answer one capture tree (Err (Fault at code)) (Err (TreeText line)) a b = absurd (good_no_fault one_reading capture b.messages at code b.good a)
 one_proposal_answer one capture tree (Err (TreeText line)) (Ok text) a b = absurd (start_no_tree_fault capture tree line (proposed_start capture tree text b) a)
-one_proposal_answer one capture tree (Err (TreeText line)) (Err (Fault at code)) a b = absurd (good_no_fault one_reading capture a.c at code a.good b)
+one_proposal_answer one capture tree (Err (TreeText line)) (Err (Fault at code)) a b = absurd (good_no_fault one_reading capture a.messages at code a.good b)
 one_proposal_answer one capture tree (Err (TreeText line)) (Err (TreeText other)) a b =
     ap (λ (n : ℕ). Err (TreeText n)) (tree_fault_same capture tree line other a b)
 one_proposal_answer one capture tree (Err Memory) b a _ = absurd a

@@ -8,8 +8,8 @@ use Rattle.fa_order.specs.declared.entry.Entry.{Entry}
 use Rattle.fa_order.specs.Order.{IsOrderText}
 use Rattle.fa_ledger.specs.declared.calls.Calls.{Calls}
 use Rattle.fa_propose.specs.Proposals.{IsProposal}
-use Rattle.fa_audit.specs.declared.run.RunFault.{RunFault}
-use Rattle.fa_audit.specs.declared.run.TheConstants.{MAX_INPUT_BYTES}
+use Rattle.fa_audit.specs.declared.running.RunFault.{RunFault}
+use Rattle.fa_audit.specs.declared.running.TheConstants.{MAX_INPUT_BYTES}
 use Rattle.fa_check.specs.declared.verdict.Verdict.{Verdict}
 use Rattle.fa_audit.specs.declared.verdict.AuditError.{AuditError}
 use Rattle.fa_audit.specs.declared.verdict.AuditError.TheVariants as errors
@@ -21,9 +21,9 @@ use Rattle.fa_audit.specs.parts.Answers.{IsStartOf, text_answered}
 
 -- the text of the entries that are proposed
 pub text_proposed : (capture : List ℕ) (tree : Option (List ℕ)) (calls : Calls) (first : TreeState) (es : List Entry) (text : List ℕ)
-    → (start : IsStartOf capture tree calls first) → IsProposal start.c first es → IsOrderText text es → IsProposed capture tree text
+    → (start : IsStartOf capture tree calls first) → IsProposal start.messages first es → IsOrderText text es → IsProposed capture tree text
 text_proposed capture tree calls first es text start proposal spelled = record {
-  c = start.c;
+  messages = start.messages;
   first = first;
   entries = es;
   good = start.good;

@@ -3,7 +3,7 @@ use Rattle.std.proofs.Common.{◌≡◌, ℕ, zero, suc, ◌<◌, ◌≤◌, ◌
 use Rattle.std.specs.Prelude.{slice_get}
 use Rattle.std.specs.Option.{option_map}
 use Rattle.std.proofs.lemmas.Option.{slice_get_within, slice_get-map}
-use Rattle.std.proofs.lemmas.List.{length-map, length-take, take_all}
+use Rattle.std.proofs.lemmas.List.{length-map, length-take, take-take, take_all}
 use Rattle.fa_capture.specs.declared.limits.TheConstants.{MAX_MESSAGES}
 use Rattle.fa_capture.specs.declared.packet.Packet.{Packet}
 use Rattle.fa_capture.specs.Message.{Message, message, messages}
@@ -18,9 +18,7 @@ use Rattle.fa_ledger.specs.Passing.{ledger_checks, Passes, EachPasses, IsMessage
 use Rattle.fa_ledger.specs.Plain.{PlainLedger}
 use Rattle.fa_ledger.specs.Refusals.{IsNext}
 use Rattle.fa_audit.specs.parts.Protocol.{ShowBoth, session_refusal, IsRefusal}
-use Rattle.fa_capture.proofs.CallerLemmas.{fails_first}
-use Rattle.fa_session.proofs.CallerLemmas.{get_in_front}
-use Rattle.fa_ledger.proofs.CallerLemmas.{take_front}
+use Rattle.fa_capture.proofs.CallerLemmas.{fails_first, get_in_front}
 use Rattle.fa_audit.specs.declared.protocol.MessageError.{MessageError}
 use Rattle.fa_audit.specs.declared.protocol.MessageError.TheVariants.{Refused}
 
@@ -59,7 +57,7 @@ fewer_before packets i p is few =
 good_front : (c : List Message) (i : ℕ) (s : PlainSession) (l : PlainLedger) → i ≤ length c → ShowBoth (take i c) s l → EachPasses c i
 good_front c i s l within both k m below is =
     let long = length-take i c in
-    subst (λ before. Passes before m) (take_front c k i (omega (arith, below)))
+    subst (λ before. Passes before m) (take-take k i c (omega (arith, below)))
     (both.ledger.good k m (omega (arith, below, within, long)) (get_in_front c i k m below is))
 
 -- the message that was refused behind messages that are shown

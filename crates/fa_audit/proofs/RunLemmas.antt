@@ -3,8 +3,8 @@ use Rattle.std.proofs.Common.{◌≡◌, ◌≢◌, ℕ, ◌≤◌, ◌⊎◌, i
 use Rattle.fa_check.specs.declared.verdict.Verdict.{Verdict}
 use Rattle.fa_audit.specs.declared.verdict.AuditError.{AuditError}
 use Rattle.fa_audit.specs.declared.verdict.AuditError.TheVariants.{Memory}
-use Rattle.fa_audit.specs.declared.run.RunFault.{RunFault}
-use Rattle.fa_audit.specs.declared.run.TheConstants.{MAX_INPUT_BYTES}
+use Rattle.fa_audit.specs.declared.running.RunFault.{RunFault}
+use Rattle.fa_audit.specs.declared.running.TheConstants.{MAX_INPUT_BYTES}
 use Rattle.fa_audit.specs.Verdict.{IsAnswer}
 use Rattle.fa_audit.specs.Run.{IsTold, IsAudited}
 

@@ -22,25 +22,25 @@ use Rattle.fa_audit.specs.Run.{line_feed, IsRead}
 
 -- the capture is good, and the order text is in its grammar
 pub record IsCuttable (capture order : List ℕ) : Type 0 where
-  pub c : List Message
+  pub messages : List Message
   pub entries : List Entry
-  pub good : IsGoodCapture capture c
+  pub good : IsGoodCapture capture messages
   pub text : IsOrderText order entries
 
 -- The capture is good, the order text is in its grammar, and this is the text of what is left of the order where it is cut at message m.
 pub record IsCutText (capture order : List ℕ) (m : ℕ) (text : List ℕ) : Type 0 where
-  pub c : List Message
+  pub messages : List Message
   pub entries : List Entry
   pub left : List Entry
-  pub good : IsGoodCapture capture c
+  pub good : IsGoodCapture capture messages
   pub order_text : IsOrderText order entries
-  pub is_cut : IsCut c m entries left
+  pub is_cut : IsCut messages m entries left
   pub spelled : IsOrderText text left
 
 -- the capture is good, and the order text is at fault in this line
 pub record IsUncutAtLine (capture order : List ℕ) (line : ℕ) : Type 0 where
-  pub c : List Message
-  pub good : IsGoodCapture capture c
+  pub messages : List Message
+  pub good : IsGoodCapture capture messages
   pub fault : IsOrderFault order line
 
 -- What each answer says: an order text, the first fault of the capture, or that of the order text. That memory was refused is no
@@ -50,10 +50,6 @@ IsCutAnswer capture order m (Ok text) = IsCutText capture order m text
 IsCutAnswer capture order m (Err (Fault at code)) = IsFirstFault capture at code
 IsCutAnswer capture order m (Err (OrderText line)) = IsUncutAtLine capture order line
 IsCutAnswer capture order m (Err Memory) = ⊥
-
--- a capture, an order text and a message have one answer at most
-abbrev pub OneCutAnswer : Type 0
-OneCutAnswer = (capture order : List ℕ) (m : ℕ) (a b : Result (List ℕ) CutError) → IsCutAnswer capture order m a → IsCutAnswer capture order m b → a ≡ b
 
 -- ---- what is written
 

@@ -12,5 +12,7 @@ pub mod Proposed
 pub mod CutOrders
 -- what a run writes that cuts a capture
 pub mod Fronts
+-- the statements of the laws
+pub mod Laws
 -- the vocabulary of private contracts
 pub mod parts

@@ -24,20 +24,20 @@ use Rattle.fa_audit.specs.Run.{line_feed, IsRead}
 
 -- the capture is good, and a tree text that is handed in is in its grammar
 pub record IsStart (capture : List ℕ) (tree : Option (List ℕ)) : Type 0 where
-  pub c : List Message
+  pub messages : List Message
   pub first : TreeState
-  pub good : IsGoodCapture capture c
+  pub good : IsGoodCapture capture messages
   pub given : IsGivenTree tree first
 
 -- The capture is good, a tree text that is handed in is in its grammar, and this is the text of the order that is proposed for the
 -- messages and the given tree.
 pub record IsProposed (capture : List ℕ) (tree : Option (List ℕ)) (text : List ℕ) : Type 0 where
-  pub c : List Message
+  pub messages : List Message
   pub first : TreeState
   pub entries : List Entry
-  pub good : IsGoodCapture capture c
+  pub good : IsGoodCapture capture messages
   pub given : IsGivenTree tree first
-  pub proposal : IsProposal c first entries
+  pub proposal : IsProposal messages first entries
   pub spelled : IsOrderText text entries
 
 -- What each answer says: an order text, the first fault of the capture, or that of the tree text. That memory was refused is no
@@ -47,11 +47,6 @@ IsProposalAnswer capture tree (Ok text) = IsProposed capture tree text
 IsProposalAnswer capture tree (Err (Fault at code)) = IsFirstFault capture at code
 IsProposalAnswer capture tree (Err (TreeText line)) = IsTreeTextAtFault capture tree line
 IsProposalAnswer capture tree (Err Memory) = ⊥
-
--- a capture and a tree text or none have one answer at most
-abbrev pub OneProposalAnswer : Type 0
-OneProposalAnswer =
-    (capture : List ℕ) (tree : Option (List ℕ)) (a b : Result (List ℕ) StartError) → IsProposalAnswer capture tree a → IsProposalAnswer capture tree b → a ≡ b
 
 -- ---- what is written
 

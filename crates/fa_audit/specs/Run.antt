@@ -7,9 +7,9 @@ use Rattle.fa_capture.specs.declared.input.ReadError.{ReadError}
 use Rattle.fa_capture.specs.declared.input.ReadError.TheVariants.{Failed, TooLong, Turns, Memory}
 use Rattle.fa_check.specs.declared.verdict.Verdict.{Verdict}
 use Rattle.fa_audit.specs.declared.verdict.AuditError.{AuditError}
-use Rattle.fa_audit.specs.declared.run.RunFault.{RunFault}
-use Rattle.fa_audit.specs.declared.run.RunFault.TheVariants as faults
-use Rattle.fa_audit.specs.declared.run.TheConstants.{MAX_INPUT_BYTES}
+use Rattle.fa_audit.specs.declared.running.RunFault.{RunFault}
+use Rattle.fa_audit.specs.declared.running.RunFault.TheVariants as faults
+use Rattle.fa_audit.specs.declared.running.TheConstants.{MAX_INPUT_BYTES}
 use Rattle.fa_audit.specs.Verdict.{IsAnswer}
 use Rattle.fa_audit.specs.Line.{answer_line, answer_status}
 

@@ -1,6 +1,12 @@
 -- The answers of the audit, each by what it says of the capture, of the tree text if one is handed in, and of the order text. It
 -- is the page to read first: each of its words stands one step away.
-use Rattle.std.specs.Prelude.{◌≡◌, ℕ, ◌<◌, ◌⊎◌, List, All, length, Option, None, Some, Result, Ok, Err, IsErrOf}
+--
+-- How the signs read, here and one step away: `X : A → B → Type 0` says that X is a statement about an A and a B, and the lines under it
+-- say which, case by case; a `record` is the statement that there are such values as its fields name (here messages, a first tree,
+-- entries) for which all its other fields hold. `a ≡ b` is `a equals b`; `P × Q` is `both hold`, `P ⊎ Q` is `one of them does`, and `⊥`
+-- is what never holds. In a statement `P → Q` is `where P holds, Q does`, so `P → ⊥` is `P does not hold`; `(n : ℕ) → P n` is `for each
+-- number n`, and `λ b. P b` the condition P on its b. A `List ℕ` is a list of numbers, as bytes are here; `Option` and `Result` are Rust's.
+use Rattle.std.specs.Prelude.{◌≡◌, ℕ, ◌⊎◌, List, length, Option, None, Some, Result, Ok, Err, IsErrOf}
 use Rattle.fa_capture.specs.Message.{Message}
 use Rattle.fa_ledger.specs.Passing.{IsGoodCapture, IsFirstFault}
 use Rattle.fa_tree.specs.State.{TreeState}
@@ -28,46 +34,46 @@ IsGivenTree (Some text) first = IsTreeText text first
 -- no file handle that was closed is used), and the order, with all answered tree requests and some of the others, each placed after
 -- those that were answered before it was sent, is a run of the tree machine from the given tree which gives every recorded reply.
 -- With the numbers of the messages, of the entries, and of the unanswered tree requests that are in no entry.
-pub record IsLegal (capture : List ℕ) (tree : Option (List ℕ)) (order : List ℕ) (messages placed left : ℕ) : Type 0 where
-  pub c : List Message
+pub record IsLegal (capture : List ℕ) (tree : Option (List ℕ)) (order : List ℕ) (count placed left : ℕ) : Type 0 where
+  pub messages : List Message
   pub first : TreeState
   pub last : TreeState
   pub entries : List Entry
-  pub good : IsGoodCapture capture c
+  pub good : IsGoodCapture capture messages
   pub given : IsGivenTree tree first
   pub text : IsOrderText order entries
-  pub valid : IsValidOrder c entries
-  pub run : Runs first last c entries
-  pub messages_are : messages ≡ length c
+  pub valid : IsValidOrder messages entries
+  pub run : Runs first last messages entries
+  pub count_is : count ≡ length messages
   pub placed_are : placed ≡ length entries
-  pub left_are : Counts (IsUnansweredUnplaced c entries) left
+  pub left_are : Counts (IsUnansweredUnplaced messages entries) left
 
 -- the capture is good, and the tree text that is handed in is at fault in this line
 pub record IsTreeTextAtFault (capture : List ℕ) (tree : Option (List ℕ)) (line : ℕ) : Type 0 where
-  pub c : List Message
+  pub messages : List Message
   pub text : List ℕ
-  pub good : IsGoodCapture capture c
+  pub good : IsGoodCapture capture messages
   pub handed_in : tree ≡ Some text
   pub fault : IsTreeFault text line
 
 -- the capture is good, a tree text that is handed in is in its grammar, and the order text is at fault in this line
 pub record IsOrderTextAtFault (capture : List ℕ) (tree : Option (List ℕ)) (order : List ℕ) (line : ℕ) : Type 0 where
-  pub c : List Message
+  pub messages : List Message
   pub first : TreeState
-  pub good : IsGoodCapture capture c
+  pub good : IsGoodCapture capture messages
   pub given : IsGivenTree tree first
   pub fault : IsOrderFault order line
 
 -- The capture is good, the texts are in their grammar, and this is the first entry at fault with the first check that it fails; or
 -- the number of the entries and, with the code ANSWERED_LEFT_OUT, the least answered request that they leave out.
 pub record IsNotShown (capture : List ℕ) (tree : Option (List ℕ)) (order : List ℕ) (entry at code : ℕ) : Type 0 where
-  pub c : List Message
+  pub messages : List Message
   pub first : TreeState
   pub entries : List Entry
-  pub good : IsGoodCapture capture c
+  pub good : IsGoodCapture capture messages
   pub given : IsGivenTree tree first
   pub text : IsOrderText order entries
-  pub fault : IsOrderAtFault c first entries entry at code
+  pub fault : IsOrderAtFault messages first entries entry at code
 
 -- What each answer says. The fault of a capture is at the least number of a message that does not keep the protocol, with the
 -- first check that it fails, or where the framing ends. That memory was refused is no answer.
@@ -89,15 +95,3 @@ pub record Exactly (result : Result Verdict AuditError) (answer : Result Verdict
 pub record ExactlyRefused {T E : Type 0} (result : Result T E) (memory error : E) (Fact : Type 0) : Type 0 where
   pub only : IsErrOf result error → Fact
   pub always : Fact → IsErrOf result error ⊎ IsErrOf result memory
-
--- a capture, a tree text or none and an order text have one answer at most
-abbrev pub OneAnswer : Type 0
-OneAnswer =
-    (capture : List ℕ) (tree : Option (List ℕ)) (order : List ℕ) (a b : Result Verdict AuditError)
-    → IsAnswer capture tree order a → IsAnswer capture tree order b → a ≡ b
-
--- A capture of bytes, a tree text or none and an order text have never no answer. A list with a number above 255 is none of bytes.
-abbrev pub AnswerIsThere : Type 0
-AnswerIsThere =
-    (capture : List ℕ) (tree : Option (List ℕ)) (order : List ℕ) → All (λ b. b < 256) capture
-    → ((answer : Result Verdict AuditError) → IsAnswer capture tree order answer → ⊥) → ⊥

@@ -11,7 +11,7 @@ ghost use Rattle.fa_audit.specs.CutOrders.{IsCuttable, IsCutText, IsUncutAtLine,
 ghost use Rattle.fa_audit.specs.parts.Answers.{IsNoCut, text_answered};
 
 use crate::judge::good_calls;
-use crate::run::{RunFault, input_bytes, tell};
+use crate::running::{RunFault, input_bytes, tell};
 use crate::status::Status;
 use crate::verdict::CutError;
 use fa_capture::{Input, Output};
@@ -21,7 +21,7 @@ use std::alloc::Global;
 
 /// The text of what is left of an order for the first `messages` messages of a capture.
 ///
-/// The whole capture is judged and the order text is read as [`audit`](crate::judge::audit) does it, without a tree. What is left is that
+/// The whole capture is judged and the order text is read as [`audit`](crate::audit) does it, without a tree. What is left is that
 /// of [`cut`](fa_check::cut): where the order is legal for the capture, it is legal for these messages. The order text has at most
 /// 268,435,456 bytes.
 ///
@@ -34,7 +34,7 @@ use std::alloc::Global;
 ///
 /// # Cost
 ///
-/// That of [`audit`](crate::judge::audit) up to the tree text, of [`read_order`], of [`cut`](fa_check::cut) and of [`write_order`].
+/// That of [`audit`](crate::audit) up to the tree text, of [`read_order`], of [`cut`](fa_check::cut) and of [`write_order`].
 pub fn cut_order(
     alloc: Global,
     capture: &[u8],
@@ -98,7 +98,7 @@ fn tell_cut<W: Output>(
 /// and answers the status.
 ///
 /// Where the capture has a fault or the order text is not in its grammar, the line of the fault and a line feed are written, as
-/// [`run`](crate::run::run) writes them. The status is 0 with an order text, 1 at a fault of the capture, and 3 where the order text is
+/// [`run`](crate::run) writes them. The status is 0 with an order text, 1 at a fault of the capture, and 3 where the order text is
 /// not in its grammar. All inputs are read to their end before anything is judged, and no tree is read. No mark of an input or of the
 /// output is set at the call.
 ///
@@ -108,7 +108,7 @@ fn tell_cut<W: Output>(
 /// # Errors
 ///
 /// - [`RunFault::Read`] where an input failed, did not come to its end, or has more than
-///   [`MAX_INPUT_BYTES`](crate::run::MAX_INPUT_BYTES) bytes.
+///   [`MAX_INPUT_BYTES`](crate::MAX_INPUT_BYTES) bytes.
 /// - [`RunFault::Write`] where the output did not take the whole text.
 /// - [`RunFault::Memory`] where memory was refused.
 ///

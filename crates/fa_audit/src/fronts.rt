@@ -5,7 +5,7 @@ ghost use Rattle.std.specs.Io.KnownBytes.{IsAtEnd, Keeps};
 ghost use Rattle.fa_audit.specs.Run.{IsUnread};
 ghost use Rattle.fa_audit.specs.Fronts.{IsFrontTold, IsFrontFrom};
 
-use crate::run::{RunFault, input_bytes, tell};
+use crate::running::{RunFault, input_bytes, tell};
 use crate::status::Status;
 use fa_capture::{Input, Output, codes, front};
 use fa_check::Verdict;
@@ -41,7 +41,7 @@ fn tell_front<W: Output>(
 ///
 /// That is the magic with the first whole records, or with all whole records where there are fewer. No message is judged, so that a
 /// capture may be cut before one that is at fault. Where the bytes don't begin with the magic, the line of that fault and a line feed are
-/// written, as [`run`](crate::run::run) writes them. The status is 0 with a capture and 1 with a fault. The input is read to its end before
+/// written, as [`run`](crate::run) writes them. The status is 0 with a capture and 1 with a fault. The input is read to its end before
 /// anything is written. No mark of the input or of the output is set at the call.
 ///
 /// Which bytes were read and written is said where the input and the output tell their bytes, as those over memory do. Files and
@@ -50,7 +50,7 @@ fn tell_front<W: Output>(
 /// # Errors
 ///
 /// - [`RunFault::Read`] where the input failed, did not come to its end, or has more than
-///   [`MAX_INPUT_BYTES`](crate::run::MAX_INPUT_BYTES) bytes.
+///   [`MAX_INPUT_BYTES`](crate::MAX_INPUT_BYTES) bytes.
 /// - [`RunFault::Write`] where the output did not take all bytes.
 /// - [`RunFault::Memory`] where memory was refused.
 ///

@@ -2,10 +2,8 @@
 
 ghost use Rattle.std.specs.Prelude.{◌≡◌};
 ghost use Rattle.fa_audit.specs.declared.judge.TheConstants.{ROOT_BITS};
-ghost use Rattle.fa_audit.specs.declared.run.TheConstants.{MAX_INPUT_BYTES};
-ghost use Rattle.fa_audit.specs.Verdict.{OneAnswer, AnswerIsThere};
-ghost use Rattle.fa_audit.specs.Proposed.{OneProposalAnswer};
-ghost use Rattle.fa_audit.specs.CutOrders.{OneCutAnswer};
+ghost use Rattle.fa_audit.specs.declared.running.TheConstants.{MAX_INPUT_BYTES};
+ghost use Rattle.fa_audit.specs.Laws.{OneAnswer, AnswerIsThere, OneProposalAnswer, OneCutAnswer};
 
 /// A capture, a tree text or none and an order text have one answer at most.
 pub fn one_answer()

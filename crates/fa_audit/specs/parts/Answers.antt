@@ -31,9 +31,9 @@ Tells capture tree order (Err Memory) = Unit {0}
 
 -- the calls are those of a good capture
 pub record AreCallsOf (capture : List ℕ) (calls : Calls) : Type 0 where
-  pub c : List Message
-  pub good : IsGoodCapture capture c
-  pub are : AreMessagesOf calls c
+  pub messages : List Message
+  pub good : IsGoodCapture capture messages
+  pub are : AreMessagesOf calls messages
 
 -- the capture has this fault; of memory nothing is said
 abbrev pub IsCaptureRefused : (capture : List ℕ) → Broken → Type 0
@@ -63,9 +63,9 @@ IsNoCut capture order cuts.Memory = Unit {0}
 
 -- the calls are those of a good capture, and the tree is the given one
 pub record IsStartOf (capture : List ℕ) (tree : Option (List ℕ)) (calls : Calls) (first : TreeState) : Type 0 where
-  pub c : List Message
-  pub good : IsGoodCapture capture c
-  pub are : AreMessagesOf calls c
+  pub messages : List Message
+  pub good : IsGoodCapture capture messages
+  pub are : AreMessagesOf calls messages
   pub given : IsGivenTree tree first
 
 -- the capture or the tree text that is handed in has this fault; of memory nothing is said

@@ -17,5 +17,5 @@ pub returns-clause-text : goal.returns-clause-text
 returns-clause-text c =
     let of = c.in_ok-calls.ensures.good in
     text_left c.args.capture.now c.args.order.now c.args.messages c.in_ok-calls.calls c.in_ok-entries.entries.items c.in_ok-left.left.items _ of
-    c.in_ok-entries.ensures.found (rw (← c.deref.ensures.value) (c.in_ok-left.ensures of.c of.are))
+    c.in_ok-entries.ensures.found (rw (← c.deref.ensures.value) (c.in_ok-left.ensures of.messages of.are))
     (rw (← c.deref-2.ensures.value) c.in_ok-write_order.ensures)

@@ -1,0 +1,30 @@
+-- The statements of the laws.
+use Rattle.std.specs.Prelude.{◌≡◌, ℕ, ◌<◌, List, All, Option, Result}
+use Rattle.fa_check.specs.declared.verdict.Verdict.{Verdict}
+use Rattle.fa_audit.specs.declared.verdict.AuditError.{AuditError}
+use Rattle.fa_audit.specs.declared.verdict.StartError.{StartError}
+use Rattle.fa_audit.specs.declared.verdict.CutError.{CutError}
+use Rattle.fa_audit.specs.Verdict.{IsAnswer}
+use Rattle.fa_audit.specs.Proposed.{IsProposalAnswer}
+use Rattle.fa_audit.specs.CutOrders.{IsCutAnswer}
+
+-- a capture, a tree text or none and an order text have one answer at most
+abbrev pub OneAnswer : Type 0
+OneAnswer =
+    (capture : List ℕ) (tree : Option (List ℕ)) (order : List ℕ) (a b : Result Verdict AuditError)
+    → IsAnswer capture tree order a → IsAnswer capture tree order b → a ≡ b
+
+-- A capture of bytes, a tree text or none and an order text have never no answer. A list with a number above 255 is none of bytes.
+abbrev pub AnswerIsThere : Type 0
+AnswerIsThere =
+    (capture : List ℕ) (tree : Option (List ℕ)) (order : List ℕ) → All (λ b. b < 256) capture
+    → ((answer : Result Verdict AuditError) → IsAnswer capture tree order answer → ⊥) → ⊥
+
+-- a capture and a tree text or none have one answer at most
+abbrev pub OneProposalAnswer : Type 0
+OneProposalAnswer =
+    (capture : List ℕ) (tree : Option (List ℕ)) (a b : Result (List ℕ) StartError) → IsProposalAnswer capture tree a → IsProposalAnswer capture tree b → a ≡ b
+
+-- a capture, an order text and a message have one answer at most
+abbrev pub OneCutAnswer : Type 0
+OneCutAnswer = (capture order : List ℕ) (m : ℕ) (a b : Result (List ℕ) CutError) → IsCutAnswer capture order m a → IsCutAnswer capture order m b → a ≡ b

@@ -1,0 +1,289 @@
+//! An audit from its inputs to the line that tells its answer.
+
+ghost use Rattle.std.specs.Prelude.{◌≡◌, ◌≢◌, ◌≤◌, ◌↔◌, ◌⊎◌, true, false, None, vec_len, string_bytes, IfOk, IfErr, IfSome, OnOk, IsErrOf};
+ghost use Rattle.std.specs.Io.KnownBytes.{IsAtEnd, Keeps};
+ghost use Rattle.fa_audit.specs.Line.{IsCoded, answer_line, answer_status};
+ghost use Rattle.fa_audit.specs.Status.{status_number};
+ghost use Rattle.fa_audit.specs.Run.{IsTold, IfHandedIn, IsHandedIn, IsSomeRead, IsReadIfAny, IsAudited, IsUnread};
+
+use crate::judge::audit;
+use crate::line::{order_fault_text, tree_fault_text, verdict_text};
+use crate::status::Status;
+use crate::verdict::AuditError;
+use fa_capture::{Broken, Input, Output, ReadError, read_all};
+use fa_check::Verdict;
+use std::alloc::{AllocError, AllocFailed, Global};
+use thiserror::Error;
+
+/// How many bytes an input may have.
+pub const MAX_INPUT_BYTES: usize = 268_435_456;
+
+/// Why no answer was told.
+#[derive(Clone, Copy, Debug, PartialEq, Eq, Hash, Error)]
+pub enum RunFault {
+    /// An input could not be opened or read to its end, or has more than [`MAX_INPUT_BYTES`] bytes.
+    #[error("read")]
+    Read,
+    /// The output did not take the whole text.
+    #[error("write")]
+    Write,
+    /// Memory was refused.
+    #[error("memory")]
+    Memory,
+}
+
+impl From<AllocError> for RunFault {
+    ghost use Rattle.std.specs.Prelude.{◌≡◌};
+    ghost use Rattle.fa_audit.specs.declared.running.RunFault.TheVariants.{Memory};
+
+    ghost from_gives = { λ _ e. e ≡ Memory };
+
+    fn from(_: AllocError) -> RunFault {
+        RunFault::Memory
+    }
+}
+
+impl<T: Drop> From<AllocFailed<T>> for RunFault {
+    ghost use Rattle.std.specs.Prelude.{◌≡◌};
+    ghost use Rattle.fa_audit.specs.declared.running.RunFault.TheVariants.{Memory};
+
+    ghost from_gives = { λ _ e. e ≡ Memory };
+
+    fn from(_: AllocFailed<T>) -> RunFault {
+        RunFault::Memory
+    }
+}
+
+impl From<ReadError> for RunFault {
+    ghost use Rattle.fa_audit.specs.Run.{IsReadFault};
+
+    ghost from_gives = { IsReadFault };
+
+    fn from(error: ReadError) -> RunFault {
+        match error {
+            ReadError::Memory => RunFault::Memory,
+            ReadError::Failed | ReadError::TooLong | ReadError::Turns => RunFault::Read,
+        }
+    }
+}
+
+impl From<Broken> for RunFault {
+    ghost use Rattle.std.specs.Prelude.{◌≡◌};
+    ghost use Rattle.fa_audit.specs.declared.running.RunFault.TheVariants.{Write};
+
+    ghost from_gives = { λ _ e. e ≡ Write };
+
+    fn from(_: Broken) -> RunFault {
+        RunFault::Write
+    }
+}
+
+/// The status of a verdict.
+fn status_of(verdict: Verdict) -> Status
+    ensures { status_number result ≡ answer_status (Ok verdict) }
+{
+    match verdict {
+        Verdict::Legal { .. } => Status::Legal,
+        Verdict::Fault { .. } => Status::Fault,
+        Verdict::NotShown { .. } => Status::NotShown,
+    }
+}
+
+/// The whole of an input of at most [`MAX_INPUT_BYTES`] bytes.
+pub(crate) fn input_bytes<R: Input>(alloc: Global, input: &mut R) -> Result<Vec<u8>, RunFault>
+    requires unfailed { R.has_failed input.old ≡ false }
+    requires uninterrupted { R.was_interrupted input.old ≡ false }
+    ensures bytes { IfOk result (λ v. IfSome (R.remaining input.old) (λ bytes. v.items ≡ bytes)) }
+    ensures within { IfOk result (λ v. vec_len v ≤ MAX_INPUT_BYTES) }
+    ensures end { OnOk result (IsAtEnd (R.remaining input.new)) }
+    ensures read { IsErrOf result RunFault.Read →
+        IsUnread (R.remaining input.old) (R.has_failed input.new) (R.was_interrupted input.new) }
+    ensures failed { R.has_failed input.new ≡ true → IsErrOf result RunFault.Read }
+    ensures write { IsErrOf result RunFault.Write → ⊥ }
+{
+    Ok(read_all(alloc, input, MAX_INPUT_BYTES)?)
+}
+
+/// The line that tells an answer of [`audit`], without a line feed, and its status.
+///
+/// # Errors
+///
+/// [`RunFault::Memory`] where memory was refused: to the answer, or to its line.
+///
+/// # Cost
+///
+/// Time and memory for the line.
+pub fn line_and_status(
+    alloc: Global,
+    answer: Result<Verdict, AuditError>,
+) -> Result<(String, Status), RunFault>
+    requires { IfOk answer IsCoded }
+    ensures line { IfOk result (λ told. string_bytes told.0 ≡ answer_line answer) }
+    ensures status { IfOk result (λ told. status_number told.1 ≡ answer_status answer) }
+    ensures answered { OnOk result (answer ≢ Err AuditError.Memory) }
+    ensures memory { IfErr result (λ fault. fault ≡ RunFault.Memory) }
+{
+    match answer {
+        Ok(verdict) => Ok((verdict_text(alloc, &verdict)?, status_of(verdict))),
+        Err(AuditError::TreeText { line }) => Ok((tree_fault_text(alloc, line)?, Status::Text)),
+        Err(AuditError::OrderText { line }) => Ok((order_fault_text(alloc, line)?, Status::Text)),
+        Err(AuditError::Memory) => Err(RunFault::Memory),
+    }
+}
+
+/// Writes the line of an answer and a line feed: the status of the answer.
+pub(crate) fn tell<W: Output>(
+    alloc: Global,
+    answer: Result<Verdict, AuditError>,
+    out: &mut W,
+) -> Result<u8, RunFault>
+    requires coded { IfOk answer IsCoded }
+    requires unbroken { W.is_broken out.old ≡ false }
+    ensures told { IfOk result (IsTold answer (W.written out.old) (W.written out.new)) }
+    ensures answered { OnOk result (answer ≢ Err AuditError.Memory) }
+    ensures memory { IsErrOf result RunFault.Memory →
+        Keeps (W.written out.old) (W.written out.new) }
+    ensures read { IsErrOf result RunFault.Read → ⊥ }
+    ensures write { IsErrOf result RunFault.Write ↔ (W.is_broken out.new ≡ true) }
+{
+    let (mut line, status) = line_and_status(alloc, answer)?;
+    line.push('\n')?;
+    out.put(line.as_bytes())?;
+    Ok(status.number())
+}
+
+/// Reads the capture and then the order, and tells what the audit answers of them on an empty root.
+fn run_on_empty_root<R: Input, W: Output>(
+    alloc: Global,
+    capture: &mut R,
+    order: &mut R,
+    out: &mut W,
+) -> Result<u8, RunFault>
+    requires capture_unfailed { R.has_failed capture.old ≡ false }
+    requires capture_uninterrupted { R.was_interrupted capture.old ≡ false }
+    requires order_unfailed { R.has_failed order.old ≡ false }
+    requires order_uninterrupted { R.was_interrupted order.old ≡ false }
+    requires unbroken { W.is_broken out.old ≡ false }
+    ensures told { IfOk result (IsAudited (R.remaining capture.old) (λ read. read ≡ None) (R.remaining order.old)
+        (W.written out.old) (W.written out.new)) }
+    ensures end { OnOk result (IsAtEnd (R.remaining capture.new) × IsAtEnd (R.remaining order.new)) }
+    ensures capture_first { R.has_failed capture.new ≡ true → order.new ≡ order.old }
+    ensures read { IsErrOf result RunFault.Read →
+        IsUnread (R.remaining capture.old) (R.has_failed capture.new) (R.was_interrupted capture.new)
+        ⊎ IsUnread (R.remaining order.old) (R.has_failed order.new) (R.was_interrupted order.new) }
+    ensures failed { (R.has_failed capture.new ≡ true) ⊎ (R.has_failed order.new ≡ true) →
+        IsErrOf result RunFault.Read }
+    ensures write { IsErrOf result RunFault.Write ↔ (W.is_broken out.new ≡ true) }
+    ensures unread { IsErrOf result RunFault.Read → Keeps (W.written out.old) (W.written out.new) }
+    ensures refused { IsErrOf result RunFault.Memory → Keeps (W.written out.old) (W.written out.new) }
+{
+    let capture = input_bytes(alloc, capture)?;
+    let order = input_bytes(alloc, order)?;
+    tell(alloc, audit(alloc, &capture, None, &order), out)
+}
+
+/// Reads the capture, the tree and then the order, and tells what the audit answers of them.
+fn run_on_tree<R: Input, W: Output>(
+    alloc: Global,
+    capture: &mut R,
+    tree: &mut R,
+    order: &mut R,
+    out: &mut W,
+) -> Result<u8, RunFault>
+    requires capture_unfailed { R.has_failed capture.old ≡ false }
+    requires capture_uninterrupted { R.was_interrupted capture.old ≡ false }
+    requires tree_unfailed { R.has_failed tree.old ≡ false }
+    requires tree_uninterrupted { R.was_interrupted tree.old ≡ false }
+    requires order_unfailed { R.has_failed order.old ≡ false }
+    requires order_uninterrupted { R.was_interrupted order.old ≡ false }
+    requires unbroken { W.is_broken out.old ≡ false }
+    ensures told { IfOk result (IsAudited (R.remaining capture.old) (IsSomeRead (R.remaining tree.old)) (R.remaining order.old)
+        (W.written out.old) (W.written out.new)) }
+    ensures end { OnOk result (IsAtEnd (R.remaining capture.new) × IsAtEnd (R.remaining tree.new) × IsAtEnd (R.remaining order.new)) }
+    ensures capture_first { R.has_failed capture.new ≡ true → (tree.new ≡ tree.old) × (order.new ≡ order.old) }
+    ensures tree_first { R.has_failed tree.new ≡ true → order.new ≡ order.old }
+    ensures read { IsErrOf result RunFault.Read →
+        IsUnread (R.remaining capture.old) (R.has_failed capture.new) (R.was_interrupted capture.new)
+        ⊎ IsUnread (R.remaining tree.old) (R.has_failed tree.new) (R.was_interrupted tree.new)
+        ⊎ IsUnread (R.remaining order.old) (R.has_failed order.new) (R.was_interrupted order.new) }
+    ensures failed { (R.has_failed capture.new ≡ true) ⊎ (R.has_failed tree.new ≡ true) ⊎ (R.has_failed order.new ≡ true) →
+        IsErrOf result RunFault.Read }
+    ensures write { IsErrOf result RunFault.Write ↔ (W.is_broken out.new ≡ true) }
+    ensures unread { IsErrOf result RunFault.Read → Keeps (W.written out.old) (W.written out.new) }
+    ensures refused { IsErrOf result RunFault.Memory → Keeps (W.written out.old) (W.written out.new) }
+{
+    let capture = input_bytes(alloc, capture)?;
+    let tree = input_bytes(alloc, tree)?;
+    let order = input_bytes(alloc, order)?;
+    tell(alloc, audit(alloc, &capture, Some(&tree), &order), out)
+}
+
+/// Audits a capture against an order: reads the capture, the tree if one is handed in, and then the order, writes the line of
+/// the audit's answer and a line feed by one put, and answers the status.
+///
+/// The status is 0 where the verdict is legal, 1 at a fault of the capture, 2 where the order is not shown to explain
+/// the capture, and 3 where the tree text or the order text is not in its grammar. All inputs are read to their end before
+/// anything is judged. No mark of an input or of the output is set at the call.
+///
+/// Which bytes were read and written is said where the inputs and the output tell their bytes, as those over memory do. Files and
+/// standard output do not: of a call on them it is said alone that the status is that of an answer on some bytes.
+///
+/// # Errors
+///
+/// - [`RunFault::Read`] where an input failed, did not come to its end, or has more than [`MAX_INPUT_BYTES`] bytes.
+/// - [`RunFault::Write`] where the output did not take the whole line.
+/// - [`RunFault::Memory`] where memory was refused.
+///
+/// Nothing was written at `Read` and `Memory`, where the output tells its bytes. At `Write` nothing is said of what went out.
+///
+/// # Cost
+///
+/// That of [`read_all`] for each input and of [`audit`].
+pub fn run<R: Input, W: Output>(
+    alloc: Global,
+    capture: &mut R,
+    tree: Option<&mut R>,
+    order: &mut R,
+    out: &mut W,
+) -> Result<u8, RunFault>
+    requires capture_unfailed { R.has_failed capture.old ≡ false }
+    requires capture_uninterrupted { R.was_interrupted capture.old ≡ false }
+    requires tree_unfailed { IfSome tree (λ r. R.has_failed r.now ≡ false) }
+    requires tree_uninterrupted { IfSome tree (λ r. R.was_interrupted r.now ≡ false) }
+    requires order_unfailed { R.has_failed order.old ≡ false }
+    requires order_uninterrupted { R.was_interrupted order.old ≡ false }
+    requires unbroken { W.is_broken out.old ≡ false }
+
+    // The line of the audit's answer on the bytes that were read.
+    ensures told { IfOk result (IsAudited (R.remaining capture.old) (IsReadIfAny R.remaining tree.entry) (R.remaining order.old)
+        (W.written out.old) (W.written out.new)) }
+
+    ensures end { OnOk result (IsAtEnd (R.remaining capture.new)
+        × IfHandedIn tree.entry tree.exit (λ old new. IsAtEnd (R.remaining new)) × IsAtEnd (R.remaining order.new)) }
+
+    // The tree is read after the capture, and the order after both.
+    ensures capture_first { R.has_failed capture.new ≡ true → IfHandedIn tree.entry tree.exit (λ old new. new ≡ old) × (order.new ≡ order.old) }
+    ensures tree_first { IsHandedIn tree.entry tree.exit (λ old new. R.has_failed new ≡ true) → order.new ≡ order.old }
+
+    // When each fault comes.
+    ensures read { IsErrOf result RunFault.Read →
+        IsUnread (R.remaining capture.old) (R.has_failed capture.new)
+        (R.was_interrupted capture.new)
+        ⊎ IsHandedIn tree.entry tree.exit (λ old new. IsUnread (R.remaining old) (R.has_failed new) (R.was_interrupted new))
+        ⊎ IsUnread (R.remaining order.old) (R.has_failed order.new)
+        (R.was_interrupted order.new) }
+    ensures failed { (R.has_failed capture.new ≡ true) ⊎ IsHandedIn tree.entry tree.exit (λ old new. R.has_failed new ≡ true)
+        ⊎ (R.has_failed order.new ≡ true) → IsErrOf result RunFault.Read }
+    ensures write { IsErrOf result RunFault.Write ↔ (W.is_broken out.new ≡ true) }
+
+    // Nothing was written.
+    ensures unread { IsErrOf result RunFault.Read →
+        Keeps (W.written out.old) (W.written out.new) }
+    ensures refused { IsErrOf result RunFault.Memory →
+        Keeps (W.written out.old) (W.written out.new) }
+{
+    match tree {
+        None => run_on_empty_root(alloc, capture, order, out),
+        Some(tree) => run_on_tree(alloc, capture, tree, order, out),
+    }
+}

@@ -1,0 +1,78 @@
+-- What a parsed command line says.
+use Rattle.std.specs.Prelude.{◌≡◌, ◌≢◌, ◌⊎◌, ℕ, ◌<◌, ◌^◌, List, Option, Some, None, codes, option_and_then}
+use Rattle.std.specs.Option.{option_copied}
+use Rattle.std.specs.Str.Parse.{IsNumeral, digits_value, without_leading_plus}
+use Rattle.clap.specs.Words.{first_of, subcommand_name_of, subcommand_rows_of}
+use Rattle.clap.specs.declared.parser.matches.ArgMatches.{ArgMatches}
+use Rattle.fa_audit_program.specs.declared.command_line.CheckPaths.{CheckPaths}
+use Rattle.fa_audit_program.specs.declared.command_line.ProposePaths.{ProposePaths}
+use Rattle.fa_audit_program.specs.declared.command_line.CutPaths.{CutPaths}
+use Rattle.fa_audit_program.specs.declared.command_line.FrontPaths.{FrontPaths}
+use Rattle.fa_audit_program.specs.declared.command_line.Call.{Call}
+use Rattle.fa_audit_program.specs.declared.command_line.Call.TheVariants.{Check, Propose, Cut, Front}
+
+-- the value of an option of the command that the words call
+abbrev pub value_of : ArgMatches → List ℕ → Option (List ℕ)
+value_of matches option = option_and_then (λ command. first_of option command.1) (subcommand_rows_of matches)
+
+-- the words call `check` with these files
+pub record IsCheckOf (matches : ArgMatches) (paths : CheckPaths) : Type 0 where
+  pub command : subcommand_name_of matches ≡ Some (codes "check")
+  pub capture_is : value_of matches (codes "capture") ≡ Some paths.capture.now
+  pub tree_is : value_of matches (codes "tree") ≡ option_copied paths.tree
+  pub order_is : value_of matches (codes "order") ≡ Some paths.order.now
+
+-- the words call `propose` with these files
+pub record IsProposeOf (matches : ArgMatches) (paths : ProposePaths) : Type 0 where
+  pub command : subcommand_name_of matches ≡ Some (codes "propose")
+  pub capture_is : value_of matches (codes "capture") ≡ Some paths.capture.now
+  pub tree_is : value_of matches (codes "tree") ≡ option_copied paths.tree
+
+-- the text is this number in decimal digits, with a plus before them or none
+abbrev pub IsNumberText : List ℕ → ℕ → Type 0
+IsNumberText text number = IsNumeral 10 (without_leading_plus text) × (digits_value 10 (without_leading_plus text) ≡ number) × (number < 2 ^ 32)
+
+-- the option of the command that the words call has this number
+abbrev pub IsNumberOf : ArgMatches → (option : List ℕ) → ℕ → Type 0
+IsNumberOf matches option number = (text : List ℕ) × (value_of matches option ≡ Some text) × IsNumberText text number
+
+-- the words call `cut` with these files and this message
+pub record IsCutOf (matches : ArgMatches) (paths : CutPaths) : Type 0 where
+  pub command : subcommand_name_of matches ≡ Some (codes "cut")
+  pub capture_is : value_of matches (codes "capture") ≡ Some paths.capture.now
+  pub order_is : value_of matches (codes "order") ≡ Some paths.order.now
+  pub at_is : IsNumberOf matches (codes "at") paths.at
+
+-- the words call `front` with this file and this message
+pub record IsFrontCallOf (matches : ArgMatches) (paths : FrontPaths) : Type 0 where
+  pub command : subcommand_name_of matches ≡ Some (codes "front")
+  pub capture_is : value_of matches (codes "capture") ≡ Some paths.capture.now
+  pub at_is : IsNumberOf matches (codes "at") paths.at
+
+-- the words are this call
+abbrev pub IsCallOf : ArgMatches → Call → Type 0
+IsCallOf matches (Check paths) = IsCheckOf matches paths
+IsCallOf matches (Propose paths) = IsProposeOf matches paths
+IsCallOf matches (Cut paths) = IsCutOf matches paths
+IsCallOf matches (Front paths) = IsFrontCallOf matches paths
+
+-- the words do not call `check` with all that it needs
+abbrev pub IsNoCheck : ArgMatches → Type 0
+IsNoCheck matches =
+    (subcommand_name_of matches ≢ Some (codes "check")) ⊎ (value_of matches (codes "capture") ≡ None) ⊎ (value_of matches (codes "order") ≡ None)
+
+-- the words do not call `propose` with all that it needs
+abbrev pub IsNoPropose : ArgMatches → Type 0
+IsNoPropose matches = (subcommand_name_of matches ≢ Some (codes "propose")) ⊎ (value_of matches (codes "capture") ≡ None)
+
+-- the words do not call `cut` with all that it needs
+abbrev pub IsNoCutCall : ArgMatches → Type 0
+IsNoCutCall matches =
+    (subcommand_name_of matches ≢ Some (codes "cut")) ⊎ (value_of matches (codes "capture") ≡ None) ⊎ (value_of matches (codes "order") ≡ None)
+    ⊎ ((number : ℕ) → IsNumberOf matches (codes "at") number → ⊥)
+
+-- the words do not call `front` with all that it needs
+abbrev pub IsNoFrontCall : ArgMatches → Type 0
+IsNoFrontCall matches =
+    (subcommand_name_of matches ≢ Some (codes "front")) ⊎ (value_of matches (codes "capture") ≡ None)
+    ⊎ ((number : ℕ) → IsNumberOf matches (codes "at") number → ⊥)

@@ -1,0 +1,222 @@
+//! The words of the command line.
+
+ghost use Rattle.std.specs.Prelude.{ℕ, IfSome, IsNone};
+ghost use Rattle.fa_audit_program.specs.CommandLine.{IsCheckOf, IsProposeOf, IsCutOf, IsFrontCallOf, IsCallOf, IsNumberText, IsNoCheck, IsNoPropose, IsNoCutCall, IsNoFrontCall};
+
+use clap::{Arg, ArgAction, ArgMatches, Command, value_parser};
+use fa_capture::limits::MAX_MESSAGES;
+use std::alloc::{AllocError, Global};
+
+/// The command that judges an order.
+const CHECK: &str = "check";
+/// The command that guesses one.
+const PROPOSE: &str = "propose";
+/// The command that cuts an order.
+const CUT: &str = "cut";
+/// The command that cuts a capture.
+const FRONT: &str = "front";
+/// The option that names the capture.
+const CAPTURE: &str = "capture";
+/// The option that names the tree text.
+const TREE: &str = "tree";
+/// The option that names the order text.
+const ORDER: &str = "order";
+/// The option that gives the message at which is cut.
+const AT: &str = "at";
+
+/// The files of a call of `check`.
+#[derive(Clone, Copy, Debug)]
+pub struct CheckPaths<'a> {
+    pub capture: &'a str,
+    /// None where the tree begins as an empty root.
+    pub tree: Option<&'a str>,
+    pub order: &'a str,
+}
+
+impl<'a> CheckPaths<'a> {
+    /// The files that a parse by [`command`] found; there are none only where the words were no call of `check`.
+    pub fn new(matches: &ArgMatches<'a>) -> Option<Self>
+        ensures found { IfSome result (IsCheckOf matches.now) }
+        ensures none { IsNone result → IsNoCheck matches.now }
+    {
+        let options = matches.subcommand_matches(CHECK)?;
+        Some(CheckPaths {
+            capture: options.get_str(CAPTURE)?,
+            tree: options.get_str(TREE),
+            order: options.get_str(ORDER)?,
+        })
+    }
+}
+
+/// The files of a call of `propose`.
+#[derive(Clone, Copy, Debug)]
+pub struct ProposePaths<'a> {
+    pub capture: &'a str,
+    /// None where the tree begins as an empty root.
+    pub tree: Option<&'a str>,
+}
+
+impl<'a> ProposePaths<'a> {
+    /// The files that a parse by [`command`] found; there are none only where the words were no call of `propose`.
+    pub fn new(matches: &ArgMatches<'a>) -> Option<Self>
+        ensures found { IfSome result (IsProposeOf matches.now) }
+        ensures none { IsNone result → IsNoPropose matches.now }
+    {
+        let options = matches.subcommand_matches(PROPOSE)?;
+        let capture = options.get_str(CAPTURE)?;
+        let tree = options.get_str(TREE);
+        Some(ProposePaths { capture, tree })
+    }
+}
+
+/// The files of a call of `cut`, and where the order is cut.
+#[derive(Clone, Copy, Debug)]
+pub struct CutPaths<'a> {
+    pub capture: &'a str,
+    pub order: &'a str,
+    /// The message before which it is cut.
+    pub at: u32,
+}
+
+impl<'a> CutPaths<'a> {
+    /// What a parse by [`command`] found; there is nothing only where the words were no call of `cut`.
+    pub fn new(matches: &ArgMatches<'a>) -> Option<Self>
+        ensures found { IfSome result (IsCutOf matches.now) }
+        ensures none { IsNone result → IsNoCutCall matches.now }
+    {
+        let options = matches.subcommand_matches(CUT)?;
+        Some(CutPaths {
+            capture: options.get_str(CAPTURE)?,
+            order: options.get_str(ORDER)?,
+            at: number(options.get_str(AT)?)?,
+        })
+    }
+}
+
+/// The file of a call of `front`, and where the capture is cut.
+#[derive(Clone, Copy, Debug)]
+pub struct FrontPaths<'a> {
+    pub capture: &'a str,
+    /// The message before which it is cut.
+    pub at: u32,
+}
+
+impl<'a> FrontPaths<'a> {
+    /// What a parse by [`command`] found; there is nothing only where the words were no call of `front`.
+    pub fn new(matches: &ArgMatches<'a>) -> Option<Self>
+        ensures found { IfSome result (IsFrontCallOf matches.now) }
+        ensures none { IsNone result → IsNoFrontCall matches.now }
+    {
+        let options = matches.subcommand_matches(FRONT)?;
+        Some(FrontPaths {
+            capture: options.get_str(CAPTURE)?,
+            at: number(options.get_str(AT)?)?,
+        })
+    }
+}
+
+/// The number that a text is in decimal digits.
+fn number(text: &str) -> Option<u32>
+    ensures found { IfSome result (IsNumberText text.now) }
+    ensures none { IsNone result → (number : ℕ) → IsNumberText text.now number → ⊥ }
+{
+    text.parse().ok()
+}
+
+/// A call of the program, with its files.
+#[derive(Clone, Copy, Debug)]
+pub enum Call<'a> {
+    /// An order is judged.
+    Check(CheckPaths<'a>),
+    /// One is guessed.
+    Propose(ProposePaths<'a>),
+    /// One is cut at a message.
+    Cut(CutPaths<'a>),
+    /// A capture is cut at a message.
+    Front(FrontPaths<'a>),
+}
+
+impl<'a> Call<'a> {
+    /// The call that a parse by [`command`] found; there is none only where the words were no call.
+    pub fn new(matches: &ArgMatches<'a>) -> Option<Self>
+        ensures found { IfSome result (IsCallOf matches.now) }
+        ensures none { IsNone result → IsNoCheck matches.now × IsNoPropose matches.now × IsNoCutCall matches.now × IsNoFrontCall matches.now }
+    {
+        if let Some(paths) = CheckPaths::new(matches) {
+            return Some(Call::Check(paths));
+        }
+        if let Some(paths) = ProposePaths::new(matches) {
+            return Some(Call::Propose(paths));
+        }
+        if let Some(paths) = CutPaths::new(matches) {
+            return Some(Call::Cut(paths));
+        }
+        Some(Call::Front(FrontPaths::new(matches)?))
+    }
+}
+
+/// The command line: `fa_audit check --capture FILE [--tree FILE] --order FILE`, `fa_audit propose --capture FILE [--tree FILE]`,
+/// `fa_audit cut --capture FILE --order FILE --at N` or `fa_audit front --capture FILE --at N`.
+pub fn command<'a>(alloc: Global) -> Result<Command<'a>, AllocError> {
+    let order = path_option(alloc, ORDER).help("The order text that is to explain it");
+    let check = Command::new(alloc, CHECK)
+        .about("Tells in one line whether an order explains a capture")
+        .arg(capture_option(alloc))?
+        .arg(tree_option(alloc))?
+        .arg(order)?;
+    let propose = Command::new(alloc, PROPOSE)
+        .about("Guesses an order that may explain a capture, and prints its text")
+        .arg(capture_option(alloc))?
+        .arg(tree_option(alloc))?;
+    let order = path_option(alloc, ORDER).help("The order text that is cut");
+    let cut = Command::new(alloc, CUT)
+        .about("Prints what is left of an order that is cut at a message")
+        .arg(capture_option(alloc))?
+        .arg(order)?
+        .arg(at_option(alloc))?;
+    let front = Command::new(alloc, FRONT)
+        .about("Writes the capture of the messages before a message")
+        .arg(capture_option(alloc))?
+        .arg(at_option(alloc))?;
+    Command::new(alloc, "fa_audit")
+        .bin_name("fa_audit")?
+        .about("Audits recorded /dev/fuse traffic")
+        .subcommand_required(true)
+        .subcommand(check)?
+        .subcommand(propose)?
+        .subcommand(cut)?
+        .subcommand(front)
+}
+
+/// The option that names the capture.
+fn capture_option<'a>(alloc: Global) -> Arg<'a> {
+    path_option(alloc, CAPTURE).help("The recorded traffic")
+}
+
+/// The option that names the tree text.
+fn tree_option<'a>(alloc: Global) -> Arg<'a> {
+    path_option(alloc, TREE).required(false).help(
+        "The tree text that the server began with; without it, an empty root",
+    )
+}
+
+/// The option that gives the message at which is cut, from 0 to as many as a capture may have.
+fn at_option<'a>(alloc: Global) -> Arg<'a> {
+    Arg::new(alloc, AT)
+        .long(AT)
+        .value_name("N")
+        .action(ArgAction::Set)
+        .required(true)
+        .value_parser(value_parser!(u32).range(..=MAX_MESSAGES as i64))
+        .help("The number of that message, counted from 0; as many messages are before it")
+}
+
+/// An option that is needed once. The word behind it is its path, whatever that word begins with.
+fn path_option<'a>(alloc: Global, name: &'a str) -> Arg<'a> {
+    Arg::new(alloc, name)
+        .long(name)
+        .value_name("FILE")
+        .action(ArgAction::Set)
+        .required(true)
+        .allow_hyphen_values(true)
+}

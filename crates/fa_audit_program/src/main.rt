@@ -1,0 +1,125 @@
+//! The audit of recorded /dev/fuse traffic, as a program.
+//!
+//! `fa_audit check --capture FILE [--tree FILE] --order FILE` tells in one line on standard output whether the order explains the
+//! capture. `fa_audit propose --capture FILE [--tree FILE]` writes the text of an order that may explain it to standard output, or
+//! the line of the fault where the capture has one or the tree text is not in its grammar. `fa_audit cut --capture FILE --order FILE
+//! --at N` writes what is left of the order for the messages before message N, and `fa_audit front --capture FILE --at N` the capture of
+//! these messages.
+//!
+//! Each ends with the status 0 where the verdict is legal or an order or a capture is written, 1 at a fault of the capture, 2 where the
+//! order is not shown to explain the capture, 3 where the tree text or the order text is not in its grammar, 4 where the command line
+//! is no call, and 5 where reading, writing or memory failed. What stands behind a status 4 or 5 is told on standard error.
+#![tactic(auto)]
+
+ghost use Rattle.std.specs.Prelude.{◌≡◌, false, IfOk, IfSome};
+ghost use Rattle.fa_capture.specs.Device.{device_failed, device_interrupted};
+
+mod command_line;
+mod failure;
+
+use crate::command_line::{Call, CheckPaths, CutPaths, FrontPaths, ProposePaths};
+use crate::failure::Failure;
+use fa_audit::{RunFault, run, run_cut, run_front, run_propose};
+use fa_capture::Device;
+use std::env::Env;
+use std::fs::File;
+use std::io::ErrorKind;
+use std::process::ExitCode;
+use std::rt::Files;
+use std::{env, io};
+
+fn main(rt: HostRuntime) -> ExitCode {
+    let status = match call(&rt) {
+        Ok(status) => status,
+        Err(failure) => {
+            let _ = eprint!(rt; "{failure}");
+            failure.status().number()
+        }
+    };
+    ExitCode::from(status)
+}
+
+/// Runs the call that the process's words are: its status.
+fn call<R: AllocGlobal + Env + Files + Print>(rt: &R) -> Result<u8, Failure> {
+    let words = words(rt)?;
+    let matches = command_line::command(rt.alloc())?.try_get_matches_from(words.as_slice())?;
+    match Call::new(&matches).ok_or(Failure::NoCall)? {
+        Call::Check(paths) => Ok(check(rt, &paths)?),
+        Call::Propose(paths) => Ok(propose(rt, &paths)?),
+        Call::Cut(paths) => Ok(cut(rt, &paths)?),
+        Call::Front(paths) => Ok(front(rt, &paths)?),
+    }
+}
+
+/// Runs a call of `check`: its status.
+fn check<R: AllocGlobal + Files + Print>(rt: &R, paths: &CheckPaths<'_>) -> Result<u8, RunFault> {
+    let mut capture = open(rt, paths.capture)?;
+    let mut tree = open_if_any(rt, paths.tree)?;
+    let mut order = open(rt, paths.order)?;
+    let mut out = Device::new(io::writer(rt));
+    run(
+        rt.alloc(),
+        &mut capture,
+        tree.as_mut(),
+        &mut order,
+        &mut out,
+    )
+}
+
+/// Runs a call of `propose`: its status.
+fn propose<R: AllocGlobal + Files + Print>(
+    rt: &R,
+    paths: &ProposePaths<'_>,
+) -> Result<u8, RunFault> {
+    let mut capture = open(rt, paths.capture)?;
+    let mut tree = open_if_any(rt, paths.tree)?;
+    let mut out = Device::new(io::writer(rt));
+    run_propose(rt.alloc(), &mut capture, tree.as_mut(), &mut out)
+}
+
+/// Runs a call of `cut`: its status.
+fn cut<R: AllocGlobal + Files + Print>(rt: &R, paths: &CutPaths<'_>) -> Result<u8, RunFault> {
+    let mut capture = open(rt, paths.capture)?;
+    let mut order = open(rt, paths.order)?;
+    let mut out = Device::new(io::writer(rt));
+    run_cut(rt.alloc(), &mut capture, &mut order, paths.at, &mut out)
+}
+
+/// Runs a call of `front`: its status.
+fn front<R: AllocGlobal + Files + Print>(rt: &R, paths: &FrontPaths<'_>) -> Result<u8, RunFault> {
+    let mut capture = open(rt, paths.capture)?;
+    let mut out = Device::new(io::writer(rt));
+    run_front(rt.alloc(), &mut capture, paths.at, &mut out)
+}
+
+/// The words of the command line, with the program's name first.
+fn words<R: AllocGlobal + Env>(rt: &R) -> Result<Vec<String>, Failure> {
+    match env::args(rt) {
+        Ok(words) => Ok(words.collect(rt.alloc())?),
+        Err(error) if error.kind() == ErrorKind::OutOfMemory => Err(RunFault::Memory.into()),
+        Err(_) => Err(Failure::NotUtf8),
+    }
+}
+
+/// A file as an input. One that cannot be opened cannot be read.
+fn open<R: Files>(rt: &R, path: &str) -> Result<Device<R::File>, RunFault>
+    ensures unfailed { IfOk result (λ device. device_failed device ≡ false) }
+    ensures uninterrupted { IfOk result (λ device. device_interrupted device ≡ false) }
+{
+    match File::open(rt, path) {
+        Ok(file) => Ok(Device::new(file)),
+        Err(error) if error.kind() == ErrorKind::OutOfMemory => Err(RunFault::Memory),
+        Err(_) => Err(RunFault::Read),
+    }
+}
+
+/// A file as an input, where one is named.
+fn open_if_any<R: Files>(rt: &R, path: Option<&str>) -> Result<Option<Device<R::File>>, RunFault>
+    ensures unfailed { IfOk result (λ input. IfSome input (λ device. device_failed device ≡ false)) }
+    ensures uninterrupted { IfOk result (λ input. IfSome input (λ device. device_interrupted device ≡ false)) }
+{
+    match path {
+        Some(path) => Ok(Some(open(rt, path)?)),
+        None => Ok(None),
+    }
+}

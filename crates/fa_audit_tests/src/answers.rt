@@ -1,0 +1,98 @@
+//! Answers on bytes, and the lines that tell them.
+
+use fa_audit::{
+    AuditError, CutError, StartError, audit, cut_order, order_fault_text, proposal,
+    tree_fault_text, verdict_text,
+};
+use fa_bodies::ROOT_ID;
+use fa_bodies::errno::ENOENT;
+use fa_bodies::sample::Sample;
+use fa_check::Verdict;
+use std::alloc::Global;
+
+/// An order text of the message 2 alone, and one of no entry.
+pub const SECOND: &[u8] = b"fuse-order 1\n2\nend\n";
+
+pub const NONE: &[u8] = b"fuse-order 1\nend\n";
+
+/// A tree text of an empty root.
+pub const ROOT: &[u8] = b"fuse-tree 1\nroot 755\nend\n";
+
+/// A text whose third line is neither an entry nor the end of an order, and one whose third line has a slash in a name that has no
+/// directory.
+pub const NO_ORDER: &[u8] = b"fuse-order 1\n2\n";
+
+pub const NO_TREE: &[u8] = b"fuse-tree 1\nroot 755\nf 644 x/y -\nend\n";
+
+/// INIT, its answer, and a LOOKUP that finds nothing.
+pub fn not_found(alloc: Global) -> Sample {
+    Sample::new(alloc)
+        .init(2)
+        .init_answer(2)
+        .lookup(4, ROOT_ID, b"a")
+        .error(4, ENOENT)
+}
+
+const LEGAL: Verdict = Verdict::Legal {
+    messages: 4,
+    placed: 1,
+    left: 0,
+};
+
+const NOT_SHOWN: Verdict = Verdict::NotShown {
+    entry: 0,
+    at: 2,
+    code: 73,
+};
+
+const FAULT: Verdict = Verdict::Fault { at: 0, code: 1 };
+
+#[test]
+fn audit_answers(rt: HostRuntime) {
+    let alloc = rt.alloc();
+    let capture = not_found(alloc).capture().expect(&rt, "memory");
+    assert_eq!(rt; audit(alloc, &capture, None, SECOND), Ok(LEGAL));
+    assert_eq!(rt; audit(alloc, &capture, Some(ROOT), NONE), Ok(NOT_SHOWN));
+    assert_eq!(rt; audit(alloc, b"FUSE", None, NONE), Ok(FAULT));
+    assert_eq!(rt;
+        audit(alloc, &capture, Some(NO_TREE), NO_ORDER),
+        Err(AuditError::TreeText { line: 3 })
+    );
+    assert_eq!(rt;
+        audit(alloc, &capture, None, NO_ORDER),
+        Err(AuditError::OrderText { line: 3 })
+    );
+}
+
+#[test]
+fn texts_of_answers(rt: HostRuntime) {
+    let alloc = rt.alloc();
+    let line = verdict_text(alloc, &LEGAL).expect(&rt, "memory");
+    assert_eq!(rt; line.as_str(), "legal: 4 messages, 1 placed, 0 left out");
+    let line = tree_fault_text(alloc, 3).expect(&rt, "memory");
+    assert_eq!(rt; line.as_str(), "tree: line 3: code 61: not a tree text");
+    let line = order_fault_text(alloc, 3).expect(&rt, "memory");
+    assert_eq!(rt; line.as_str(), "order: line 3: code 60: not an order text");
+}
+
+#[test]
+fn orders_that_are_proposed_or_cut(rt: HostRuntime) {
+    let alloc = rt.alloc();
+    let capture = not_found(alloc).capture().expect(&rt, "memory");
+    let order = proposal(alloc, &capture, Some(ROOT)).expect(&rt, "an order");
+    assert_eq!(rt; order.as_slice(), SECOND);
+    let left = cut_order(alloc, &capture, SECOND, 3).expect(&rt, "an order");
+    assert_eq!(rt; left.as_slice(), NONE);
+    assert!(rt;
+        matches!(
+            proposal(alloc, b"FUSE", None),
+            Err(StartError::Fault { at: 0, code: 1 })
+        )
+    );
+    assert!(rt;
+        matches!(
+            cut_order(alloc, &capture, NO_ORDER, 3),
+            Err(CutError::OrderText { line: 3 })
+        )
+    );
+}

@@ -1,0 +1,10 @@
+//! Tests of what `fa_audit` offers: each call over memory. Further verdicts stand in the repository's folder `cases`, as calls of the
+//! program.
+//!
+//! The expected values come from the formats (docs/formats.md).
+#![tactic(auto)]
+
+#[cfg(test)]
+mod answers;
+#[cfg(test)]
+mod runs;

@@ -1,0 +1,140 @@
+//! Runs over memory: what is read and written.
+
+ghost use Rattle.std.specs.Prelude.{◌≡◌, false, IfSome};
+ghost use Rattle.fa_capture.specs.Device.{device_failed, device_interrupted};
+
+use crate::answers::{NO_ORDER, NO_TREE, NONE, ROOT, SECOND, not_found};
+use fa_audit::{RunFault, run, run_cut, run_front, run_propose};
+use fa_capture::{Device, Output};
+use std::alloc::Global;
+
+/// A call of the program.
+#[derive(Clone, Copy)]
+enum Call {
+    Check,
+    Propose,
+    Cut(u32),
+    Front(u32),
+}
+
+/// A call, a tree text, if one is handed in, an order text, the status, and what is written, all of a LOOKUP that finds nothing.
+type Row = (
+    Call,
+    Option<&'static [u8]>,
+    &'static [u8],
+    u8,
+    &'static [u8],
+);
+
+const ROWS: [Row; 9] = [
+    (
+        Call::Check,
+        None,
+        SECOND,
+        0,
+        b"legal: 4 messages, 1 placed, 0 left out\n",
+    ),
+    (
+        Call::Check,
+        Some(ROOT),
+        NONE,
+        2,
+        b"not shown: entry 0: message 2: code 73: answered request left out\n",
+    ),
+    (
+        Call::Check,
+        Some(NO_TREE),
+        NO_ORDER,
+        3,
+        b"tree: line 3: code 61: not a tree text\n",
+    ),
+    (
+        Call::Check,
+        None,
+        NO_ORDER,
+        3,
+        b"order: line 3: code 60: not an order text\n",
+    ),
+    (Call::Propose, Some(ROOT), NONE, 0, SECOND),
+    (Call::Propose, None, NONE, 0, SECOND),
+    (Call::Cut(3), None, SECOND, 0, NONE),
+    (Call::Cut(4), None, SECOND, 0, SECOND),
+    (Call::Front(0), None, NONE, 0, b"FUSECAP1"),
+];
+
+/// A text that may be handed in, as an input.
+fn input_of(text: Option<&[u8]>) -> Option<Device<&[u8]>>
+    ensures unfailed { IfSome result (λ device. device_failed device ≡ false) }
+    ensures uninterrupted { IfSome result (λ device. device_interrupted device ≡ false) }
+{
+    match text {
+        Some(text) => Some(Device::new(text)),
+        None => None,
+    }
+}
+
+/// Makes a call over memory.
+fn made<W: Output>(
+    alloc: Global,
+    call: Call,
+    texts: (&[u8], Option<&[u8]>, &[u8]),
+    out: &mut W,
+) -> Result<u8, RunFault>
+    requires unbroken { W.is_broken out.old ≡ false }
+{
+    let (capture, tree, order) = texts;
+    let mut capture = Device::new(capture);
+    let mut tree = input_of(tree);
+    let mut order = Device::new(order);
+    match call {
+        Call::Check => run(alloc, &mut capture, tree.as_mut(), &mut order, out),
+        Call::Propose => run_propose(alloc, &mut capture, tree.as_mut(), out),
+        Call::Cut(at) => run_cut(alloc, &mut capture, &mut order, at, out),
+        Call::Front(at) => run_front(alloc, &mut capture, at, out),
+    }
+}
+
+/// Whether a row holds. None where memory was refused.
+fn holds(alloc: Global, capture: &[u8], row: &Row) -> Option<bool> {
+    let (call, tree, order, status, expected) = row;
+    let mut written = Vec::new(alloc);
+    let mut out = Device::new(&mut written);
+    let answer = made(alloc, *call, (capture, *tree, order), &mut out);
+    match answer {
+        Ok(answer) => Some(answer == *status && written.as_slice() == *expected),
+        Err(_) => None,
+    }
+}
+
+#[test]
+fn calls_over_memory(rt: HostRuntime) {
+    let alloc = rt.alloc();
+    let capture = not_found(alloc).capture().expect(&rt, "memory");
+    let wrong = ROWS
+        .iter()
+        .position(|row| holds(alloc, &capture, row) != Some(true));
+    assert_eq!(rt; wrong, None);
+}
+
+/// An ordinary run has ample memory, so only a run by `rt try --test --fail-alloc N`, which refuses the Nth allocation, shows what is
+/// written without it: nothing else.
+#[test]
+fn want_of_memory_tells_nothing_else(rt: HostRuntime) {
+    let alloc = rt.alloc();
+    if let Ok(capture) = not_found(alloc).capture() {
+        assert!(rt;
+            ROWS.iter()
+                .all(|row| holds(alloc, &capture, row) != Some(false))
+        );
+    }
+}
+
+#[test]
+fn output_without_room_is_a_write_fault(rt: HostRuntime) {
+    let alloc = rt.alloc();
+    let capture = not_found(alloc).capture().expect(&rt, "memory");
+    let mut room = [0; 8];
+    let mut out = Device::new(&mut room[..]);
+    let answer = made(alloc, Call::Check, (&capture, None, SECOND), &mut out);
+    assert_eq!(rt; answer, Err(RunFault::Write));
+}
