@@ -28,6 +28,8 @@ for name in "${names[@]}"; do
     fi
 done
 
+"$top/wrong/stands.py"
+
 copy=$(mktemp -d)
 trap 'rm -rf "$copy"' EXIT
 cp "$top/crates.txt" "$copy"
