@@ -9,7 +9,7 @@ if [ "${1:-}" = --threads ]; then
     sanitizer=(-g -fsanitize=thread)
     shift
 fi
-program="$(realpath "${1:-$here/../crates/fa_audit/out/fa_audit}")"
+program="$(realpath "${1:-$here/../crates/fa_audit_program/out/fa_audit_program}")"
 examples=/usr/share/doc/libfuse3-dev/examples
 passed=0
 failed=0
