@@ -74,10 +74,10 @@ fn input_of(text: Option<&[u8]>) -> Option<Device<&[u8]>>
 }
 
 /// Makes a call over memory.
-fn made<W: Output>(
+fn made<'x, W: Output>(
     alloc: Global,
     call: Call,
-    texts: (&[u8], Option<&[u8]>, &[u8]),
+    texts: (&'x [u8], Option<&'x [u8]>, &'x [u8]),
     out: &mut W,
 ) -> Result<u8, RunFault>
     requires unbroken { W.is_broken out.old ≡ false }
