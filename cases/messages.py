@@ -229,6 +229,18 @@ class Words:
     def number(self):
         return number(self.take())
 
+    def count(self):
+        """A number that is not below 0."""
+        value = self.number()
+        if value < 0:
+            raise ValueError(f"{value} is no count")
+        return value
+
+    def end(self):
+        """Nothing, where no word is left."""
+        if self.words:
+            raise ValueError(f"{self.next()} stands behind the end")
+
     def given(self, names):
         """The numbers that are given to these names, as long as they come."""
         values = {}
@@ -241,8 +253,11 @@ class Words:
 
     def quoted(self):
         """The bytes of a quoted word, or of its repetition."""
-        data = ESCAPE.sub(lambda found: bytes([int(found[1], 16)]), self.take()[1:-1].encode("ascii"))
-        return data * self.number() if self.takes("x") else data
+        word = self.take()
+        if not word.startswith('"'):
+            raise ValueError(f"{word} is not in quotes")
+        data = ESCAPE.sub(lambda found: bytes([int(found[1], 16)]), word[1:-1].encode("ascii"))
+        return data * self.count() if self.takes("x") else data
 
     def data(self, zero=b""):
         """The bytes of quoted words, each with `zero` behind it, of `zeros N` and of `bytes HEX`, as long as they come."""
@@ -251,7 +266,7 @@ class Words:
             if self.next().startswith('"'):
                 parts.append(self.quoted() + zero)
             elif self.takes("zeros"):
-                parts.append(bytes(self.number()))
+                parts.append(bytes(self.count()))
             elif self.takes("bytes"):
                 parts.append(bytes.fromhex(self.take()))
             else:
@@ -286,7 +301,7 @@ def body_bytes(form, given, words):
         items.append(item_bytes(form, words))
     behind = b"".join(items) + words.data(b"\0" if form.names else b"")
     body = encoded(form.fields, given, len(items) if form.has_items else len(behind)) + behind
-    return body[: words.number()] if words.takes("body") else body
+    return body[: words.count()] if words.takes("body") else body
 
 
 def message_bytes(direction, words):
@@ -321,12 +336,18 @@ def line_bytes(line):
         data = record.get("direction", direction).to_bytes(1, "little")
         data += record.get("length", len(message)).to_bytes(4, "little") + message
         if words.takes("times"):
-            data *= words.number()
+            data *= words.count()
     else:
         raise ValueError(f"a line does not begin with {sign}")
-    if words.words:
-        raise ValueError(f"{words.next()} stands behind the end")
+    words.end()
     return data
+
+
+def magic_bytes(words):
+    """The bytes that a capture begins with, by the words behind `magic`."""
+    begun = words.quoted()
+    words.end()
+    return begun
 
 
 def is_told(line):
@@ -340,10 +361,11 @@ def read(text):
     for count, line in enumerate(text.split("\n"), 1):
         try:
             if line.startswith("magic ") and not parts:
-                begun = Words(line[len("magic ") :]).quoted()
+                begun = magic_bytes(Words(line[len("magic ") :]))
             elif line.startswith("cut "):
-                left = b"".join(parts)
-                parts = [left[: len(left) - number(line[len("cut ") :])]]
+                words, left = Words(line[len("cut ") :]), b"".join(parts)
+                parts = [left[: len(left) - words.count()]]
+                words.end()
             elif is_told(line):
                 parts.append(line_bytes(line))
         except (ValueError, OverflowError) as error:
@@ -521,6 +543,12 @@ def texts_of(path):
     return {"": "".join(f"{line}\n" for line in text.split("\n") if is_told(line))}
 
 
+def difference(text):
+    """The first line of a text that is not the one written of its bytes, and that one; if there is one."""
+    pairs = itertools.zip_longest(text.split("\n"), write(read(text)).split("\n"), fillvalue="")
+    return next((f"{found!r} is written as {expected!r}" for found, expected in pairs if found != expected), None)
+
+
 def check():
     """What is wrong with the texts and captures of the cases and examples, a line each."""
     wrong = []
@@ -531,10 +559,11 @@ def check():
             if file.endswith((".messages", ".rows")):
                 for words, text in texts_of(path).items():
                     try:
-                        if write(read(text)) != text:
-                            wrong.append(f"{name}{words}: is not what messages.py writes of its bytes")
+                        found = difference(text)
                     except ValueError as error:
-                        wrong.append(f"{name}{words}: {error}")
+                        found = error
+                    if found:
+                        wrong.append(f"{name}{words}: {found}")
             elif file.endswith((".cap", ".cap.bz2")):
                 capture = bytes_of(path)
                 if read(write(capture)) != capture:

@@ -1,7 +1,11 @@
 """Short cases, many in a file: reads the text of a NAME.rows. README.md beside this says what such a text has."""
 
-STATUS = {"good": 0, "legal": 0, "fault": 1, "not shown": 2, "tree": 3, "order": 3}
-EMPTY_ORDER = "fuse-order 1\nend\n"
+STATUS = {"good": 0, "proposed": 0, "legal": 0, "fault": 1, "not shown": 2, "tree": 3, "order": 3}
+
+
+def order_text(entries):
+    """The order text of these entries, which a comma parts."""
+    return "\n".join(["fuse-order 1", *(entries.split(", ") if entries else []), "end", ""])
 
 
 class Row:
@@ -26,15 +30,26 @@ class Row:
 
     def order(self):
         """The order text."""
-        entries = ", ".join(self.behind("order "))
-        return "\n".join(["fuse-order 1", *(entries.split(", ") if entries else []), "end", ""])
+        return order_text(", ".join(self.behind("order ")))
+
+    def word(self):
+        """The word that what is expected begins with."""
+        word = self.expected.partition(":")[0]
+        return "proposed" if word.partition(" ")[0] == "proposed" else word
+
+    def printed(self):
+        """What the call of the row has to print. Whether a capture is good is told by cutting the empty order, which leaves it."""
+        if self.word() == "good":
+            return order_text("")
+        if self.word() == "proposed":
+            return order_text(self.expected.removeprefix("proposed").strip())
+        return f"{self.expected}\n"
 
     def status(self):
-        """The status of a call that prints what is expected."""
-        word = self.expected.partition(":")[0]
-        if word not in STATUS:
+        """The status of that call."""
+        if self.word() not in STATUS:
             raise ValueError("the row does not end with what is expected")
-        return STATUS[word]
+        return STATUS[self.word()]
 
 
 def read(text):

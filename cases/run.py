@@ -104,22 +104,22 @@ class Case:
 
 
 class RowCase:
-    """A row as a case, FOLDER/NAME row N. Whether a capture is good is told by cutting the empty order, which leaves it."""
+    """A row as a case, FOLDER/NAME row N."""
 
     def __init__(self, path, number, row):
         self.name = f"{os.path.relpath(path, HERE).removesuffix('.rows')} row {number}"
         self.path, self.row, self.shown = path, row, row.own
-        files = ["--capture", "cap", "--order", "order"]
+        capture, order = ["--capture", "cap"], ["--order", "order"]
         tree = ["--tree", "tree"] if row.tree() else []
-        self.words = ["cut", *files, "--at", "0"] if row.expected == "good" else ["check", *files, *tree]
+        calls = {"good": ["cut", *capture, *order, "--at", "0"], "proposed": ["propose", *capture, *tree]}
+        self.words = calls.get(row.word(), ["check", *capture, *order, *tree])
 
     def own(self, _):
         """No file is of the row alone."""
 
     def expected(self):
         """What has to be written, and the status."""
-        written = rows.EMPTY_ORDER if self.row.expected == "good" else f"{self.row.expected}\n"
-        return written.encode("ascii"), self.row.status()
+        return self.row.printed().encode("ascii"), self.row.status()
 
     def files(self):
         """The file that the row stands in."""
