@@ -1,13 +1,9 @@
-//! Tests of the verdicts on orders by what `fa_check` offers, and of the orders that `fa_propose` guesses, as tables.
+//! Tests of what `fa_check` and `fa_propose` offer: each call on one capture, and the check where memory is refused.
 //!
 //! The expected values come from the formats (docs/formats.md) and from `errno.h`.
 #![tactic(auto)]
 
 #[cfg(test)]
-mod cuts;
+mod calls;
 #[cfg(test)]
 mod memory;
-#[cfg(test)]
-mod proposals;
-#[cfg(test)]
-mod verdicts;

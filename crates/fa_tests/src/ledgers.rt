@@ -2,17 +2,15 @@
 
 use crate::messages::{INIT, INIT_ANSWER, begun, packet, spelled, thirty};
 use crate::paired::{Paired, calls_of};
+use crate::sent::Sent::{self, *};
+use crate::sent::{CREAT, with, with_all};
 use Mark::*;
 use NodeName::{Given, Root};
-use Sent::*;
 use bitflags::Flags;
+use fa_bodies::Reply;
 use fa_bodies::errno::{EACCES, EIO, ENOENT};
-use fa_bodies::sample::Field::{U32, U64, Zeros};
-use fa_bodies::sample::{Listed, REG, Sample, entry_out};
-use fa_bodies::{FopenFlags, GetattrFlags, OpenFlags, Reply, opcodes};
-use fa_capture::codes::{
-    CLOSED_HANDLE, FORGOTTEN_NODE, FORGOTTEN_TOO_OFTEN, NODE_ID_NOT_ALLOWED, PROFILE_LIMIT,
-};
+use fa_bodies::sample::Sample;
+use fa_capture::codes::{CLOSED_HANDLE, FORGOTTEN_NODE, FORGOTTEN_TOO_OFTEN, NODE_ID_NOT_ALLOWED};
 use fa_capture::{Direction, read_capture};
 use fa_ledger::{Call, Calls, NodeName};
 use std::alloc::Global;
@@ -27,144 +25,10 @@ const FATTR_SIZE: u32 = 8;
 const FATTR_FH: u32 = 64;
 /// `FOPEN_DIRECT_IO` of `fuse.h`.
 const DIRECT: u32 = 1;
-/// `O_RDWR | O_CREAT` and `O_TRUNC` of POSIX `open`.
-const CREAT: u32 = 0x42;
-
+/// `O_TRUNC` of POSIX `open`.
 const TRUNC: u32 = 0x200;
 /// `FUSE_ATOMIC_O_TRUNC` of `fuse.h`.
 const ATOMIC_O_TRUNC: u32 = 8;
-
-/// A message. The first number is its unique, the second of a request its node. Names of files are `a` or `b`.
-#[derive(Clone, Copy)]
-enum Sent {
-    Lookup(u64, u64),
-    Forget(u64, u64, u64),
-    BatchForget(u64, &'static [(u64, u64)]),
-    /// With these flags and this file handle.
-    Getattr(u64, u64, u32, u64),
-    Setattr(u64, u64, u32, u64),
-    Readlink(u64, u64),
-    /// Read by its header alone.
-    Getxattr(u64, u64),
-    Symlink(u64, u64),
-    Mknod(u64, u64),
-    Mkdir(u64, u64),
-    Unlink(u64, u64),
-    Rmdir(u64, u64),
-    /// To this directory.
-    Rename(u64, u64, u64),
-    /// Of this file.
-    Link(u64, u64, u64),
-    /// With these flags.
-    Open(u64, u64, u32),
-    Create(u64, u64, u32),
-    Opendir(u64, u64),
-    /// From this file handle.
-    Read(u64, u64, u64),
-    Readdir(u64, u64, u64),
-    Readdirplus(u64, u64, u64),
-    /// Of one byte to this file handle, at this offset.
-    Write(u64, u64, u64, u64),
-    Release(u64, u64, u64),
-    Releasedir(u64, u64, u64),
-    Flush(u64, u64, u64),
-    Error(u64, i32),
-    Done(u64),
-    /// An entry of this node.
-    Entry(u64, u64),
-    /// An entry of this node, and this file handle.
-    Created(u64, u64, u64),
-    /// This file handle, with these flags.
-    Opened(u64, u64, u32),
-    Written(u64),
-    /// What READDIRPLUS gives: `.` and `..` with the node 1, `a` and `b` with these nodes.
-    Plus(u64, u64, u64),
-}
-
-/// A capture and a message behind its last one.
-fn with(sample: Sample, message: Sent) -> Sample {
-    match message {
-        Lookup(unique, node) => sample.lookup(unique, node, b"a"),
-        Forget(unique, node, nlookup) => sample.forget(unique, node, nlookup),
-        BatchForget(unique, items) => sample.batch_forget(unique, items),
-        Getattr(unique, node, flags, fh) => with_getattr(sample, unique, node, flags, fh),
-        Setattr(unique, node, flags, fh) => with_setattr(sample, unique, node, flags, fh),
-        Readlink(unique, node) => sample.readlink(unique, node),
-        Getxattr(unique, node) => sample.request(unique, opcodes::GETXATTR, node, b""),
-        Symlink(unique, node) => sample.symlink(unique, node, b"a", b"b"),
-        Mknod(unique, node) => sample.mknod(unique, node, REG | 0o644, b"a"),
-        Mkdir(unique, node) => sample.mkdir(unique, node, b"a"),
-        Unlink(unique, node) => sample.unlink(unique, node, b"a"),
-        Rmdir(unique, node) => sample.rmdir(unique, node, b"a"),
-        Rename(unique, node, newdir) => sample.rename(unique, node, b"a", newdir, b"b"),
-        Link(unique, node, old) => sample.link(unique, node, b"b", old),
-        Open(unique, node, flags) => with_open(sample, unique, node, flags),
-        Create(unique, node, flags) => with_create(sample, unique, node, flags),
-        Opendir(unique, node) => sample.opendir(unique, node),
-        Read(unique, node, fh) => sample.read(unique, node, fh, 0, 4096),
-        Readdir(unique, node, fh) => sample.readdir(unique, node, fh, 0, 4096),
-        Readdirplus(unique, node, fh) => sample.readdirplus(unique, node, fh, 0, 4096),
-        Write(unique, node, fh, offset) => sample.write(unique, node, fh, offset, b"x"),
-        Release(unique, node, fh) => sample.release(unique, node, fh),
-        Releasedir(unique, node, fh) => sample.releasedir(unique, node, fh),
-        Flush(unique, node, fh) => sample.flush(unique, node, fh),
-        Error(unique, error) => sample.error(unique, error),
-        Done(unique) => sample.ok(unique),
-        Entry(unique, node) => sample.entry(unique, node, REG | 0o644, 0, 1),
-        Created(unique, node, fh) => sample.created(unique, node, REG | 0o644, 0, 1, fh),
-        Opened(unique, fh, flags) => with_opened(sample, unique, fh, flags),
-        Written(unique) => sample.written(unique, 1),
-        Plus(unique, a, b) => with_plus(sample, unique, a, b),
-    }
-}
-
-fn with_getattr(sample: Sample, unique: u64, node: u64, flags: u32, fh: u64) -> Sample {
-    sample.getattr_with(unique, node, GetattrFlags::from_bits_retain(flags), fh)
-}
-
-fn with_setattr(sample: Sample, unique: u64, node: u64, flags: u32, fh: u64) -> Sample {
-    let fields = [U32(flags), Zeros(4), U64(fh), Zeros(72)];
-    sample.request_of(unique, opcodes::SETATTR, node, &fields)
-}
-
-fn with_open(sample: Sample, unique: u64, node: u64, flags: u32) -> Sample {
-    sample.open_with(unique, node, OpenFlags::from_bits_retain(flags))
-}
-
-fn with_create(sample: Sample, unique: u64, node: u64, flags: u32) -> Sample {
-    let flags = OpenFlags::from_bits_retain(flags);
-    sample.create_with(unique, node, flags, REG | 0o644, b"a")
-}
-
-fn with_opened(sample: Sample, unique: u64, fh: u64, flags: u32) -> Sample {
-    sample.opened_with(unique, fh, FopenFlags::from_bits_retain(flags))
-}
-
-fn with_plus(sample: Sample, unique: u64, a: u64, b: u64) -> Sample {
-    let entries = [
-        (entry_out(1, 0, 0, 0), listed(b".")),
-        (entry_out(1, 0, 0, 0), listed(b"..")),
-        (entry_out(a, 0, 0, 0), listed(b"a")),
-        (entry_out(b, 0, 0, 0), listed(b"b")),
-    ];
-    sample.listing_plus(unique, &entries)
-}
-
-fn listed(name: &[u8]) -> Listed<'_> {
-    Listed {
-        name,
-        off: 1,
-        file_type: 8,
-    }
-}
-
-/// A capture and these messages behind its last one.
-fn with_all(mut sample: Sample, messages: &[Sent]) -> Sample {
-    for message in messages {
-        sample = with(sample, *message);
-    }
-    sample
-}
 
 /// The code of each message of a capture, 0 where it is taken. None where memory was refused, or the bytes are no capture.
 fn codes_of(alloc: Global, sample: Sample) -> Option<Vec<u16>> {
@@ -183,248 +47,10 @@ fn ends_with(codes: &[u16], last: u16) -> bool {
     }
 }
 
-/// Messages, and the code of the last of them, 0 where it is taken. Those before it are taken.
-type Row = (&'static [Sent], u16);
-
-/// The number of the first row whose last message has another code, where there is one. The rows stand behind INIT, its
-/// answer and the messages in front.
-fn first_wrong(alloc: Global, front: &[Sent], rows: &[Row]) -> Option<usize> {
-    for (number, (messages, code)) in rows.iter().enumerate() {
-        let sample = with_all(begun(alloc, (0, 0)), front);
-        let codes = codes_of(alloc, with_all(sample, messages));
-        if !codes.is_some_and(|codes| ends_with(&codes, *code)) {
-            return Some(number);
-        }
-    }
-    None
-}
-
-/// These rows stand behind INIT and its answer.
-const FROM_START: [Row; 19] = [
-    // The message itself is looked at before its node.
-    (&[Write(2, 9, 7, u64::MAX)], PROFILE_LIMIT),
-    // What is not known may be forgotten no times.
-    (&[Forget(2, 9, 0)], 0),
-    (&[Forget(2, 9, 1)], FORGOTTEN_TOO_OFTEN),
-    (&[BatchForget(2, &[(9, 0)])], 0),
-    (&[BatchForget(2, &[(9, 1)])], FORGOTTEN_TOO_OFTEN),
-    (&[Lookup(2, 1), Forget(3, 5, 1)], FORGOTTEN_TOO_OFTEN),
-    // The root is always known.
-    (
-        &[Forget(2, 1, u64::MAX), Forget(3, 1, 1), Readlink(4, 1)],
-        0,
-    ),
-    // Which nodes may be given.
-    (&[Lookup(2, 1), Entry(2, 0)], 0),
-    (&[Lookup(2, 1), Entry(2, 1)], NODE_ID_NOT_ALLOWED),
-    (&[Symlink(2, 1), Entry(2, 0)], NODE_ID_NOT_ALLOWED),
-    (&[Mknod(2, 1), Entry(2, 0)], NODE_ID_NOT_ALLOWED),
-    (&[Mkdir(2, 1), Entry(2, 0)], NODE_ID_NOT_ALLOWED),
-    (&[Link(2, 1, 1), Entry(2, 0)], NODE_ID_NOT_ALLOWED),
-    (
-        &[Create(2, 1, CREAT), Created(2, 0, 7)],
-        NODE_ID_NOT_ALLOWED,
-    ),
-    (
-        &[Create(2, 1, CREAT), Created(2, 1, 7)],
-        NODE_ID_NOT_ALLOWED,
-    ),
-    // The other node of a request is named too, and GETXATTR, which is read by its header alone, names none.
-    (&[Rename(2, 1, 9)], FORGOTTEN_NODE),
-    (&[Link(2, 1, 9)], FORGOTTEN_NODE),
-    (&[Readlink(2, 0)], FORGOTTEN_NODE),
-    (&[Getxattr(2, 99)], 0),
-];
-
-/// The node 5 is given: the messages 2 and 3.
-const KNOWN: &[Sent] = &[Lookup(2, 1), Entry(2, 5)];
-
 const TWICE: &[(u64, u64)] = &[(5, 1), (5, 1)];
-
-const BESIDE_ROOT: &[(u64, u64)] = &[(1, 3), (5, 1), (1, u64::MAX)];
-
-/// These rows stand behind INIT, its answer and `KNOWN`.
-const OF_KNOWN: [Row; 10] = [
-    (&[Forget(4, 5, 1)], 0),
-    (&[Forget(4, 5, 2)], FORGOTTEN_TOO_OFTEN),
-    (&[Forget(4, 5, 1), Readlink(5, 5)], FORGOTTEN_NODE),
-    (&[Forget(4, 5, 0), Readlink(5, 5)], 0),
-    (&[BatchForget(4, TWICE)], FORGOTTEN_TOO_OFTEN),
-    (&[BatchForget(4, BESIDE_ROOT), Readlink(5, 1)], 0),
-    (
-        &[BatchForget(4, BESIDE_ROOT), Readlink(5, 5)],
-        FORGOTTEN_NODE,
-    ),
-    // It is given again.
-    (&[Lookup(4, 1), Entry(4, 5), BatchForget(6, TWICE)], 0),
-    (
-        &[Lookup(4, 1), Entry(4, 5), Forget(6, 5, u64::MAX)],
-        FORGOTTEN_TOO_OFTEN,
-    ),
-    (
-        &[Lookup(4, 1), Forget(5, 5, 1), Entry(4, 5), Readlink(7, 5)],
-        0,
-    ),
-];
-
-/// The root is read: the messages 2 to 4.
-const LISTED: &[Sent] = &[Opendir(2, 1), Opened(2, 7, 0), Readdirplus(4, 1, 7)];
-
-/// These rows stand behind INIT, its answer and `LISTED`. The entries `.` and `..` give nothing.
-const OF_LISTED: [Row; 5] = [
-    (&[Plus(4, 0, 5), Readlink(6, 5)], 0),
-    (&[Plus(4, 5, 5), Forget(6, 5, 2)], 0),
-    (&[Plus(4, 5, 5), Forget(6, 5, 3)], FORGOTTEN_TOO_OFTEN),
-    (&[Plus(4, 0, 0), Readlink(6, 5)], FORGOTTEN_NODE),
-    (&[Plus(4, 5, 1)], NODE_ID_NOT_ALLOWED),
-];
-
-#[test]
-fn which_nodes_are_known(rt: HostRuntime) {
-    assert_eq!(rt; first_wrong(rt.alloc(), &[], &FROM_START), None);
-    assert_eq!(rt; first_wrong(rt.alloc(), KNOWN, &OF_KNOWN), None);
-    assert_eq!(rt; first_wrong(rt.alloc(), LISTED, &OF_LISTED), None);
-}
 
 /// The node 5 is given, and opened with the file handle 7: the messages 2 to 5.
 const OPENED: &[Sent] = &[Lookup(2, 1), Entry(2, 5), Open(4, 5, 0), Opened(4, 7, 0)];
-
-/// These rows stand behind INIT, its answer and `OPENED`.
-const OF_OPENED: [Row; 27] = [
-    (&[Write(6, 5, 7, u64::MAX)], PROFILE_LIMIT),
-    (&[Write(6, 5, 7, 0)], 0),
-    // Another number, another node, and a directory.
-    (&[Read(6, 5, 8)], CLOSED_HANDLE),
-    (&[Read(6, 1, 7)], CLOSED_HANDLE),
-    (&[Readdir(6, 5, 7)], CLOSED_HANDLE),
-    // It is closed by the request, whatever is answered.
-    (&[Release(6, 5, 7), Read(7, 5, 7)], CLOSED_HANDLE),
-    (&[Release(6, 5, 7), Flush(7, 5, 7)], CLOSED_HANDLE),
-    (
-        &[Release(6, 5, 7), Error(6, EIO), Release(8, 5, 7)],
-        CLOSED_HANDLE,
-    ),
-    (&[Flush(6, 5, 7), Done(6), Flush(8, 5, 7)], 0),
-    // It is opened by a success.
-    (&[Open(6, 5, 0), Read(7, 5, 8)], CLOSED_HANDLE),
-    (
-        &[Open(6, 5, 0), Error(6, EACCES), Read(8, 5, 0)],
-        CLOSED_HANDLE,
-    ),
-    (&[Create(6, 1, CREAT), Created(6, 6, 7), Read(8, 6, 7)], 0),
-    // GETATTR and SETATTR use one where their flags say so.
-    (&[Getattr(6, 5, GETATTR_OTHER, 8)], 0),
-    (&[Getattr(6, 5, GETATTR_FH, 7)], 0),
-    (
-        &[Getattr(6, 5, GETATTR_OTHER | GETATTR_FH, 8)],
-        CLOSED_HANDLE,
-    ),
-    (&[Setattr(6, 5, FATTR_SIZE, 8)], 0),
-    (&[Setattr(6, 5, FATTR_SIZE | FATTR_FH, 7)], 0),
-    (&[Setattr(6, 5, FATTR_SIZE | FATTR_FH, 8)], CLOSED_HANDLE),
-    // The node comes before the file handle, and the handle goes with the name of the node.
-    (&[Forget(6, 5, 1), Release(7, 5, 7)], FORGOTTEN_NODE),
-    (&[Flush(6, 9, 7)], FORGOTTEN_NODE),
-    (
-        &[Lookup(6, 1), Entry(6, 5), Forget(8, 5, 1), Read(9, 5, 7)],
-        0,
-    ),
-    (
-        &[Lookup(6, 1), Forget(7, 5, 1), Entry(6, 5), Read(9, 5, 7)],
-        CLOSED_HANDLE,
-    ),
-    // It is opened while it is open.
-    (
-        &[
-            Open(6, 5, 0),
-            Opened(6, 7, 0),
-            Release(8, 5, 7),
-            Read(9, 5, 7),
-        ],
-        0,
-    ),
-    (
-        &[
-            Open(6, 5, 0),
-            Opened(6, 7, 0),
-            Release(8, 5, 7),
-            Release(9, 5, 7),
-            Read(10, 5, 7),
-        ],
-        CLOSED_HANDLE,
-    ),
-    // A node that is forgotten before its OPEN is answered.
-    (
-        &[
-            Open(6, 5, 0),
-            Forget(7, 5, 1),
-            Opened(6, 8, 0),
-            Read(9, 5, 8),
-        ],
-        FORGOTTEN_NODE,
-    ),
-    (
-        &[
-            Open(6, 5, 0),
-            Forget(7, 5, 1),
-            Lookup(8, 1),
-            Entry(8, 5),
-            Opened(6, 8, 0),
-            Read(11, 5, 8),
-        ],
-        CLOSED_HANDLE,
-    ),
-    (
-        &[
-            Open(6, 5, 0),
-            Lookup(7, 1),
-            Entry(7, 5),
-            Forget(9, 5, 1),
-            Opened(6, 8, 0),
-            Read(11, 5, 8),
-        ],
-        0,
-    ),
-];
-
-/// The node 5 is given, and opened as a directory with the file handle 7: the messages 2 to 5.
-const OPENED_AS_DIRECTORY: &[Sent] = &[Lookup(2, 1), Entry(2, 5), Opendir(4, 5), Opened(4, 7, 0)];
-
-/// These rows stand behind INIT, its answer and `OPENED_AS_DIRECTORY`.
-const OF_DIRECTORY: [Row; 7] = [
-    (&[Readdir(6, 5, 7)], 0),
-    (&[Read(6, 5, 7)], CLOSED_HANDLE),
-    (&[Release(6, 5, 7)], CLOSED_HANDLE),
-    (&[Readdir(6, 1, 7)], CLOSED_HANDLE),
-    (&[Releasedir(6, 5, 7), Readdirplus(7, 5, 7)], CLOSED_HANDLE),
-    (
-        &[
-            Open(6, 5, 0),
-            Opened(6, 7, 0),
-            Release(8, 5, 7),
-            Readdir(9, 5, 7),
-        ],
-        0,
-    ),
-    (
-        &[
-            Open(6, 5, 0),
-            Opened(6, 7, 0),
-            Releasedir(8, 5, 7),
-            Readdir(9, 5, 7),
-        ],
-        CLOSED_HANDLE,
-    ),
-];
-
-#[test]
-fn which_file_handles_are_open(rt: HostRuntime) {
-    assert_eq!(rt; first_wrong(rt.alloc(), OPENED, &OF_OPENED), None);
-    assert_eq!(rt;
-        first_wrong(rt.alloc(), OPENED_AS_DIRECTORY, &OF_DIRECTORY),
-        None
-    );
-}
 
 /// The code of each message, 0 where it is taken. These stand behind INIT, its answer and `OPENED`, and those that are
 /// refused change nothing.
@@ -470,9 +96,9 @@ const COURSES: [Course; 7] = [
     &[
         (Opendir(6, 1), 0),
         (Opened(6, 8, 0), 0),
-        (Readdirplus(8, 1, 8), 0),
-        (Plus(8, 6, 1), NODE_ID_NOT_ALLOWED),
-        (Plus(8, 6, 6), 0),
+        (Readdirplus(8, 1, 8, 0), 0),
+        (DirentsOfTwo(8, 6, 1), NODE_ID_NOT_ALLOWED),
+        (DirentsOfTwo(8, 6, 6), 0),
         (Forget(10, 6, 2), 0),
         (Readlink(11, 6), FORGOTTEN_NODE),
     ],
@@ -705,11 +331,11 @@ const LISTINGS: Called = (
         Entry(6, 0),
         Opendir(8, 1),
         Opened(8, 7, 0),
-        Readdirplus(10, 1, 7),
-        Plus(10, 5, 5),
-        Readdirplus(12, 1, 7),
-        Plus(12, 6, 5),
-        Readdir(14, 1, 7),
+        Readdirplus(10, 1, 7, 0),
+        DirentsOfTwo(10, 5, 5),
+        Readdirplus(12, 1, 7, 0),
+        DirentsOfTwo(12, 6, 5),
+        Readdir(14, 1, 7, 0),
     ],
     &[
         (2, Root, &[Answer(3), Refusal(EACCES)]),
@@ -904,9 +530,9 @@ const CHOICES: [(Sent, Choices); 18] = [
     (Read(22, 5, 7), LEFT_OUT),
     (Write(23, 5, 7, 0), COUNTED),
     (Opendir(24, 1), LEFT_OUT),
-    (Readdir(25, 1, 7), LEFT_OUT),
+    (Readdir(25, 1, 7, 0), LEFT_OUT),
     (Create(26, 1, CREAT), ALONE),
-    (Readdirplus(27, 1, 7), LEFT_OUT),
+    (Readdirplus(27, 1, 7, 0), LEFT_OUT),
 ];
 
 /// Whether an order may name the calls of these requests so, and those in front of them, which are answered, without a count

@@ -14,6 +14,7 @@ mod ledgers;
 mod listings;
 pub mod messages;
 pub mod paired;
+pub mod sent;
 #[cfg(test)]
 mod sessions;
 #[cfg(test)]

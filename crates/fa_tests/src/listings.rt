@@ -2,125 +2,15 @@
 
 use crate::messages::begun;
 use crate::paired::Paired;
-use Sent::*;
+use crate::sent::Sent::{self, *};
+use crate::sent::{listed, with_all};
 use fa_bodies::ROOT_ID;
 use fa_bodies::errno::EIO;
-use fa_bodies::sample::Field::{U32, Zeros};
-use fa_bodies::sample::{DIR, Listed, REG, Sample, entry_out};
+use fa_bodies::sample::{Listed, Sample};
 use fa_capture::codes::{NODE_ID_NOT_ALLOWED, REPLY_BODY};
 use fa_capture::read_capture;
 use fa_ledger::Call;
 use std::alloc::Global;
-
-/// Entries of a listing by name and place, at most five.
-type Entries = &'static [(&'static str, u64)];
-
-/// A message. The first number is its unique. A request of a directory that tells no other is of the root and its file
-/// handle 1.
-#[derive(Clone, Copy)]
-enum Sent {
-    /// LOOKUP of `d` in the root, and a directory of this node.
-    Lookup(u64),
-    Directory(u64, u64),
-    /// This node loses one lookup.
-    Forget(u64, u64),
-    /// UNLINK of `b` in the root.
-    Unlink(u64),
-    /// GETATTR of this node, and its answer.
-    Getattr(u64, u64),
-    Attr(u64),
-    /// Of the root, and of this node.
-    Opendir(u64),
-    OpendirOf(u64, u64),
-    /// This file handle.
-    Opened(u64, u64),
-    Releasedir(u64),
-    /// At this offset.
-    Readdir(u64, u64),
-    Readdirplus(u64, u64),
-    /// Of this node and this file handle, at this offset.
-    ReaddirOf(u64, u64, u64, u64),
-    /// What READDIR gives.
-    Gives(u64, Entries),
-    /// What READDIRPLUS gives, each entry with this node.
-    GivesPlus(u64, u64, Entries),
-    /// A success of 24 bytes that are no whole entry: the name is to have 4,294,967,295.
-    Broken(u64),
-    Error(u64),
-    Done(u64),
-}
-
-/// A capture and a message behind its last one.
-fn with(sample: Sample, message: Sent) -> Sample {
-    match message {
-        Lookup(unique) => sample.lookup(unique, ROOT_ID, b"d"),
-        Directory(unique, node) => sample.entry(unique, node, DIR | 0o755, 0, 2),
-        Forget(unique, node) => sample.forget(unique, node, 1),
-        Unlink(unique) => sample.unlink(unique, ROOT_ID, b"b"),
-        Getattr(unique, node) => sample.getattr(unique, node),
-        Attr(unique) => sample.attr(unique, REG | 0o644, 0, 1),
-        Opendir(unique) => sample.opendir(unique, ROOT_ID),
-        OpendirOf(unique, node) => sample.opendir(unique, node),
-        Opened(unique, fh) => sample.opened(unique, fh),
-        Releasedir(unique) => sample.releasedir(unique, ROOT_ID, 1),
-        Readdir(unique, offset) => sample.readdir(unique, ROOT_ID, 1, offset, 4096),
-        Readdirplus(unique, offset) => sample.readdirplus(unique, ROOT_ID, 1, offset, 4096),
-        ReaddirOf(unique, node, fh, offset) => sample.readdir(unique, node, fh, offset, 4096),
-        Gives(unique, entries) => with_listing(sample, unique, entries),
-        GivesPlus(unique, node, entries) => with_listing_plus(sample, unique, node, entries),
-        Broken(unique) => sample.success_of(unique, &[Zeros(16), U32(u32::MAX), Zeros(4)]),
-        Error(unique) => sample.error(unique, EIO),
-        Done(unique) => sample.ok(unique),
-    }
-}
-
-/// An entry of a file.
-fn listed(name: &str, off: u64) -> Listed<'_> {
-    Listed {
-        name: name.as_bytes(),
-        off,
-        file_type: 8,
-    }
-}
-
-/// The entry at this place, of a file, and one without a name behind the last.
-fn nth(entries: Entries, place: usize) -> Listed<'static> {
-    match entries.get(place) {
-        Some((name, off)) => listed(name, *off),
-        None => listed("", 0),
-    }
-}
-
-/// The entries, and others behind them.
-fn five(entries: Entries) -> [Listed<'static>; 5] {
-    [
-        nth(entries, 0),
-        nth(entries, 1),
-        nth(entries, 2),
-        nth(entries, 3),
-        nth(entries, 4),
-    ]
-}
-
-fn with_listing(sample: Sample, unique: u64, entries: Entries) -> Sample {
-    let five = five(entries);
-    sample.listing(unique, five.get(..entries.len()).unwrap_or(&five))
-}
-
-fn with_listing_plus(sample: Sample, unique: u64, node: u64, entries: Entries) -> Sample {
-    let entry = entry_out(node, REG | 0o644, 0, 1);
-    let [a, b, c, d, e] = five(entries);
-    let five = [(entry, a), (entry, b), (entry, c), (entry, d), (entry, e)];
-    sample.listing_plus(unique, five.get(..entries.len()).unwrap_or(&five))
-}
-
-/// A capture and these messages behind its last one.
-fn with_all(mut sample: Sample, messages: &[Sent]) -> Sample {
-    for message in messages {
-        sample = with(sample, *message);
-    }
-    sample
-}
 
 /// The number of a request that lists, and what it goes on from: the number of the earlier request and how many entries of
 /// its answer count, whether the listing is adrift, and whether the handle is shared.
@@ -143,35 +33,35 @@ const NONE: Refused = (0, 0);
 type Row = (&'static [Sent], &'static [Expected]);
 
 /// The root is opened with the file handle 1: the messages 2 and 3.
-const OPENED: &[Sent] = &[Opendir(2), Opened(2, 1)];
+const OPENED: &[Sent] = &[Opendir(2, ROOT_ID), Opened(2, 1, 0)];
 
 /// Which reply counts, and how many of its entries. These rows stand behind INIT, its answer and `OPENED`.
 const REPLIES: [Row; 14] = [
     (
         &[
-            Readdir(4, 0),
-            Gives(4, &[("a", 1)]),
-            Readdir(6, 1),
-            Gives(6, &[]),
+            Readdir(4, ROOT_ID, 1, 0),
+            Dirents(4, &[("a", 1)]),
+            Readdir(6, ROOT_ID, 1, 1),
+            Dirents(6, &[]),
         ],
         &[(4, None, WHOLE, ALONE), (6, Some((4, 1)), WHOLE, ALONE)],
     ),
     (
         &[
-            Readdir(4, 0),
-            Gives(4, &[("a", 1)]),
-            Unlink(6),
+            Readdir(4, ROOT_ID, 1, 0),
+            Dirents(4, &[("a", 1)]),
+            Unlink(6, ROOT_ID),
             Done(6),
-            Readdir(8, 1),
-            Gives(8, &[]),
+            Readdir(8, ROOT_ID, 1, 1),
+            Dirents(8, &[]),
         ],
         &[(4, None, WHOLE, ALONE), (8, Some((4, 1)), WHOLE, ALONE)],
     ),
     (
         &[
-            Readdirplus(4, 0),
-            GivesPlus(4, 2, &[("a", 1)]),
-            Getattr(6, 2),
+            Readdirplus(4, ROOT_ID, 1, 0),
+            DirentsPlus(4, 2, &[("a", 1)]),
+            Getattr(6, 2, 0, 0),
             Attr(6),
         ],
         &[(4, None, WHOLE, ALONE)],
@@ -179,12 +69,12 @@ const REPLIES: [Row; 14] = [
     // Of two replies with one off the last counts, whichever was asked for first.
     (
         &[
-            Readdir(4, 0),
-            Readdir(5, 0),
-            Gives(5, &[("a", 1)]),
-            Gives(4, &[("b", 9), ("a", 1)]),
-            Readdir(8, 1),
-            Readdir(9, 9),
+            Readdir(4, ROOT_ID, 1, 0),
+            Readdir(5, ROOT_ID, 1, 0),
+            Dirents(5, &[("a", 1)]),
+            Dirents(4, &[("b", 9), ("a", 1)]),
+            Readdir(8, ROOT_ID, 1, 1),
+            Readdir(9, ROOT_ID, 1, 9),
         ],
         &[
             (4, None, WHOLE, ALONE),
@@ -195,12 +85,12 @@ const REPLIES: [Row; 14] = [
     ),
     (
         &[
-            Readdir(4, 0),
-            Readdir(5, 0),
-            Gives(4, &[("b", 9), ("a", 1)]),
-            Gives(5, &[("a", 1)]),
-            Readdir(8, 1),
-            Readdir(9, 9),
+            Readdir(4, ROOT_ID, 1, 0),
+            Readdir(5, ROOT_ID, 1, 0),
+            Dirents(4, &[("b", 9), ("a", 1)]),
+            Dirents(5, &[("a", 1)]),
+            Readdir(8, ROOT_ID, 1, 1),
+            Readdir(9, ROOT_ID, 1, 9),
         ],
         &[
             (4, None, WHOLE, ALONE),
@@ -212,19 +102,19 @@ const REPLIES: [Row; 14] = [
     // Of the entries of one reply with one off the first counts.
     (
         &[
-            Readdir(4, 0),
-            Gives(4, &[("a", 1), ("b", 1)]),
-            Readdir(6, 1),
+            Readdir(4, ROOT_ID, 1, 0),
+            Dirents(4, &[("a", 1), ("b", 1)]),
+            Readdir(6, ROOT_ID, 1, 1),
         ],
         &[(4, None, WHOLE, ALONE), (6, Some((4, 1)), WHOLE, ALONE)],
     ),
     (
         &[
-            Readdir(4, 0),
-            Gives(4, &[("a", 7), ("b", 2), ("c", 7), ("d", 3), ("e", 2)]),
-            Readdir(6, 2),
-            Readdir(7, 3),
-            Readdir(8, 7),
+            Readdir(4, ROOT_ID, 1, 0),
+            Dirents(4, &[("a", 7), ("b", 2), ("c", 7), ("d", 3), ("e", 2)]),
+            Readdir(6, ROOT_ID, 1, 2),
+            Readdir(7, ROOT_ID, 1, 3),
+            Readdir(8, ROOT_ID, 1, 7),
         ],
         &[
             (4, None, WHOLE, ALONE),
@@ -236,11 +126,11 @@ const REPLIES: [Row; 14] = [
     // READDIR and READDIRPLUS go on from one another.
     (
         &[
-            Readdir(4, 0),
-            Gives(4, &[("a", 1), ("b", 2)]),
-            Readdirplus(6, 2),
-            GivesPlus(6, 2, &[("c", 3)]),
-            Readdir(8, 3),
+            Readdir(4, ROOT_ID, 1, 0),
+            Dirents(4, &[("a", 1), ("b", 2)]),
+            Readdirplus(6, ROOT_ID, 1, 2),
+            DirentsPlus(6, 2, &[("c", 3)]),
+            Readdir(8, ROOT_ID, 1, 3),
         ],
         &[
             (4, None, WHOLE, ALONE),
@@ -251,14 +141,14 @@ const REPLIES: [Row; 14] = [
     // `.` and `..` are entries too, and so are those that give no node.
     (
         &[
-            Readdir(4, 0),
-            Gives(4, &[(".", 1), ("..", 2), ("a", 3)]),
-            Readdir(6, 1),
-            Readdir(7, 2),
-            Readdirplus(8, 3),
-            GivesPlus(8, 0, &[(".", 4), ("..", 5), ("b", 6)]),
-            Readdir(10, 5),
-            Readdir(11, 6),
+            Readdir(4, ROOT_ID, 1, 0),
+            Dirents(4, &[(".", 1), ("..", 2), ("a", 3)]),
+            Readdir(6, ROOT_ID, 1, 1),
+            Readdir(7, ROOT_ID, 1, 2),
+            Readdirplus(8, ROOT_ID, 1, 3),
+            DirentsPlus(8, 0, &[(".", 4), ("..", 5), ("b", 6)]),
+            Readdir(10, ROOT_ID, 1, 5),
+            Readdir(11, ROOT_ID, 1, 6),
         ],
         &[
             (4, None, WHOLE, ALONE),
@@ -272,10 +162,10 @@ const REPLIES: [Row; 14] = [
     // The offset 0 begins anew, though an entry has it, which counts for those behind it.
     (
         &[
-            Readdir(4, 0),
-            Gives(4, &[("a", 0), ("b", 3)]),
-            Readdir(6, 0),
-            Readdir(7, 3),
+            Readdir(4, ROOT_ID, 1, 0),
+            Dirents(4, &[("a", 0), ("b", 3)]),
+            Readdir(6, ROOT_ID, 1, 0),
+            Readdir(7, ROOT_ID, 1, 3),
         ],
         &[
             (4, None, WHOLE, ALONE),
@@ -285,18 +175,22 @@ const REPLIES: [Row; 14] = [
     ),
     // What is refused lists nothing, and neither does what is empty.
     (
-        &[Readdir(4, 0), Error(4), Readdir(6, 1)],
+        &[
+            Readdir(4, ROOT_ID, 1, 0),
+            Error(4, EIO),
+            Readdir(6, ROOT_ID, 1, 1),
+        ],
         &[(4, None, WHOLE, ALONE), (6, None, ADRIFT, ALONE)],
     ),
     (
         &[
-            Readdir(4, 0),
-            Gives(4, &[("a", 1)]),
-            Readdir(6, 0),
-            Gives(6, &[]),
-            Readdir(8, 0),
-            Error(8),
-            Readdir(10, 1),
+            Readdir(4, ROOT_ID, 1, 0),
+            Dirents(4, &[("a", 1)]),
+            Readdir(6, ROOT_ID, 1, 0),
+            Dirents(6, &[]),
+            Readdir(8, ROOT_ID, 1, 0),
+            Error(8, EIO),
+            Readdir(10, ROOT_ID, 1, 1),
         ],
         &[
             (4, None, WHOLE, ALONE),
@@ -308,10 +202,10 @@ const REPLIES: [Row; 14] = [
     // Any number is an offset.
     (
         &[
-            Readdir(4, 0),
-            Gives(4, &[("a", u64::MAX), ("b", 1)]),
-            Readdir(6, u64::MAX),
-            Readdir(7, 1 << 32),
+            Readdir(4, ROOT_ID, 1, 0),
+            Dirents(4, &[("a", u64::MAX), ("b", 1)]),
+            Readdir(6, ROOT_ID, 1, u64::MAX),
+            Readdir(7, ROOT_ID, 1, 1 << 32),
         ],
         &[
             (4, None, WHOLE, ALONE),
@@ -322,11 +216,11 @@ const REPLIES: [Row; 14] = [
     // It goes on from itself where the offset stays.
     (
         &[
-            Readdir(4, 0),
-            Gives(4, &[("a", 1)]),
-            Readdir(6, 1),
-            Gives(6, &[("b", 2), ("c", 1)]),
-            Readdir(8, 1),
+            Readdir(4, ROOT_ID, 1, 0),
+            Dirents(4, &[("a", 1)]),
+            Readdir(6, ROOT_ID, 1, 1),
+            Dirents(6, &[("b", 2), ("c", 1)]),
+            Readdir(8, ROOT_ID, 1, 1),
         ],
         &[
             (4, None, WHOLE, ALONE),
@@ -339,21 +233,25 @@ const REPLIES: [Row; 14] = [
 /// What is adrift. These rows stand behind INIT, its answer and `OPENED`.
 const ADRIFT_ONES: [Row; 5] = [
     (
-        &[Readdir(4, 7), Gives(4, &[("a", 1)]), Readdir(6, 1)],
+        &[
+            Readdir(4, ROOT_ID, 1, 7),
+            Dirents(4, &[("a", 1)]),
+            Readdir(6, ROOT_ID, 1, 1),
+        ],
         &[(4, None, ADRIFT, ALONE), (6, Some((4, 1)), ADRIFT, ALONE)],
     ),
     // It is passed on, until a reply that is not adrift has the offset.
     (
         &[
-            Readdir(4, 7),
-            Gives(4, &[("a", 1)]),
-            Readdir(6, 1),
-            Gives(6, &[("b", 2)]),
-            Readdir(8, 2),
-            Readdir(9, 0),
-            Gives(9, &[("a", 1)]),
-            Readdir(11, 1),
-            Readdir(12, 2),
+            Readdir(4, ROOT_ID, 1, 7),
+            Dirents(4, &[("a", 1)]),
+            Readdir(6, ROOT_ID, 1, 1),
+            Dirents(6, &[("b", 2)]),
+            Readdir(8, ROOT_ID, 1, 2),
+            Readdir(9, ROOT_ID, 1, 0),
+            Dirents(9, &[("a", 1)]),
+            Readdir(11, ROOT_ID, 1, 1),
+            Readdir(12, ROOT_ID, 1, 2),
         ],
         &[
             (4, None, ADRIFT, ALONE),
@@ -366,11 +264,11 @@ const ADRIFT_ONES: [Row; 5] = [
     ),
     (
         &[
-            Readdir(4, 0),
-            Gives(4, &[("a", 1)]),
-            Readdir(6, 9),
-            Gives(6, &[("b", 1)]),
-            Readdir(8, 1),
+            Readdir(4, ROOT_ID, 1, 0),
+            Dirents(4, &[("a", 1)]),
+            Readdir(6, ROOT_ID, 1, 9),
+            Dirents(6, &[("b", 1)]),
+            Readdir(8, ROOT_ID, 1, 1),
         ],
         &[
             (4, None, WHOLE, ALONE),
@@ -381,12 +279,12 @@ const ADRIFT_ONES: [Row; 5] = [
     // A reply that comes after the next request.
     (
         &[
-            Readdir(4, 0),
-            Readdir(5, 1),
-            Gives(4, &[("a", 1)]),
-            Gives(5, &[("b", 2)]),
-            Readdir(8, 2),
-            Readdir(9, 1),
+            Readdir(4, ROOT_ID, 1, 0),
+            Readdir(5, ROOT_ID, 1, 1),
+            Dirents(4, &[("a", 1)]),
+            Dirents(5, &[("b", 2)]),
+            Readdir(8, ROOT_ID, 1, 2),
+            Readdir(9, ROOT_ID, 1, 1),
         ],
         &[
             (4, None, WHOLE, ALONE),
@@ -398,12 +296,12 @@ const ADRIFT_ONES: [Row; 5] = [
     // Another file handle of the same directory.
     (
         &[
-            Opendir(4),
-            Opened(4, 2),
-            Readdir(6, 0),
-            Gives(6, &[("a", 1)]),
-            ReaddirOf(8, ROOT_ID, 2, 1),
-            Readdir(9, 1),
+            Opendir(4, ROOT_ID),
+            Opened(4, 2, 0),
+            Readdir(6, ROOT_ID, 1, 0),
+            Dirents(6, &[("a", 1)]),
+            Readdir(8, ROOT_ID, 2, 1),
+            Readdir(9, ROOT_ID, 1, 1),
         ],
         &[
             (6, None, WHOLE, ALONE),
@@ -418,14 +316,14 @@ const OPENINGS: [Row; 8] = [
     // What was listed is forgotten when the handle is closed.
     (
         &[
-            Readdir(4, 0),
-            Gives(4, &[("a", 1)]),
-            Releasedir(6),
+            Readdir(4, ROOT_ID, 1, 0),
+            Dirents(4, &[("a", 1)]),
+            Releasedir(6, ROOT_ID, 1),
             Done(6),
-            Opendir(8),
-            Opened(8, 1),
-            Readdir(10, 1),
-            Readdir(11, 0),
+            Opendir(8, ROOT_ID),
+            Opened(8, 1, 0),
+            Readdir(10, ROOT_ID, 1, 1),
+            Readdir(11, ROOT_ID, 1, 0),
         ],
         &[
             (4, None, WHOLE, ALONE),
@@ -436,52 +334,52 @@ const OPENINGS: [Row; 8] = [
     // A reply to a request on a handle that is closed does not count for the one that follows.
     (
         &[
-            Readdir(4, 0),
-            Releasedir(5),
+            Readdir(4, ROOT_ID, 1, 0),
+            Releasedir(5, ROOT_ID, 1),
             Done(5),
-            Opendir(7),
-            Opened(7, 1),
-            Gives(4, &[("a", 1)]),
-            Readdir(10, 1),
+            Opendir(7, ROOT_ID),
+            Opened(7, 1, 0),
+            Dirents(4, &[("a", 1)]),
+            Readdir(10, ROOT_ID, 1, 1),
         ],
         &[(4, None, WHOLE, ALONE), (10, None, ADRIFT, ALONE)],
     ),
     (
         &[
-            Readdir(4, 0),
-            Releasedir(5),
-            Gives(4, &[("a", 1)]),
+            Readdir(4, ROOT_ID, 1, 0),
+            Releasedir(5, ROOT_ID, 1),
+            Dirents(4, &[("a", 1)]),
             Done(5),
-            Opendir(8),
-            Opened(8, 1),
-            Readdir(10, 1),
+            Opendir(8, ROOT_ID),
+            Opened(8, 1, 0),
+            Readdir(10, ROOT_ID, 1, 1),
         ],
         &[(4, None, WHOLE, ALONE), (10, None, ADRIFT, ALONE)],
     ),
     // It counts while the handle is open still, by the other of two openings.
     (
         &[
-            Opendir(4),
-            Opened(4, 1),
-            Readdir(6, 0),
-            Releasedir(7),
+            Opendir(4, ROOT_ID),
+            Opened(4, 1, 0),
+            Readdir(6, ROOT_ID, 1, 0),
+            Releasedir(7, ROOT_ID, 1),
             Done(7),
-            Gives(6, &[("a", 1)]),
-            Readdir(10, 1),
+            Dirents(6, &[("a", 1)]),
+            Readdir(10, ROOT_ID, 1, 1),
         ],
         &[(6, None, WHOLE, SHARED), (10, Some((6, 1)), WHOLE, SHARED)],
     ),
     // Shared is what is asked for behind the second opening, also when that or the first is closed.
     (
         &[
-            Readdir(4, 0),
-            Opendir(5),
-            Readdir(6, 0),
-            Opened(5, 1),
-            Gives(4, &[("a", 1)]),
-            Readdir(9, 1),
-            Releasedir(10),
-            Readdir(11, 1),
+            Readdir(4, ROOT_ID, 1, 0),
+            Opendir(5, ROOT_ID),
+            Readdir(6, ROOT_ID, 1, 0),
+            Opened(5, 1, 0),
+            Dirents(4, &[("a", 1)]),
+            Readdir(9, ROOT_ID, 1, 1),
+            Releasedir(10, ROOT_ID, 1),
+            Readdir(11, ROOT_ID, 1, 1),
         ],
         &[
             (4, None, WHOLE, ALONE),
@@ -493,25 +391,33 @@ const OPENINGS: [Row; 8] = [
     // Until both are closed.
     (
         &[
-            Opendir(4),
-            Opened(4, 1),
-            Readdir(6, 0),
-            Releasedir(7),
-            Releasedir(8),
-            Opendir(9),
-            Opened(9, 1),
-            Readdir(11, 0),
+            Opendir(4, ROOT_ID),
+            Opened(4, 1, 0),
+            Readdir(6, ROOT_ID, 1, 0),
+            Releasedir(7, ROOT_ID, 1),
+            Releasedir(8, ROOT_ID, 1),
+            Opendir(9, ROOT_ID),
+            Opened(9, 1, 0),
+            Readdir(11, ROOT_ID, 1, 0),
         ],
         &[(6, None, WHOLE, SHARED), (11, None, WHOLE, ALONE)],
     ),
     // An OPENDIR that is refused opens nothing.
     (
-        &[Opendir(4), Error(4), Readdir(6, 5)],
+        &[
+            Opendir(4, ROOT_ID),
+            Error(4, EIO),
+            Readdir(6, ROOT_ID, 1, 5),
+        ],
         &[(6, None, ADRIFT, ALONE)],
     ),
     // Shared and adrift at once.
     (
-        &[Opendir(4), Opened(4, 1), Readdir(6, 5)],
+        &[
+            Opendir(4, ROOT_ID),
+            Opened(4, 1, 0),
+            Readdir(6, ROOT_ID, 1, 5),
+        ],
         &[(6, None, ADRIFT, SHARED)],
     ),
 ];
@@ -521,42 +427,42 @@ const FROM_START: [Row; 4] = [
     // Two openings of the file handle 0.
     (
         &[
-            Opendir(2),
-            Opened(2, 0),
-            Opendir(4),
-            Opened(4, 0),
-            ReaddirOf(6, ROOT_ID, 0, 0),
-            Gives(6, &[]),
+            Opendir(2, ROOT_ID),
+            Opened(2, 0, 0),
+            Opendir(4, ROOT_ID),
+            Opened(4, 0, 0),
+            Readdir(6, ROOT_ID, 0, 0),
+            Dirents(6, &[]),
         ],
         &[(6, None, WHOLE, SHARED)],
     ),
     (
         &[
-            Opendir(2),
-            Opened(2, 0),
-            Opendir(4),
-            Opened(4, 0),
-            ReaddirOf(6, ROOT_ID, 0, 0),
-            Gives(6, &[("z", 1)]),
+            Opendir(2, ROOT_ID),
+            Opened(2, 0, 0),
+            Opendir(4, ROOT_ID),
+            Opened(4, 0, 0),
+            Readdir(6, ROOT_ID, 0, 0),
+            Dirents(6, &[("z", 1)]),
         ],
         &[(6, None, WHOLE, SHARED)],
     ),
     // One number on two directories.
     (
         &[
-            Lookup(2),
+            Lookup(2, ROOT_ID),
             Directory(2, 5),
-            Opendir(4),
-            Opened(4, 1),
-            OpendirOf(6, 5),
-            Opened(6, 1),
-            ReaddirOf(8, 5, 1, 0),
-            Gives(8, &[("a", 1)]),
-            Readdir(10, 1),
-            ReaddirOf(11, 5, 1, 1),
-            Gives(10, &[("b", 1)]),
-            ReaddirOf(13, 5, 1, 1),
-            Readdir(14, 1),
+            Opendir(4, ROOT_ID),
+            Opened(4, 1, 0),
+            Opendir(6, 5),
+            Opened(6, 1, 0),
+            Readdir(8, 5, 1, 0),
+            Dirents(8, &[("a", 1)]),
+            Readdir(10, ROOT_ID, 1, 1),
+            Readdir(11, 5, 1, 1),
+            Dirents(10, &[("b", 1)]),
+            Readdir(13, 5, 1, 1),
+            Readdir(14, ROOT_ID, 1, 1),
         ],
         &[
             (8, None, WHOLE, ALONE),
@@ -569,38 +475,44 @@ const FROM_START: [Row; 4] = [
     // A directory whose node id was forgotten and given again.
     (
         &[
-            Lookup(2),
+            Lookup(2, ROOT_ID),
             Directory(2, 5),
-            OpendirOf(4, 5),
-            Opened(4, 1),
-            ReaddirOf(6, 5, 1, 0),
-            Forget(7, 5),
-            Lookup(8),
+            Opendir(4, 5),
+            Opened(4, 1, 0),
+            Readdir(6, 5, 1, 0),
+            Forget(7, 5, 1),
+            Lookup(8, ROOT_ID),
             Directory(8, 5),
-            OpendirOf(10, 5),
-            Opened(10, 1),
-            Gives(6, &[("a", 1)]),
-            ReaddirOf(13, 5, 1, 1),
+            Opendir(10, 5),
+            Opened(10, 1, 0),
+            Dirents(6, &[("a", 1)]),
+            Readdir(13, 5, 1, 1),
         ],
         &[(6, None, WHOLE, ALONE), (13, None, ADRIFT, ALONE)],
     ),
 ];
+
+/// 24 bytes that are no whole entry: the name is to have 4,294,967,295.
+const BROKEN: &[u8; 24] = b"\0\0\0\0\0\0\0\0\0\0\0\0\0\0\0\0\xff\xff\xff\xff\0\0\0\0";
 
 /// Rows whose sixth message has this code, behind INIT, its answer and `OPENED`. What is refused lists nothing, and the next
 /// message has its number.
 const REFUSED: [(u16, Row); 3] = [
     (
         REPLY_BODY,
-        (&[Readdir(4, 0), Broken(4)], &[(4, None, WHOLE, ALONE)]),
+        (
+            &[Readdir(4, ROOT_ID, 1, 0), Success(4, BROKEN)],
+            &[(4, None, WHOLE, ALONE)],
+        ),
     ),
     (
         REPLY_BODY,
         (
             &[
-                Readdir(4, 0),
-                Broken(4),
-                Gives(4, &[("a", 1)]),
-                Readdir(6, 1),
+                Readdir(4, ROOT_ID, 1, 0),
+                Success(4, BROKEN),
+                Dirents(4, &[("a", 1)]),
+                Readdir(6, ROOT_ID, 1, 1),
             ],
             &[(4, None, WHOLE, ALONE), (6, Some((4, 1)), WHOLE, ALONE)],
         ),
@@ -609,11 +521,11 @@ const REFUSED: [(u16, Row); 3] = [
         NODE_ID_NOT_ALLOWED,
         (
             &[
-                Readdirplus(4, 0),
-                GivesPlus(4, ROOT_ID, &[("a", 1)]),
-                GivesPlus(4, 2, &[("b", 3), ("a", 2)]),
-                Readdir(6, 1),
-                Readdir(7, 2),
+                Readdirplus(4, ROOT_ID, 1, 0),
+                DirentsPlus(4, ROOT_ID, &[("a", 1)]),
+                DirentsPlus(4, 2, &[("b", 3), ("a", 2)]),
+                Readdir(6, ROOT_ID, 1, 1),
+                Readdir(7, ROOT_ID, 1, 2),
             ],
             &[
                 (4, None, WHOLE, ALONE),
