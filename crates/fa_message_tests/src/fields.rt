@@ -1,11 +1,12 @@
 //! Where the fields of bodies stand. In a body whose bytes all differ, the number that is read shows its place.
 
-use crate::messages::{asked_bytes, said, to_server};
+use crate::messages::{answer_code, asked_bytes, said, to_server};
 use bitflags::Flags;
 use fa_bodies::{
-    Attributes, EntryOut, FattrFlags, FopenFlags, GetattrFlags, InitFlags, OpenFlags, OpenOut,
-    ReadIn, ReleaseIn, Reply, RequestBody, SetattrIn, request, sample,
+    Attributes, EntryOut, FattrFlags, FopenFlags, GetattrFlags, InitFlags, Kind, Mode, OpenFlags,
+    OpenOut, ReadIn, ReleaseIn, Reply, RequestBody, SetattrIn, request, sample,
 };
+use fa_capture::codes::REPLY_BODY;
 use std::alloc::{AllocError, Global};
 
 /// Fields of a body as numbers, and 0 behind the last.
@@ -487,5 +488,49 @@ fn flags_are_their_bits(rt: HostRuntime) {
         (InitFlags::from_bits_retain(0x8011_0008).bits(), 0x8011_0008),
     ] {
         assert_eq!(rt; bits, expected);
+    }
+}
+
+/// The bits of a type, and the type.
+const TYPES: [(u32, Option<Kind>); 16] = [
+    (0o000000, None),
+    (0o010000, Some(Kind::Fifo)),
+    (0o020000, Some(Kind::CharDevice)),
+    (0o030000, None),
+    (0o040000, Some(Kind::Directory)),
+    (0o050000, None),
+    (0o060000, Some(Kind::BlockDevice)),
+    (0o070000, None),
+    (0o100000, Some(Kind::Regular)),
+    (0o110000, None),
+    (0o120000, Some(Kind::Symlink)),
+    (0o130000, None),
+    (0o140000, Some(Kind::Socket)),
+    (0o150000, None),
+    (0o160000, None),
+    (0o170000, None),
+];
+
+/// The bits beside those of a type tell nothing of it.
+#[test]
+fn types_of_modes(rt: HostRuntime) {
+    for (type_bits, file_type) in TYPES {
+        for others in [0, 0o755, 0o7777, 0x0001_0000, 0xffff_0fff] {
+            let mode: u32 = type_bits | others;
+            assert!(rt; Mode::from_bits(mode).file_type() == file_type, "{mode:o}");
+        }
+    }
+}
+
+/// No message of the server answers FORGET and BATCH_FORGET, whatever it has.
+#[test]
+fn requests_without_an_answer(rt: HostRuntime) {
+    for opcode in [2, 42] {
+        for error in [0, -2] {
+            for body in [b"".as_slice(), b"x"] {
+                let found = answer_code(rt.alloc(), (opcode, 0), error, body);
+                assert_eq!(rt; found, Some(REPLY_BODY), "{opcode} answered by {error}");
+            }
+        }
     }
 }

@@ -12,8 +12,4 @@ mod listings;
 #[cfg(test)]
 mod messages;
 #[cfg(test)]
-mod replies;
-#[cfg(test)]
-mod requests;
-#[cfg(test)]
 mod spelling;

@@ -34,13 +34,6 @@ pub fn head_code(bytes: &[u8]) -> u16 {
     reply_head(&from_server(bytes)).err().unwrap_or(0)
 }
 
-/// The code of a request of this operation with a body of these fields, 0 where it is read.
-pub fn code_of(alloc: Global, opcode: u32, fields: &[Field<'_>]) -> Option<u16> {
-    let body = sample::spelled(alloc, fields).ok()?;
-    let message = sample::request_bytes(alloc, 4, opcode, 1, &body).ok()?;
-    Some(request_code(&message))
-}
-
 /// An operation, how many zeros stand before the names in its body, and the names.
 const BODIES: [(u32, usize, &[u8]); 19] = [
     (opcodes::LOOKUP, 0, b"a\0"),
