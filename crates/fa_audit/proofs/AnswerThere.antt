@@ -13,7 +13,8 @@ use Rattle.fa_tree.specs.State.{TreeState}
 use Rattle.fa_tree.specs.Building.{empty_tree}
 use Rattle.fa_order.specs.declared.entry.Entry.{Entry}
 use Rattle.fa_order.specs.Order.{IsOrderText}
-use Rattle.fa_order.proofs.CallerLemmas.{order_text_or_fault, tree_text_or_fault}
+use Rattle.fa_order.proofs.CallerLemmas.{order_text_or_fault}
+use Rattle.fa_tree_text.proofs.CallerLemmas.{tree_text_or_fault}
 use Rattle.fa_check.specs.declared.verdict.Verdict.{Verdict}
 use Rattle.fa_check.specs.declared.verdict.Verdict.TheVariants.{Fault}
 use Rattle.fa_check.specs.Verdicts.{IsVerdict}

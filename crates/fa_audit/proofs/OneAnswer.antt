@@ -11,7 +11,7 @@ use Rattle.fa_ledger.specs.Passing.{message_checks, EachPasses, IsGoodCapture, I
 use Rattle.fa_tree.specs.State.{TreeState}
 use Rattle.fa_order.specs.declared.entry.Entry.{Entry}
 use Rattle.fa_order.specs.Order.{IsOrderText}
-use Rattle.fa_order.specs.TreeText.{IsTreeFault}
+use Rattle.fa_tree_text.specs.TreeText.{IsTreeFault}
 use Rattle.fa_check.specs.declared.verdict.Verdict.{Verdict}
 use Rattle.fa_check.specs.declared.verdict.Verdict.TheVariants.{Legal, Fault, NotShown}
 use Rattle.fa_check.specs.Verdicts.{IsVerdict}
@@ -20,7 +20,8 @@ use Rattle.fa_audit.specs.declared.verdict.AuditError.TheVariants.{OrderText, Tr
 use Rattle.fa_audit.specs.Verdict.{IsGivenTree, IsLegal, IsNotShown, IsTreeTextAtFault}
 use Rattle.fa_audit.specs.Laws.{OneAnswer}
 use Rattle.fa_capture.proofs.CallerLemmas.{no_failure, one_failure, one_reading}
-use Rattle.fa_order.proofs.CallerLemmas.{one_order_text, one_order_fault, order_text_has_no_fault, one_tree_text, one_tree_fault, tree_text_has_no_fault}
+use Rattle.fa_order.proofs.CallerLemmas.{one_order_text, one_order_fault, order_text_has_no_fault}
+use Rattle.fa_tree_text.proofs.CallerLemmas.{one_tree_text, one_tree_fault, tree_text_has_no_fault}
 use Rattle.fa_check.proofs.CallerLemmas.{verdict_is_one}
 
 -- ---- captures

@@ -13,7 +13,7 @@ use Rattle.fa_tree.specs.State.{TreeState}
 use Rattle.fa_tree.specs.Building.{empty_tree}
 use Rattle.fa_order.specs.declared.entry.Entry.{Entry}
 use Rattle.fa_order.specs.Order.{IsOrderText, IsOrderFault}
-use Rattle.fa_order.specs.TreeText.{IsTreeText, IsTreeFault}
+use Rattle.fa_tree_text.specs.TreeText.{IsTreeText, IsTreeFault}
 use Rattle.fa_check.specs.declared.verdict.Verdict.{Verdict}
 use Rattle.fa_check.specs.declared.verdict.Verdict.TheVariants.{Legal, Fault, NotShown}
 use Rattle.fa_check.specs.Orders.{IsValidOrder}

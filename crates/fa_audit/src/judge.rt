@@ -14,8 +14,9 @@ use crate::verdict::{AuditError, StartError};
 use fa_capture::read_capture;
 use fa_check::{Verdict, check};
 use fa_ledger::Calls;
-use fa_order::{Entry, TextError, read_order, read_tree};
+use fa_order::{Entry, TextError, read_order};
 use fa_tree::Tree;
+use fa_tree_text::read_tree;
 use std::alloc::Global;
 
 /// The permission bits of the root where no tree text is handed in.

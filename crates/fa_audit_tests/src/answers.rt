@@ -6,8 +6,8 @@ use fa_audit::{
 };
 use fa_bodies::ROOT_ID;
 use fa_bodies::errno::ENOENT;
-use fa_bodies::sample::Sample;
 use fa_check::Verdict;
+use fa_sample::Sample;
 use std::alloc::Global;
 
 /// An order text of the message 2 alone, and one of no entry.

@@ -27,7 +27,6 @@ pub mod opcodes;
 mod reading;
 mod replies;
 mod requests;
-pub mod sample;
 mod setattr;
 mod successes;
 mod walking;

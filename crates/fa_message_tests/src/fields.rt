@@ -4,7 +4,7 @@ use crate::messages::{answer_code, asked_bytes, said, to_server};
 use bitflags::Flags;
 use fa_bodies::{
     Attributes, EntryOut, FattrFlags, FopenFlags, GetattrFlags, InitFlags, Kind, Mode, OpenFlags,
-    OpenOut, ReadIn, ReleaseIn, Reply, RequestBody, SetattrIn, request, sample,
+    OpenOut, ReadIn, ReleaseIn, Reply, RequestBody, SetattrIn, request,
 };
 use fa_capture::codes::REPLY_BODY;
 use std::alloc::{AllocError, Global};
@@ -295,7 +295,7 @@ fn is_read(
     places: &[Place],
     behind: (&[u8], &[u8]),
 ) -> Option<bool> {
-    let message = sample::request_bytes(alloc, 4, opcode, 1, body).ok()?;
+    let message = fa_sample::request_bytes(alloc, 4, opcode, 1, body).ok()?;
     let asked = request(&to_server(&message)).ok()?;
     let (front, back) = bytes_of(&asked.body);
     let (operation, found) = of_request(&asked.body);
@@ -452,7 +452,7 @@ const SUCCESSES: [(u32, usize, [&[Place]; 3]); 11] = [
 fn is_success_read(alloc: Global, opcode: u32, len: usize, places: [&[Place]; 3]) -> Option<bool> {
     let asked = asked_bytes(alloc, opcode, 20).ok()?;
     let body = counted(alloc, len).ok()?;
-    let message = sample::reply_bytes(alloc, 4, 0, &body).ok()?;
+    let message = fa_sample::reply_bytes(alloc, 4, 0, &body).ok()?;
     let reply = said(&request(&to_server(&asked)).ok()?, &message).ok()?;
     let [before, attributes, behind] = places;
     let expected = [

@@ -1,7 +1,7 @@
 //! The headers of messages.
 
 use crate::messages::{from_server, head_code, request_code, to_server};
-use fa_bodies::{reply_head, request, sample};
+use fa_bodies::{reply_head, request};
 use std::alloc::Global;
 
 /// An INIT. The bytes of each field behind the opcode are its own, and the high bits of `unique`, `nodeid`,
@@ -108,7 +108,7 @@ fn head_of(bytes: &[u8]) -> (u64, i32, u16) {
 /// The head of a message with this unique and error, and so many bytes of body.
 fn head_with(alloc: Global, unique: u64, error: i32, len: usize) -> Option<(u64, i32, u16)> {
     let body = [0xff; 48];
-    let message = sample::reply_bytes(alloc, unique, error, body.get(..len)?).ok()?;
+    let message = fa_sample::reply_bytes(alloc, unique, error, body.get(..len)?).ok()?;
     Some(head_of(&message))
 }
 

@@ -1,9 +1,9 @@
 //! Walks over the items of BATCH_FORGET and over directory entries.
 
 use crate::messages::answer_code;
-use fa_bodies::sample::Field::{Bytes, U32, U64, Zeros};
-use fa_bodies::sample::{self, Field};
 use fa_bodies::{Dirent, entries, items, opcodes};
+use fa_sample::Field;
+use fa_sample::Field::{Bytes, U32, U64, Zeros};
 use std::alloc::Global;
 
 /// Two items of BATCH_FORGET. Each byte of the first has a value of its own.
@@ -190,7 +190,7 @@ fn read_from<'x>(
         Bytes(name),
         Bytes(padding),
     ];
-    let bytes = sample::spelled(alloc, &fields).ok()?;
+    let bytes = fa_sample::spelled(alloc, &fields).ok()?;
     let mut count = 0_usize;
     for found in entries(plus, &bytes) {
         let node = found.entry.map(|entry| entry.nodeid);

@@ -1,8 +1,8 @@
 //! Messages as the tests build them, and what the readers say of them.
 
-use fa_bodies::sample::{self, Field};
 use fa_bodies::{Reply, Request, opcodes, reply_body, reply_head, request};
 use fa_capture::{Direction, Packet};
+use fa_sample::Field;
 use std::alloc::{AllocError, Global};
 
 /// Where a message is read, but as something else than it is.
@@ -65,14 +65,14 @@ fn asking(alloc: Global, opcode: u32, size: u32) -> Result<Vec<u8>, AllocError> 
         opcodes::READ | opcodes::WRITE | opcodes::READDIR | opcodes::READDIRPLUS
     ) {
         let zeros = 20_usize.saturating_add(payload as usize);
-        return sample::spelled(
+        return fa_sample::spelled(
             alloc,
             &[Field::Zeros(16), Field::U32(size), Field::Zeros(zeros)],
         );
     }
     for (of, zeros, names) in BODIES {
         if of == opcode {
-            return sample::spelled(alloc, &[Field::Zeros(zeros), Field::Bytes(names)]);
+            return fa_sample::spelled(alloc, &[Field::Zeros(zeros), Field::Bytes(names)]);
         }
     }
     Ok(Vec::new(alloc))
@@ -101,7 +101,7 @@ fn is_as_sent(reply: &Reply<'_>, error: i32, body: &[u8]) -> bool {
 
 /// A request of this operation, with the unique 4, which asks for `size` bytes where it asks for bytes.
 pub fn asked_bytes(alloc: Global, opcode: u32, size: u32) -> Result<Vec<u8>, AllocError> {
-    sample::request_bytes(alloc, 4, opcode, 1, &asking(alloc, opcode, size)?)
+    fa_sample::request_bytes(alloc, 4, opcode, 1, &asking(alloc, opcode, size)?)
 }
 
 /// The code of a reply to a request of this operation and size, 0 where it is read.
@@ -112,7 +112,7 @@ pub fn answer_code(
     body: &[u8],
 ) -> Option<u16> {
     let asked = asked_bytes(alloc, opcode, size).ok()?;
-    let message = sample::reply_bytes(alloc, 4, error, body).ok()?;
+    let message = fa_sample::reply_bytes(alloc, 4, error, body).ok()?;
     let asked = request(&to_server(&asked)).ok()?;
     match said(&asked, &message) {
         Ok(reply) if is_as_sent(&reply, error, body) => Some(0),

@@ -1,10 +1,10 @@
 //! Samples, against bytes written by hand.
 
 use bitflags::Flags;
-use fa_bodies::sample::Field::Bytes;
-use fa_bodies::sample::{self, Listed, Sample};
 use fa_bodies::{FopenFlags, GetattrFlags, OpenFlags};
 use fa_capture::Direction;
+use fa_sample::Field::Bytes;
+use fa_sample::{Listed, Sample};
 
 /// READ, READDIR and READDIRPLUS of 8 bytes at 7 by the handle 6.
 #[rattlefmt::skip]
@@ -86,7 +86,7 @@ fn all_requests(sample: Sample) -> Sample {
         .setattr_size(4, 5, 7)
         .readlink(4, 5)
         .symlink(4, 5, b"a", b"/b")
-        .mknod(4, 5, sample::FIFO | 0o644, b"a")
+        .mknod(4, 5, fa_sample::FIFO | 0o644, b"a")
         .mkdir(4, 5, b"a")
         .unlink(4, 5, b"a")
         .rmdir(4, 5, b"a")
@@ -102,7 +102,7 @@ fn all_requests(sample: Sample) -> Sample {
         .readdir(4, 5, 6, 7, 8)
         .releasedir(4, 5, 6)
         .create(4, 5, b"a")
-        .create_with(4, 5, OpenFlags::EXCL, sample::DIR | 0o700, b"a")
+        .create_with(4, 5, OpenFlags::EXCL, fa_sample::DIR | 0o700, b"a")
         .readdirplus(4, 5, 6, 7, 8)
         .batch_forget(4, &[(2, 1), (3, 4)])
 }
@@ -145,7 +145,7 @@ const REPLIES: [(&[u8], &[u8]); 11] = [
 
 /// Each success that a sample has a call for.
 fn all_replies(sample: Sample) -> Sample {
-    let regular = sample::REG | 0o644;
+    let regular = fa_sample::REG | 0o644;
     let listed = Listed {
         name: b"a",
         off: 1,
@@ -156,11 +156,11 @@ fn all_replies(sample: Sample) -> Sample {
         off: 258,
         file_type: 0,
     };
-    let found = sample::entry_out(2, regular, 5, 1);
+    let found = fa_sample::entry_out(2, regular, 5, 1);
     sample
         .entry(4, 2, regular, 5, 1)
         .created(4, 2, regular, 5, 1, 9)
-        .attr(4, sample::DIR | 0o755, 5, 2)
+        .attr(4, fa_sample::DIR | 0o755, 5, 2)
         .opened(4, 9)
         .opened_with(4, 9, FopenFlags::DIRECT_IO)
         .written(4, 3)

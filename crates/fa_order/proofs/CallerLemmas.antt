@@ -6,6 +6,4 @@ pub use Rattle.fa_order.proofs.OrderLines.{entries_fit}
 pub use Rattle.fa_order.proofs.OrderLines.{same_entry}
 -- an order text, or its fault, and one alone
 pub use Rattle.fa_order.proofs.OrderLemmas.{one_order_text, one_order_fault, order_text_has_no_fault}
-pub use Rattle.fa_order.proofs.OrderTotal.{order_text_or_fault}
--- a tree text, or its fault, and one alone
-pub use Rattle.fa_order.proofs.TreeLaws.{one_tree_text, one_tree_fault, tree_text_has_no_fault, tree_text_or_fault}
+pub use Rattle.fa_order.proofs.OrderTotal.{order_text_or_fault, each_order_has_one_text}

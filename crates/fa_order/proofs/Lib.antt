@@ -2,12 +2,4 @@ pub mod OrderDigits
 pub mod OrderLines
 pub mod OrderLemmas
 pub mod OrderTotal
-pub mod SplitLemmas
-pub mod FieldLemmas
-pub mod WayLemmas
-pub mod PathLemmas
-pub mod BodyLemmas
-pub mod AdditionLemmas
-pub mod TreeLemmas
-pub mod TreeLaws
 pub mod CallerLemmas

@@ -4,12 +4,6 @@
 pub mod Lines
 -- order texts
 pub mod Order
--- paths in a tree text
-pub mod Paths
--- the lines of a tree text that add to the tree
-pub mod TreeLines
--- tree texts
-pub mod TreeText
 -- what an error says of a text
 pub mod Faults
 -- what follows from the definitions alone

@@ -1,8 +1,4 @@
+-- The vocabulary of the crate's private contracts.
+
 -- decimal digits
 pub mod Digits
--- ways down a tree
-pub mod Ways
--- the fields of lines
-pub mod Fields
--- what comes of a line
-pub mod Outcomes

@@ -2,7 +2,7 @@
 
 ghost use Rattle.std.specs.Prelude.{◌≡◌};
 ghost use Rattle.fa_order.specs.declared.lines.TheConstants.{MAX_TEXT_BYTES};
-ghost use Rattle.fa_order.specs.Laws.{OneOrderText, OneOrderFault, OrderTextHasNoFault, OrderTextOrFault, EachOrderHasOneText, OneTreeText, OneTreeFault, TreeTextHasNoFault, TreeTextOrFault};
+ghost use Rattle.fa_order.specs.Laws.{OneOrderText, OneOrderFault, OrderTextHasNoFault, OrderTextOrFault, EachOrderHasOneText};
 
 /// Bytes are the text of one list of entries at most.
 pub fn one_order()
@@ -27,26 +27,6 @@ pub fn order_text_or_fault()
 /// Entries whose numbers are in range have a text, and one alone.
 pub fn each_order_has_one_text()
     ensures { EachOrderHasOneText }
-{}
-
-/// Bytes are the text of one tree at most.
-pub fn one_tree()
-    ensures { OneTreeText }
-{}
-
-/// Bytes have their fault as a tree text at one line at most.
-pub fn one_tree_fault()
-    ensures { OneTreeFault }
-{}
-
-/// A tree text has no fault.
-pub fn tree_text_has_no_fault()
-    ensures { TreeTextHasNoFault }
-{}
-
-/// Bytes that are no tree text have a fault.
-pub fn tree_text_or_fault()
-    ensures { TreeTextOrFault }
 {}
 
 /// The limit of a text, as a number.

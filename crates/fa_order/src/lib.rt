@@ -1,18 +1,13 @@
-//! Order texts and tree texts: the entries of an order, and the tree that a capture begins with, read from bytes.
+//! Order texts: the entries of an order, read from bytes and written.
 #![tactic(auto)]
 
-mod additions;
 mod entry;
 mod error;
-mod fields;
 pub mod laws;
 mod lines;
 mod order;
-mod paths;
-mod tree_text;
 
 pub use entry::Entry;
 pub use error::TextError;
-pub use lines::MAX_TEXT_BYTES;
+pub use lines::{END_LINE, LINE_FEED, MAX_TEXT_BYTES};
 pub use order::{read_order, write_order};
-pub use tree_text::read_tree;

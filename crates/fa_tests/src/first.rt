@@ -2,9 +2,9 @@
 
 use crate::captures::FIRST;
 use bitflags::Flags;
-use fa_bodies::sample::Sample;
 use fa_bodies::{Reply, Request, RequestBody, reply_body, reply_head, request};
 use fa_capture::{Direction, Packet, read_capture};
+use fa_sample::Sample;
 use std::alloc::Global;
 
 /// The bytes of a sample of one LOOKUP that is refused with ENOENT.

@@ -9,10 +9,10 @@ use NodeName::{Given, Root};
 use bitflags::Flags;
 use fa_bodies::Reply;
 use fa_bodies::errno::{EACCES, EIO, ENOENT};
-use fa_bodies::sample::Sample;
 use fa_capture::codes::{CLOSED_HANDLE, FORGOTTEN_NODE, FORGOTTEN_TOO_OFTEN, NODE_ID_NOT_ALLOWED};
 use fa_capture::{Direction, read_capture};
 use fa_ledger::{Call, Calls, NodeName};
+use fa_sample::Sample;
 use std::alloc::Global;
 
 /// `GETATTR_FH` of `fuse.h`, and another flag.

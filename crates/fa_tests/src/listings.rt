@@ -6,10 +6,10 @@ use crate::sent::Sent::{self, *};
 use crate::sent::{listed, with_all};
 use fa_bodies::ROOT_ID;
 use fa_bodies::errno::EIO;
-use fa_bodies::sample::{Listed, Sample};
 use fa_capture::codes::{NODE_ID_NOT_ALLOWED, REPLY_BODY};
 use fa_capture::read_capture;
 use fa_ledger::Call;
+use fa_sample::{Listed, Sample};
 use std::alloc::Global;
 
 /// The number of a request that lists, and what it goes on from: the number of the earlier request and how many entries of

@@ -2,8 +2,8 @@
 
 use bitflags::Flags;
 use fa_bodies::InitFlags;
-use fa_bodies::sample::Sample;
 use fa_capture::{Direction, Packet};
+use fa_sample::Sample;
 use std::alloc::Global;
 
 /// INIT with these flags and its answer with those: the messages 0 and 1.

@@ -2,9 +2,9 @@
 
 use Sent::*;
 use bitflags::Flags;
-use fa_bodies::sample::Field::{U32, U64, Zeros};
-use fa_bodies::sample::{DIR, Listed, REG, Sample, entry_out};
 use fa_bodies::{FopenFlags, GetattrFlags, OpenFlags, ROOT_ID, opcodes};
+use fa_sample::Field::{U32, U64, Zeros};
+use fa_sample::{DIR, Listed, REG, Sample, entry_out};
 
 /// `O_RDWR | O_CREAT` of POSIX `open`.
 pub const CREAT: u32 = 0x42;

@@ -6,9 +6,9 @@ use crate::tried::{Seen, Told, Tried, UNSEEN};
 use Told::{Answered, Asked, Notified, Refused};
 use bitflags::Flags;
 use fa_bodies::errno::{EEXIST, ENOENT, ENOSYS, EPROTO};
-use fa_bodies::sample::Sample;
 use fa_bodies::{InitFlags, ROOT_ID};
 use fa_capture::{Direction, Packet, codes, read_capture};
+use fa_sample::Sample;
 use std::alloc::Global;
 
 /// EAGAIN.

@@ -1,4 +1,4 @@
-//! Tests of order texts and tree texts by what `fa_order` offers, as tables.
+//! Tests of order texts and tree texts by what `fa_order` and `fa_tree_text` offer, as tables.
 //!
 //! The expected values come from the formats (docs/formats.md).
 #![tactic(auto)]

@@ -4,8 +4,9 @@ ghost use Rattle.std.specs.Prelude.{◌≤◌, length};
 ghost use Rattle.fa_order.specs.declared.lines.TheConstants.{MAX_TEXT_BYTES};
 
 use Told::*;
-use fa_order::{MAX_TEXT_BYTES, TextError, read_tree};
+use fa_order::{MAX_TEXT_BYTES, TextError};
 use fa_tree::{FileId, Tree};
+use fa_tree_text::read_tree;
 use std::alloc::Global;
 
 /// What comes of a text.

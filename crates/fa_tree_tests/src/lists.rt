@@ -2,9 +2,9 @@
 
 use crate::steps::step;
 use fa_bodies::ROOT_ID as ROOT;
-use fa_bodies::sample::{DIR, Listed, Sample};
 use fa_capture::codes::LISTING;
 use fa_capture::read_capture;
+use fa_sample::{DIR, Listed, Sample};
 use fa_tests::messages::begun;
 use fa_tests::paired::calls_of;
 use fa_tree::{Kind, StepError, Tree};

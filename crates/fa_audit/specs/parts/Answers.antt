@@ -8,7 +8,7 @@ use Rattle.fa_tree.specs.State.{TreeState}
 use Rattle.fa_order.specs.declared.error.TextError.{TextError}
 use Rattle.fa_order.specs.declared.error.TextError.TheVariants as texts
 use Rattle.fa_order.specs.Order.{IsOrderFault}
-use Rattle.fa_order.specs.TreeText.{IsTreeFault}
+use Rattle.fa_tree_text.specs.TreeText.{IsTreeFault}
 use Rattle.fa_check.specs.declared.verdict.Verdict.{Verdict}
 use Rattle.fa_check.specs.Verdicts.{AreMessagesOf}
 use Rattle.fa_audit.specs.declared.verdict.AuditError.{AuditError}

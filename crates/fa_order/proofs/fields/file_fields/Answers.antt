@@ -1,5 +1,0 @@
-use Rattle.fa_order.proofs.FieldLemmas.{no_bits}
-use Rattle.fa_order.proofs.fields.file_fields.Goals as goal
-
-pub returns-in_err-bits-clause-none : goal.returns-in_err-bits-clause-none
-returns-in_err-bits-clause-none c = rw c.from_residual-in_err-bits.ensures (no_bits c.args.line.now c.in_err-bits.ensures.none)

@@ -1,5 +1,0 @@
-use Rattle.fa_order.proofs.TreeLaws.{tree_text_has_no_fault}
-use Rattle.fa_order.proofs.laws.tree_text_has_no_fault.Goals as goal
-
-pub returns : goal.returns
-returns c = tree_text_has_no_fault

@@ -1,9 +1,0 @@
-use Rattle.std.proofs.Common.{length}
-use Rattle.fa_order.proofs.TreeLemmas.{IsTreeSoFar}
-use Rattle.fa_order.proofs.tree_text.read_tree.Given as goal
-
-abbrev pub invariant-loop-tree : goal.invariant-loop-tree
-invariant-loop-tree l = IsTreeSoFar l.bytes l.bits l.tree l.left l.line
-
-abbrev pub decreases-loop-tree : goal.decreases-loop-tree
-decreases-loop-tree l = length l.left

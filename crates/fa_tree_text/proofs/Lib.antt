@@ -1,0 +1,9 @@
+pub mod SplitLemmas
+pub mod FieldLemmas
+pub mod WayLemmas
+pub mod PathLemmas
+pub mod BodyLemmas
+pub mod AdditionLemmas
+pub mod TreeLemmas
+pub mod TreeLaws
+pub mod CallerLemmas

@@ -1,0 +1,5 @@
+use Rattle.fa_tree_text.proofs.TreeLaws.{tree_text_or_fault}
+use Rattle.fa_tree_text.proofs.laws.tree_text_or_fault.Goals as goal
+
+pub returns : goal.returns
+returns c = tree_text_or_fault

@@ -1,0 +1,8 @@
+-- The vocabulary of the crate's private contracts.
+
+-- ways down a tree
+pub mod Ways
+-- the fields of lines
+pub mod Fields
+-- what comes of a line
+pub mod Outcomes

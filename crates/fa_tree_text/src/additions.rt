@@ -1,0 +1,140 @@
+//! What the lines of a tree text add to a tree.
+
+ghost use Rattle.std.specs.Prelude.{◌≡◌, ◌≤◌, ◌++◌, ℕ, List, IfOk, IfSome, IfNone};
+ghost use Rattle.std.specs.Option.{option_copied};
+ghost use Rattle.fa_tree.specs.Attributes.{all_bits};
+ghost use Rattle.fa_tree_text.specs.Paths.{Path, path_text, IsPath, IsAt};
+ghost use Rattle.fa_tree_text.specs.TreeLines.{TreeLine, line_text, SpellsBytes, SpellsBody, Adds};
+ghost use Rattle.fa_tree_text.specs.TreeText.{LacksAddition};
+ghost use Rattle.fa_tree_text.specs.parts.Outcomes.{IsFileAdded, IsNameAdded, IsLineAdded};
+
+use crate::fields::{Fields, FileFields, NameFields, fields_of};
+use crate::paths::find_parent;
+use fa_bodies::{Kind, split_at_byte};
+use fa_tree::{FileId, StepError, Tree};
+use hex::FromHexError;
+use std::alloc::{AllocError, Global};
+
+/// The bytes that hexadecimal digits spell, two or more.
+fn decode_bytes(alloc: Global, digits: Option<&[u8]>) -> Result<Option<Vec<u8>>, AllocError>
+    ensures found { IfOk result (λ found. IfSome found (λ bytes. SpellsBytes (option_copied digits.entry) bytes.items)) }
+    ensures none { IfOk result (λ found. IfNone found ((bytes : List ℕ) → SpellsBytes (option_copied digits.entry) bytes → ⊥)) }
+{
+    let Some(digits) = digits else {
+        return Ok(None);
+    };
+    if digits.len() < 2 {
+        return Ok(None);
+    }
+    match hex::decode(alloc, digits) {
+        Ok(bytes) => Ok(Some(bytes)),
+        Err(FromHexError::OutOfMemory) => Err(AllocError),
+        Err(_) => Ok(None),
+    }
+}
+
+/// The bytes of a new file of this type, by what spells them.
+fn decode_body(
+    alloc: Global,
+    kind: Kind,
+    spelled: Option<&[u8]>,
+) -> Result<Option<Vec<u8>>, AllocError>
+    ensures found { IfOk result (λ found. IfSome found (λ body. SpellsBody kind (option_copied spelled.entry) body.items)) }
+    ensures none { IfOk result (λ found. IfNone found ((body : List ℕ) → SpellsBody kind (option_copied spelled.entry) body → ⊥)) }
+{
+    match kind {
+        Kind::Regular => {
+            if spelled == Some(b"-".as_slice()) {
+                return Ok(Some(Vec::new(alloc)));
+            }
+            decode_bytes(alloc, spelled)
+        }
+        Kind::Symlink => decode_bytes(alloc, spelled),
+        Kind::Directory | Kind::Fifo | Kind::CharDevice | Kind::BlockDevice | Kind::Socket => {
+            if spelled.is_some() {
+                return Ok(None);
+            }
+            Ok(Some(Vec::new(alloc)))
+        }
+    }
+}
+
+/// The file to which a path leads, if it is a path and the file is there. The path's last name is decoded into `name`.
+fn find_file(tree: &Tree, path: &[u8], name: &mut Vec<u8>) -> Result<Option<FileId>, AllocError>
+    ensures found { IfOk result (λ found. IfSome found (λ file. (p : Path) × (path.now ≡ path_text p) × IsPath p × IsAt tree.now.store file p)) }
+    ensures none { IfOk result (λ found. IfNone found ((p : Path) (file : ℕ) → path.now ≡ path_text p → IsPath p → IsAt tree.now.store file p → ⊥)) }
+{
+    match find_parent(tree, path, name)? {
+        Some(parent) => Ok(tree.find(parent, name)),
+        None => Ok(None),
+    }
+}
+
+/// Adds a new file to a tree, and answers whether it may be added.
+fn add_file(alloc: Global, tree: &mut Tree, file: &FileFields<'_>) -> Result<bool, AllocError>
+    requires { file.now.bits ≤ all_bits }
+    ensures { IfOk result (λ added. IsFileAdded added tree.old tree.new file.now.kind file.now.bits file.now.path.now (option_copied file.now.body)) }
+{
+    let mut name = Vec::new(alloc);
+    let Some(parent) = find_parent(tree, file.path, &mut name)? else {
+        return Ok(false);
+    };
+    let Some(body) = decode_body(alloc, file.kind, file.body)? else {
+        return Ok(false);
+    };
+    match tree.add(parent, &name, file.kind, file.bits, &body) {
+        Ok(_) => Ok(true),
+        Err(StepError::Refused(_)) => Ok(false),
+        Err(StepError::Memory) => Err(AllocError),
+    }
+}
+
+/// Adds a further name to a tree, and answers whether it may be added.
+fn add_name(alloc: Global, tree: &mut Tree, name: &NameFields<'_>) -> Result<bool, AllocError>
+    ensures { IfOk result (λ added. IsNameAdded added tree.old tree.new name.now.path.now name.now.older.now) }
+{
+    let mut last = Vec::new(alloc);
+    let Some(file) = find_file(tree, name.older, &mut last)? else {
+        return Ok(false);
+    };
+    let Some(parent) = find_parent(tree, name.path, &mut last)? else {
+        return Ok(false);
+    };
+    match tree.add_link(parent, &last, file) {
+        Ok(()) => Ok(true),
+        Err(StepError::Refused(_)) => Ok(false),
+        Err(StepError::Memory) => Err(AllocError),
+    }
+}
+
+/// Adds what a line says, which stands without its line feed, and answers whether it may be added.
+fn add_fields(alloc: Global, tree: &mut Tree, line: &[u8]) -> Result<bool, AllocError>
+    ensures { IfOk result (λ added. IsLineAdded added tree.old tree.new line.now) }
+{
+    match fields_of(line) {
+        Some(Fields::File(file)) => add_file(alloc, tree, &file),
+        Some(Fields::Name(name)) => add_name(alloc, tree, &name),
+        None => Ok(false),
+    }
+}
+
+/// Adds what the line at the front says, and answers what stands behind it. None where no line stands there that may be added;
+/// the tree is then as it was.
+pub(crate) fn add_line<'a>(
+    alloc: Global,
+    tree: &mut Tree,
+    left: &'a [u8],
+) -> Result<Option<&'a [u8]>, AllocError>
+    ensures added { IfOk result (λ r. IfSome r (λ rest. (line : TreeLine) × Adds tree.old tree.new line × (left.now ≡ line_text line ++ rest.now))) }
+    ensures none { IfOk result (λ r. IfNone r (LacksAddition tree.old left.now)) }
+    ensures unchanged { IfOk result (λ r. IfNone r (tree.new ≡ tree.old)) }
+{
+    let Some((line, rest)) = split_at_byte(left, b'\n') else {
+        return Ok(None);
+    };
+    if add_fields(alloc, tree, line)? {
+        Ok(Some(rest))
+    } else {
+        Ok(None)
+    }
+}
