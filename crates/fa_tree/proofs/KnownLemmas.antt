@@ -31,7 +31,7 @@ use Rattle.fa_tree.specs.Edits.{each_open, open_after, handles_after}
 use Rattle.fa_tree.specs.Opening.{opened, with_opened}
 use Rattle.fa_tree.specs.Changes.{edits, changed}
 use Rattle.fa_tree.specs.Directories.{judged, IsThereIfLookedUp}
-use Rattle.fa_tree.specs.Judging.{size_asked, entry_file, file_if, files_listed, files_given, AttributesFit, EntriesAre, ListingFits}
+use Rattle.fa_tree.specs.Judging.{size_asked, entry_file, file_if, files_listed, files_on, files_given, AttributesFit, EntriesAre, ListingFits}
 use Rattle.fa_tree.specs.Bindings.{bound, nodes_after, given_in}
 use Rattle.fa_tree.specs.Outcomes.{Outcome, outcome, count_written}
 use Rattle.fa_tree.specs.Outcomes.Outcome.{Fails, Succeeds, Unanswered}
@@ -188,10 +188,10 @@ listed_have s directory (d ∷ entries) each =
     let apart = judged_apart (IsThereIfLookedUp s directory) d (judged entries) (not (is_dots d.name)) each in
     looked_up_more s directory d (nodes_of_listing entries) (files_listed s directory entries) apart.0 (listed_have s directory entries apart.1)
 
-listed_there : (s : Store) (directory : ℕ) (size : Option ℕ) (handle : Option OpenDirectory) (listing : Option Listing) (so_far entries : List PlainDirent)
-    → EntriesAre s directory size handle listing so_far entries → All (IsThereIfLookedUp s directory) (judged entries)
-listed_there s directory (Some size) (Some h) (Some listing) so_far entries are = are.now
-listed_there s directory size handle listing so_far entries are = absurd are
+on_open_have : (s : Store) (size : Option ℕ) (handle : Option OpenDirectory) (listing : Option Listing) (so_far entries : List PlainDirent)
+    → EntriesAre s size handle listing so_far entries → HaveFiles (nodes_of_listing entries) (files_on s handle entries)
+on_open_have s (Some size) (Some h) (Some listing) so_far entries are = listed_have s h.directory entries are.now
+on_open_have s size handle listing so_far entries are = absurd are
 
 -- the nodes of any success
 success_has : (s : Store) (x : Resolved) (q : Question) (so_far : List PlainDirent) (reply : PlainReply) → AttributesFit s x q.body reply → ListingFits s x q so_far reply
@@ -199,7 +199,7 @@ success_has : (s : Store) (x : Resolved) (q : Question) (so_far : List PlainDire
 success_has s x q so_far (Entry entry) fits lists = entry_has s x q.body entry fits
 success_has s x q so_far (Created entry out) fits lists = created_has s x q.body entry out fits
 success_has s x q so_far (Listed entries) fits lists =
-    listed_have s x.node entries (listed_there s x.node (size_asked q.body) x.handle q.listing so_far entries lists)
+    on_open_have s (size_asked q.body) x.handle q.listing so_far entries lists
 success_has s x q so_far other fits lists = tt
 
 -- ---- so their names are known

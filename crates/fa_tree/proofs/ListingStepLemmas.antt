@@ -1,5 +1,5 @@
 -- What was judged of a listing in the store is judged of it in the tree; and the checks of entries are those of the outcome.
-use Rattle.std.proofs.Common.{◌≡◌, ◌==◌, ℕ, Bool, true, List, [], ◌∷◌, length, Option, None, Some, Result, arith, eqb-true, refl, sym, subst, ap, ◌∙◌, inl, inr}
+use Rattle.std.proofs.Common.{◌≡◌, ◌==◌, ℕ, Bool, true, false, List, [], ◌∷◌, length, Option, None, Some, Result, arith, eqb-true, refl, sym, subst, ap, ◌∙◌, inl, inr}
 use Rattle.std.specs.Prelude.{◌↔◌, All, IsTrue, IfOk}
 use Rattle.std.specs.FinMap.{FinMap}
 use Rattle.fa_capture.specs.Checks.{AllHold, FirstFailure}
@@ -32,12 +32,12 @@ use Rattle.fa_tree.proofs.ChangedLemmas.{stays_open}
 use Rattle.fa_tree.specs.parts.StoredParts.{StoredShown}
 use Rattle.fa_tree.specs.parts.ListingParts.{Lists, settled, entries_checks, given_by, TellsSuch}
 
-pub entries_still : {E : Type 0} (r : Result Bool E) (t u : TreeState) → t ≡ u → (directory : ℕ) (asked : Option ℕ) (size : ℕ) (h : OpenDirectory)
+pub entries_still : {E : Type 0} (r : Result Bool E) (t u : TreeState) → t ≡ u → (asked : Option ℕ) (size : ℕ) (h : OpenDirectory)
     (of : Option Listing) (listing : Listing) (so_far entries : List PlainDirent) → asked ≡ Some size → of ≡ Some listing
-    → IfOk r (λ is. IsTrue is ↔ IsListed t.store directory h listing size so_far entries)
-    → IfOk r (λ is. IsTrue is ↔ EntriesAre u.store directory asked (Some h) of so_far entries)
-entries_still r t u same directory asked size h of listing so_far entries is also told =
-    rw (is, also) (subst (λ (v : TreeState). IfOk r (λ b. IsTrue b ↔ IsListed v.store directory h listing size so_far entries)) same told)
+    → IfOk r (λ is. IsTrue is ↔ IsListed t.store h listing size so_far entries)
+    → IfOk r (λ is. IsTrue is ↔ EntriesAre u.store asked (Some h) of so_far entries)
+entries_still r t u same asked size h of listing so_far entries is also told =
+    rw (is, also) (subst (λ (v : TreeState). IfOk r (λ b. IsTrue b ↔ IsListed v.store h listing size so_far entries)) same told)
 
 pub types_still : (t u : TreeState) → t ≡ u → (directory : ℕ) (entries : List PlainDirent) (b : Bool)
     → IsTrue b ↔ All (IsTypedIfLookedUp t.store directory) (judged entries) → IsTrue b ↔ All (IsTypedIfLookedUp u.store directory) (judged entries)
@@ -209,6 +209,18 @@ pub bound_tree : (old : TreeState) (stored : StoredShown) (before between nodes 
 bound_tree old stored before between nodes given items same kept all now =
     subst (λ (v : TreeState). ◌≡◌ {A = TreeState} (record { store = stored.store; nodes = nodes; handles = stored.handles }) (listed_after v items)) same
     (rw (now, kept, all) refl)
+
+-- what gives names of nodes may take memory
+pub giving_may_grow : (s : Store) (x : Resolved) (body : PlainBody) (o : Outcome) (items : List (NodeName × ℕ)) → Lists body → items ≡ given_by s x body o → (items ≡ [] → ⊥)
+    → MayTakeMemory o body
+giving_may_grow s x body (Fails error) items lists is some = absurd (some is)
+giving_may_grow s x body (Succeeds answer) items lists is some = lists_grow body lists
+giving_may_grow s x body Unanswered items lists is some = lists_grow body lists
+
+-- a list of some length
+pub some_of : {X : Type 0} (xs : List X) (n : ℕ) → n ≡ length xs → (n == 0) ≡ false → xs ≡ [] → ⊥
+some_of [] n all is none = let zero_is : (0 == 0) ≡ false = subst (λ (k : ℕ). (k == 0) ≡ false) all is in absurd cc
+some_of (x ∷ xs) n all is none = absurd cc
 
 -- a list of no length
 pub none_of : {X : Type 0} (xs : List X) (n : ℕ) → n ≡ length xs → (n == 0) ≡ true → xs ≡ []

@@ -61,8 +61,8 @@ IsTypedIfLookedUp s directory d =
     → slice_get s.files number ≡ Some file → HasFileType (mode_bits entry.attr.mode) (Some file.kind)
 
 -- The rule of listings, for a request of this size that goes on from this listing, after what was listed so far.
-pub record IsListed (s : Store) (directory : ℕ) (h : OpenDirectory) (listing : Listing) (size : ℕ) (so_far entries : List PlainDirent) : Type 0 where
+pub record IsListed (s : Store) (h : OpenDirectory) (listing : Listing) (size : ℕ) (so_far entries : List PlainDirent) : Type 0 where
   pub there : All (WasThere h) (judged entries)
   pub typed : All (IsTypedAsStayed s h) (judged entries)
   pub orderly : listing.adrift ≡ false → listing.shared ≡ false → IsOrderly h so_far entries size
-  pub now : All (IsThereIfLookedUp s directory) (judged entries)
+  pub now : All (IsThereIfLookedUp s h.directory) (judged entries)

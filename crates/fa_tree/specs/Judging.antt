@@ -38,13 +38,18 @@ entry_file s x body = option_and_then (λ name. get s.names (x.node, name)) (ent
 abbrev pub EntryFits : Store → Resolved → PlainBody → EntryOut → Type 0
 EntryFits s x body entry = (file : ℕ) × (entry_file s x body ≡ Some file) × Fits s file entry.attr
 
+-- The types in the attributes of entries fit, by the names of the directory that is open.
+abbrev pub TypesFit : Store → Option OpenDirectory → List PlainDirent → Type 0
+TypesFit s None entries = ⊥
+TypesFit s (Some h) entries = All (IsTypedIfLookedUp s h.directory) (judged entries)
+
 -- the attributes that a success gives fit; where LOOKUP says that the name is not there, nothing is judged
 abbrev pub AttributesFit : Store → Resolved → PlainBody → PlainReply → Type 0
 AttributesFit s x (Lookup name) (Entry entry) = entry.nodeid ≢ 0 → EntryFits s x (Lookup name) entry
 AttributesFit s x body (Entry entry) = EntryFits s x body entry
 AttributesFit s x body (Created entry out) = EntryFits s x body entry
 AttributesFit s x body (Attributes a) = Fits s x.node a.attr
-AttributesFit s x body (Listed entries) = All (IsTypedIfLookedUp s x.node) (judged entries)
+AttributesFit s x body (Listed entries) = TypesFit s x.handle entries
 AttributesFit s x body Empty = Unit {0}
 AttributesFit s x body (Opened out) = Unit {0}
 AttributesFit s x body (Written size) = Unit {0}
@@ -64,9 +69,14 @@ files_listed s directory [] = []
 files_listed s directory (d ∷ ds) =
     file_if (nodes_of_entry d.entry d.name) (get s.names (directory, d.name)) ++ files_listed s directory ds
 
+-- those of the names in the directory that is open
+abbrev pub files_on : Store → Option OpenDirectory → List PlainDirent → List (Option ℕ)
+files_on s None entries = []
+files_on s (Some h) entries = files_listed s h.directory entries
+
 -- the files for which a success gives names of nodes, in the order of these
 abbrev pub files_given : Store → Resolved → PlainBody → PlainReply → List (Option ℕ)
-files_given s x body (Listed entries) = files_listed s x.node entries
+files_given s x body (Listed entries) = files_on s x.handle entries
 files_given s x body (Entry entry) = entry_file s x body ∷ []
 files_given s x body (Created entry out) = entry_file s x body ∷ []
 files_given s x body Empty = []
@@ -107,13 +117,13 @@ size_asked (Readdirplus r) = Some r.size
 size_asked other = None
 
 -- the entries that a success of READDIR or READDIRPLUS gives on an open directory, after what was listed so far
-abbrev pub EntriesAre : Store → (directory : ℕ) → (size : Option ℕ) → Option OpenDirectory → Option Listing → (so_far entries : List PlainDirent) → Type 0
-EntriesAre s directory (Some size) (Some h) (Some listing) so_far entries = IsListed s directory h listing size so_far entries
-EntriesAre s directory size h listing so_far entries = ⊥
+abbrev pub EntriesAre : Store → (size : Option ℕ) → Option OpenDirectory → Option Listing → (so_far entries : List PlainDirent) → Type 0
+EntriesAre s (Some size) (Some h) (Some listing) so_far entries = IsListed s h listing size so_far entries
+EntriesAre s size h listing so_far entries = ⊥
 
 -- the entries that a success of READDIR or READDIRPLUS gives fit
 abbrev pub ListingFits : Store → Resolved → Question → (so_far : List PlainDirent) → PlainReply → Type 0
-ListingFits s x q so_far (Listed entries) = EntriesAre s x.node (size_asked q.body) x.handle q.listing so_far entries
+ListingFits s x q so_far (Listed entries) = EntriesAre s (size_asked q.body) x.handle q.listing so_far entries
 ListingFits s x q so_far (Refused error) = Unit {0}
 ListingFits s x q so_far Empty = Unit {0}
 ListingFits s x q so_far (Entry entry) = Unit {0}

@@ -9,7 +9,6 @@ ghost use Rattle.fa_tree.specs.Directories.{judged, WasThere, IsTypedAsStayed, I
 ghost use Rattle.fa_tree.specs.parts.OpenParts.{open_of};
 
 use crate::entries::is_judged;
-use crate::id::FileId;
 use crate::open::OpenNames;
 use crate::orderly::is_orderly;
 use crate::stored::Stored;
@@ -44,13 +43,20 @@ impl Stored {
         entries.all(|dirent| !is_judged(&dirent) || self.is_typed_as_stayed(names, &dirent))
     }
 
+    /// Whether all names that the entries look up are in the open directory now.
+    fn all_there_now(&self, names: &OpenNames<'_>, entries: Entries<'_>) -> bool
+        ensures { IsTrue result ↔ All (IsThereIfLookedUp self.now.store (open_of names.now).directory) (judged (entries_left entries.entry)) }
+    {
+        self.all_there(names.directory(), entries)
+    }
+
     /// Whether each entry that is judged is what the rule of listings allows, whatever the others are.
-    fn all_allowed(&self, directory: FileId, names: &OpenNames<'_>, entries: Entries<'_>) -> bool
-        ensures { IsTrue result ↔ (All (WasThere (open_of names.now)) (judged (entries_left entries.entry)) × All (IsTypedAsStayed self.now.store (open_of names.now)) (judged (entries_left entries.entry)) × All (IsThereIfLookedUp self.now.store directory) (judged (entries_left entries.entry))) }
+    fn all_allowed(&self, names: &OpenNames<'_>, entries: Entries<'_>) -> bool
+        ensures { IsTrue result ↔ (All (WasThere (open_of names.now)) (judged (entries_left entries.entry)) × All (IsTypedAsStayed self.now.store (open_of names.now)) (judged (entries_left entries.entry)) × All (IsThereIfLookedUp self.now.store (open_of names.now).directory) (judged (entries_left entries.entry))) }
     {
         names.all_were_there(entries)
             && self.all_typed_as_stayed(names, entries)
-            && self.all_there(directory, entries)
+            && self.all_there_now(names, entries)
     }
 
     /// Whether the entries are what the rule of listings allows, for the call at this place. An error says that memory was
@@ -60,7 +66,6 @@ impl Stored {
     /// calls that it goes on from, the names that they list, and all places that ever had a name.
     pub(crate) fn is_listed<'a>(
         &self,
-        directory: FileId,
         names: &OpenNames<'_>,
         calls: &Calls<'a>,
         k: usize,
@@ -69,9 +74,9 @@ impl Stored {
         size: u32,
     ) -> Result<bool, AllocError>
         requires { k < length calls.now.list.items }
-        ensures { IfOk result (λ is. IsTrue is ↔ IsListed self.now.store directory (open_of names.now) listing.now size (listing_so_far (map call_shown calls.now.list.items) k) (entries_left entries.entry)) }
+        ensures { IfOk result (λ is. IsTrue is ↔ IsListed self.now.store (open_of names.now) listing.now size (listing_so_far (map call_shown calls.now.list.items) k) (entries_left entries.entry)) }
     {
-        if !self.all_allowed(directory, names, entries) {
+        if !self.all_allowed(names, entries) {
             return Ok(false);
         }
         if listing.adrift || listing.shared {

@@ -80,12 +80,12 @@ impl Tree {
         entries: Entries<'a>,
     ) -> Result<bool, AllocError>
         requires { k < length calls.now.list.items }
-        ensures { IfOk result (λ are. IsTrue are ↔ EntriesAre self.now.store at.now.named.node (size_asked (body_shown call.now.request.body)) (Some (open_of at.now.names)) call.now.listing (listing_so_far (map call_shown calls.now.list.items) k) (entries_left entries.entry)) }
+        ensures { IfOk result (λ are. IsTrue are ↔ EntriesAre self.now.store (size_asked (body_shown call.now.request.body)) (Some (open_of at.now.names)) call.now.listing (listing_so_far (map call_shown calls.now.list.items) k) (entries_left entries.entry)) }
     {
         match (size_asked(&call.request.body), &call.listing) {
             (Some(size), Some(listing)) => self
                 .stored
-                .is_listed(at.named.node, &at.names, calls, k, listing, entries, size),
+                .is_listed(&at.names, calls, k, listing, entries, size),
             _ => Ok(false),
         }
     }
@@ -106,9 +106,9 @@ impl Tree {
 
     /// Whether the types in the attributes of entries fit.
     fn types_fit(&self, at: &NamedDirectory<'_>, entries: Entries<'_>) -> bool
-        ensures { IsTrue result ↔ All (IsTypedIfLookedUp self.now.store at.now.named.node) (judged (entries_left entries.entry)) }
+        ensures { IsTrue result ↔ All (IsTypedIfLookedUp self.now.store (open_of at.now.names).directory) (judged (entries_left entries.entry)) }
     {
-        self.stored.all_typed(at.named.node, entries)
+        self.stored.all_typed(at.names.directory(), entries)
     }
 
     /// The names of nodes that entries give, each with its file.
@@ -118,9 +118,10 @@ impl Tree {
         given: &[NodeName],
         entries: Entries<'_>,
     ) -> Result<Vec<(NodeName, FileId)>, AllocError>
-        ensures { IfOk result (λ nodes. nodes.items ≡ bound given.now (files_listed self.now.store at.now.named.node (entries_left entries.entry))) }
+        ensures { IfOk result (λ nodes. nodes.items ≡ bound given.now (files_listed self.now.store (open_of at.now.names).directory (entries_left entries.entry))) }
     {
-        self.stored.nodes_listed(at.named.node, given, entries)
+        self.stored
+            .nodes_listed(at.names.directory(), given, entries)
     }
 
     /// Whether names of nodes may be given for these files.
@@ -141,7 +142,7 @@ impl Tree {
         entries: Entries<'a>,
     ) -> Result<Vec<(NodeName, FileId)>, StepError>
         requires { k < length calls.now.list.items }
-        ensures ok { IfOk result (λ nodes. AllHold (entries_checks self.now.nodes self.now.store (directory_shown at.now) (question (call_shown call.now)) (listing_so_far (map call_shown calls.now.list.items) k) given.now (entries_left entries.entry)) × (nodes.items ≡ bound given.now (files_listed self.now.store at.now.named.node (entries_left entries.entry)))) }
+        ensures ok { IfOk result (λ nodes. AllHold (entries_checks self.now.nodes self.now.store (directory_shown at.now) (question (call_shown call.now)) (listing_so_far (map call_shown calls.now.list.items) k) given.now (entries_left entries.entry)) × (nodes.items ≡ bound given.now (files_listed self.now.store (open_of at.now.names).directory (entries_left entries.entry)))) }
         ensures refused { IfErr result (λ e. TellsSuch e (FirstFailure (entries_checks self.now.nodes self.now.store (directory_shown at.now) (question (call_shown call.now)) (listing_so_far (map call_shown calls.now.list.items) k) given.now (entries_left entries.entry))) (Unit {0})) }
     {
         if !self.may_list(at, call) {

@@ -104,6 +104,15 @@ impl Openings {
 }
 
 impl OpenNames<'_> {
+    /// The directory that is open.
+    ///
+    /// Takes no memory, in constant time.
+    pub fn directory(&self) -> FileId
+        ensures { result ≡ (open_of self.now).directory }
+    {
+        self.directory
+    }
+
     /// Whether a name was in the directory at some moment since it was opened.
     ///
     /// Takes no memory, in expected constant time but for reading the name.

@@ -1,5 +1,5 @@
 -- Calls that list, and what is judged of them.
-use Rattle.std.specs.Prelude.{ℕ, List, [], ◌∷◌, All}
+use Rattle.std.specs.Prelude.{ℕ, List, [], ◌∷◌}
 use Rattle.std.specs.FinMap.{FinMap}
 use Rattle.fa_capture.specs.declared.codes.TheConstants.{SUCCESS_NOT_ALLOWED, ATTRIBUTES, NODE_ID_OF_ANOTHER, LISTING}
 use Rattle.fa_bodies.specs.Dirents.{PlainDirent}
@@ -9,8 +9,7 @@ use Rattle.fa_ledger.specs.declared.name.NodeName.{NodeName}
 use Rattle.fa_tree.specs.State.{Store, node_cmp}
 use Rattle.fa_tree.specs.Resolved.{Question, Resolved}
 use Rattle.fa_tree.specs.Conditions.{MayBeDone}
-use Rattle.fa_tree.specs.Directories.{judged, IsTypedIfLookedUp}
-use Rattle.fa_tree.specs.Judging.{files_listed, size_asked, EntriesAre}
+use Rattle.fa_tree.specs.Judging.{size_asked, TypesFit, files_on, EntriesAre}
 use Rattle.fa_tree.specs.Bindings.{AreBound, bound, given_in}
 use Rattle.fa_tree.specs.Outcomes.{Outcome}
 use Rattle.fa_tree.specs.Outcomes.Outcome.{Fails, Succeeds, Unanswered}
@@ -43,7 +42,7 @@ TellsSuch Memory Such may_come = may_come
 abbrev pub entries_checks : FinMap node_cmp ℕ → Store → Resolved → Question → (so_far : List PlainDirent) → List NodeName → List PlainDirent → List (ℕ × Type 0)
 entries_checks nodes s x q so_far given entries =
     (SUCCESS_NOT_ALLOWED, MayBeDone s x q.body)
-    ∷ (ATTRIBUTES, All (IsTypedIfLookedUp s x.node) (judged entries))
-    ∷ (NODE_ID_OF_ANOTHER, AreBound nodes (bound given (files_listed s x.node entries)))
-    ∷ (LISTING, EntriesAre s x.node (size_asked q.body) x.handle q.listing so_far entries)
+    ∷ (ATTRIBUTES, TypesFit s x.handle entries)
+    ∷ (NODE_ID_OF_ANOTHER, AreBound nodes (bound given (files_on s x.handle entries)))
+    ∷ (LISTING, EntriesAre s (size_asked q.body) x.handle q.listing so_far entries)
     ∷ []

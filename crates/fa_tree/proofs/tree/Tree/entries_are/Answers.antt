@@ -12,6 +12,6 @@ use Rattle.fa_tree.proofs.tree.Tree.entries_are.Goals as goal
 
 pub returns-in-Some-Some : goal.returns-in-Some-Some
 returns-in-Some-Some c =
-    entries_still c.is_listed.result (tree_shown c.self.inside) c.args.self.now c.self.view_is c.args.at.now.named.node (size_asked (body_shown c.args.call.now.request.body))
+    entries_still c.is_listed.result (tree_shown c.self.inside) c.args.self.now c.self.view_is (size_asked (body_shown c.args.call.now.request.body))
     c.in-Some-Some.size (open_of c.args.at.now.names) c.args.call.now.listing c.in-Some-Some.listing (listing_so_far (map call_shown c.args.calls.now.list.items) c.args.k)
     (entries_left c.args.entries) (sym c.size_asked.ensures ∙ c.in-Some-Some.is-0) c.in-Some-Some.is-1 c.is_listed.ensures

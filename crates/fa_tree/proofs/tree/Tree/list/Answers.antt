@@ -1,10 +1,12 @@
 use Rattle.std.proofs.Common.{rules, ◌≡◌, [], sym, ◌∙◌}
 use Rattle.std.specs.Prelude.{map, length}
 use Rattle.std.specs.Vec.{vec_len}
+use Rattle.std.proofs.lemmas.Result.{err_from_is_err_and}
 use Rattle.fa_ledger.specs.Calls.{call_shown}
 use Rattle.fa_ledger.specs.SoFar.{listing_so_far}
+use Rattle.fa_tree.specs.Outcomes.{outcome}
 use Rattle.fa_tree.specs.parts.NodeParts.{nodes_shown}
-use Rattle.fa_tree.proofs.ListingStepLemmas.{lists_to, bound_tree, none_of}
+use Rattle.fa_tree.proofs.ListingStepLemmas.{lists_to, lists_offset, bound_tree, none_of, some_of, giving_may_grow}
 use Rattle.fa_tree.proofs.tree.Tree.list.Goals as goal
 use Rattle.fa_tree.proofs.tree.Tree.list.Goals.{then-not-is_empty+in_ok-reserve_for, else-not-is_empty}
 
@@ -24,3 +26,16 @@ returns-clause-steps c = λ wrote.
           let none : items ≡ [] = none_of items (vec_len c.in_ok-nodes.nodes) len (sym c.is_empty.ensures ∙ w.if-not-is_empty.false) in
           lists_to c.args.self.now c.if-not-is_empty.self call wrote so_far ok.0 [] c.requires.lists ok.1 ok.2 (sym none ∙ ok.3) w.self-is
     ]
+
+pub returns-in_err-reserve_for-clause-refused : goal.returns-in_err-reserve_for-clause-refused
+returns-in_err-reserve_for-clause-refused c =
+    let p = err_from_is_err_and c.from_residual-in_err-reserve_for.result c.from_residual-in_err-reserve_for.ensures.1 in
+    let ok = c.in_ok-nodes.ensures.ok in
+    let call = call_shown c.args.call.now in
+    let items = c.in_ok-nodes.nodes.items in
+    let len : vec_len c.in_ok-nodes.nodes ≡ length items = search rules in
+    let some : items ≡ [] → ⊥ = some_of items (vec_len c.in_ok-nodes.nodes) len (sym c.is_empty.ensures ∙ c.if-not-is_empty.true) in
+    rw (p.1, p.2) (λ wrote. (
+      giving_may_grow c.args.self.now.store ok.0 call.request.body (outcome call) items c.requires.lists ok.3 some,
+      λ none. absurd (lists_offset call.request.body c.requires.lists none),
+    ))
