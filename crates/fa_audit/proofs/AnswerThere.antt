@@ -1,29 +1,29 @@
--- A capture of bytes, a tree text or none and an order text have never no answer.
+-- The audit, a proposal and a cut have never no answer, by what each stands on: the capture is good or has a first fault, the tree
+-- text is in its grammar or at fault, and so is the order text.
 use Rattle.std.proofs.Common.{◌≡◌, ℕ, zero, suc, ◌≤◌, ◌⊎◌, List, length, take, Option, Some, None, Result, Ok, Err, refl, sym, subst, ◌∙◌, inl, inr, arith}
-use Rattle.std.specs.Prelude.{slice_get}
+use Rattle.std.specs.Prelude.{◌<◌, All, slice_get}
 use Rattle.std.proofs.lemmas.Bool.{cases_lt}
 use Rattle.std.proofs.lemmas.Option.{same_Some}
 use Rattle.fa_capture.specs.declared.fault.CaptureFault.{CaptureFault}
+use Rattle.fa_capture.specs.declared.limits.TheConstants.{MAX_MESSAGES}
 use Rattle.fa_capture.specs.Message.{Message}
 use Rattle.fa_capture.specs.Reading.{IsReading}
 use Rattle.fa_capture.proofs.CallerLemmas.{checks_either, reading_is_there}
-use Rattle.fa_ledger.specs.Passing.{message_checks, Passes, EachPasses, AreGood, IsGoodCapture, IsMessageFault}
+use Rattle.fa_ledger.specs.Passing.{message_checks, Passes, EachPasses, AreGood, IsGoodCapture, IsFirstFault, IsMessageFault}
 use Rattle.fa_ledger.proofs.CallerLemmas.{element_at}
 use Rattle.fa_tree.specs.State.{TreeState}
 use Rattle.fa_tree.specs.Building.{empty_tree}
-use Rattle.fa_order.specs.declared.entry.Entry.{Entry}
-use Rattle.fa_order.specs.Order.{IsOrderText}
-use Rattle.fa_order.proofs.CallerLemmas.{order_text_or_fault}
+use Rattle.fa_order.proofs.CallerLemmas.{order_text_or_fault, each_order_has_one_text}
 use Rattle.fa_tree_text.proofs.CallerLemmas.{tree_text_or_fault}
-use Rattle.fa_check.specs.declared.verdict.Verdict.{Verdict}
 use Rattle.fa_check.specs.declared.verdict.Verdict.TheVariants.{Fault}
-use Rattle.fa_check.specs.Verdicts.{IsVerdict}
-use Rattle.fa_check.proofs.CallerLemmas.{verdict_is_there}
+use Rattle.fa_check.proofs.CallerLemmas.{verdict_is_there, cut_is_there, cut_in_range}
+use Rattle.fa_propose.proofs.CallerLemmas.{proposal_is_there, proposal_in_range}
 use Rattle.fa_audit.specs.declared.judge.TheConstants.{ROOT_BITS}
-use Rattle.fa_audit.specs.declared.verdict.AuditError.{AuditError}
 use Rattle.fa_audit.specs.declared.verdict.AuditError.TheVariants.{OrderText, TreeText}
-use Rattle.fa_audit.specs.Verdict.{IsGivenTree, IsAnswer}
-use Rattle.fa_audit.specs.Laws.{AnswerIsThere}
+use Rattle.fa_audit.specs.declared.verdict.CutError.TheVariants as cuts
+use Rattle.fa_audit.specs.declared.verdict.StartError.TheVariants as starts
+use Rattle.fa_audit.specs.Verdict.{IsGivenTree, IsTreeTextAtFault}
+use Rattle.fa_audit.specs.Laws.{AnswerIsThere, ProposalAnswerIsThere, CutAnswerIsThere}
 use Rattle.fa_audit.proofs.AuditLemmas.{verdict_told}
 
 -- ---- messages
@@ -54,42 +54,71 @@ pass_or_fault c (suc n) within neither =
           ])
     ])
 
+-- ---- what is handed in
+
+-- all messages pass, and the framing has no fault, or it has one
+passed_or_fault : (capture : List ℕ) (c : List Message) (framing : Option CaptureFault) → IsReading capture c framing → AreGood c
+    → (IsGoodCapture capture c → ⊥) → ((at code : ℕ) → IsFirstFault capture at code → ⊥) → ⊥
+passed_or_fault capture c None read passes not_good no_fault = not_good (record { read = read; good = passes })
+passed_or_fault capture c (Some f) read passes not_good no_fault =
+    no_fault f.whole f.code (record { messages = c; framing = Some f; read = read; fault = inr (record { there = refl; passes = passes }) })
+
+-- a capture of bytes is good, or it has a first fault
+good_or_fault : (capture : List ℕ) → All (λ b. b < 256) capture → ((c : List Message) → IsGoodCapture capture c → ⊥)
+    → ((at code : ℕ) → IsFirstFault capture at code → ⊥) → ⊥
+good_or_fault capture small not_good no_fault =
+    let read = reading_is_there capture small in
+    pass_or_fault read.0 (length read.0) (omega arith) (λ either. elim either [
+      | inl passes ↦ passed_or_fault capture read.0 read.1 read.2 passes (not_good read.0) no_fault
+      | inr fault ↦ no_fault fault.0 fault.1 (record { messages = read.0; framing = read.1; read = read.2; fault = inl fault.2 })
+    ])
+
+-- where it is good, a tree is given, or the tree text is at fault
+tree_or_fault : (capture : List ℕ) (c : List Message) → IsGoodCapture capture c → (tree : Option (List ℕ))
+    → ((first : TreeState) → IsGivenTree tree first → ⊥) → ((line : ℕ) → IsTreeTextAtFault capture tree line → ⊥) → ⊥
+tree_or_fault capture c good None not_given no_fault = not_given (empty_tree ROOT_BITS) refl
+tree_or_fault capture c good (Some text) not_given no_fault =
+    tree_text_or_fault text (λ either. elim either [
+      | inl first ↦ not_given first.0 first.1
+      | inr fault ↦ no_fault fault.0 (record { messages = c; text = text; good = good; handed_in = refl; fault = fault.1 })
+    ])
+
+-- so many messages a good capture has at most
+messages_few : (capture : List ℕ) (c : List Message) → IsGoodCapture capture c → length c ≤ MAX_MESSAGES
+messages_few capture c good = good.read.packets.framed.count
+
 -- ---- answers
-
-module _ (capture : List ℕ) (tree : Option (List ℕ)) (order : List ℕ) (none : (answer : Result Verdict AuditError) → IsAnswer capture tree order answer → ⊥) where
-  -- where the capture is good and the texts are in their grammar, the order is judged
-  judged : (c : List Message) (first : TreeState) (entries : List Entry) → IsGoodCapture capture c → IsGivenTree tree first → IsOrderText order entries
-      → (verdict : Verdict) → IsVerdict c first entries verdict → ⊥
-  judged c first entries good given text verdict is =
-      none (Ok verdict) (verdict_told capture tree order c first entries verdict good given text is)
-
-  -- where the capture is good and a tree is given
-  with_tree : (c : List Message) (first : TreeState) → IsGoodCapture capture c → IsGivenTree tree first → ⊥
-  with_tree c first good given =
-      order_text_or_fault order (λ either. elim either [
-        | inl text ↦ verdict_is_there c first text.0 good.good (judged c first text.0 good given text.1)
-        | inr fault ↦ none (Err (OrderText fault.0)) (record { messages = c; first = first; good = good; given = given; fault = fault.1 })
-      ])
-
-  -- where the capture is good
-  with_messages : (c : List Message) → IsGoodCapture capture c → (text : Option (List ℕ)) → tree ≡ text → ⊥
-  with_messages c good None is = with_tree c (empty_tree ROOT_BITS) good (subst (λ t. IsGivenTree t (empty_tree ROOT_BITS)) (sym is) refl)
-  with_messages c good (Some text) is =
-      tree_text_or_fault text (λ either. elim either [
-        | inl first ↦ with_tree c first.0 good (subst (λ t. IsGivenTree t first.0) (sym is) first.1)
-        | inr fault ↦ none (Err (TreeText fault.0)) (record { messages = c; text = text; good = good; handed_in = is; fault = fault.1 })
-      ])
-
-  -- where all messages pass
-  passed : (c : List Message) (framing : Option CaptureFault) → IsReading capture c framing → AreGood c → ⊥
-  passed c None read good = with_messages c (record { read = read; good = good }) tree refl
-  passed c (Some f) read good =
-      none (Ok (Fault f.whole f.code)) (record { messages = c; framing = Some f; read = read; fault = inr (record { there = refl; passes = good }) })
 
 pub answer_is_there : AnswerIsThere
 answer_is_there capture tree order small none =
-    let read = reading_is_there capture small in
-    pass_or_fault read.0 (length read.0) (omega arith) (λ either. elim either [
-      | inl good ↦ passed capture tree order none read.0 read.1 read.2 good
-      | inr fault ↦ none (Ok (Fault fault.0 fault.1)) (record { messages = read.0; framing = read.1; read = read.2; fault = inl fault.2 })
-    ])
+    good_or_fault capture small
+    (λ c good. tree_or_fault capture c good tree
+    (λ first given. order_text_or_fault order (λ either. elim either [
+      | inl text ↦ verdict_is_there c first text.0 good.good (λ verdict is. none (Ok verdict) (verdict_told capture tree order c first text.0 verdict good given text.1 is))
+      | inr fault ↦ none (Err (OrderText fault.0)) (record { messages = c; first = first; good = good; given = given; fault = fault.1 })
+    ]))
+    (λ line fault. none (Err (TreeText line)) fault))
+    (λ at code fault. none (Ok (Fault at code)) fault)
+
+pub proposal_answer_is_there : ProposalAnswerIsThere
+proposal_answer_is_there capture tree small none =
+    good_or_fault capture small
+    (λ c good. tree_or_fault capture c good tree
+    (λ first given. proposal_is_there c first good.good (λ es proposal.
+    let text = each_order_has_one_text es (proposal_in_range c first es (messages_few capture c good) proposal) in
+    none (Ok text.text)
+    (record { messages = c; first = first; entries = es; good = good; given = given; proposal = proposal; spelled = text.is_text })))
+    (λ line fault. none (Err (starts.TreeText line)) fault))
+    (λ at code fault. none (Err (starts.Fault at code)) fault)
+
+pub cut_answer_is_there : CutAnswerIsThere
+cut_answer_is_there capture order m small none =
+    good_or_fault capture small
+    (λ c good. order_text_or_fault order (λ either. elim either [
+      | inl text ↦ cut_is_there c m text.0 good.good (λ left is.
+          let spelled = each_order_has_one_text left (cut_in_range c m text.0 left text.1.in_range is) in
+          none (Ok spelled.text)
+          (record { messages = c; entries = text.0; left = left; good = good; order_text = text.1; is_cut = is; spelled = spelled.is_text }))
+      | inr fault ↦ none (Err (cuts.OrderText fault.0)) (record { messages = c; good = good; fault = fault.1 })
+    ]))
+    (λ at code fault. none (Err (cuts.Fault at code)) fault)

@@ -1,7 +1,6 @@
 -- The answers of a call that cuts an order at a message, each by what it says of the capture and of the order text; and what a run of
 -- it writes. The capture and its faults are those of the audit. No tree is read.
 use Rattle.std.specs.Prelude.{◌≡◌, ℕ, List, ◌++◌, Option, Result, Ok, Err}
-use Rattle.std.specs.Io.KnownBytes.{Appends}
 use Rattle.fa_capture.specs.Message.{Message}
 use Rattle.fa_ledger.specs.Passing.{IsGoodCapture, IsFirstFault}
 use Rattle.fa_order.specs.declared.entry.Entry.{Entry}
@@ -16,7 +15,7 @@ use Rattle.fa_audit.specs.declared.verdict.CutError.TheVariants.{Fault, OrderTex
 use Rattle.fa_audit.specs.declared.status.Status.TheVariants as status
 use Rattle.fa_audit.specs.Status.{status_number}
 use Rattle.fa_audit.specs.Line.{answer_line, answer_status}
-use Rattle.fa_audit.specs.Run.{line_feed, IsRead}
+use Rattle.fa_audit.specs.Run.{line_feed, IsWritten, IsRead}
 
 -- ---- answers
 
@@ -70,9 +69,8 @@ cut_status (Ok text) = status_number status.Legal
 cut_status (Err error) = answer_status (answer_of_uncut error)
 
 -- what is to be written of the answer was written, and the status is that of the answer
-pub record IsCutTold (answer : Result (List ℕ) CutError) (old new : Option (List ℕ)) (ended : ℕ) : Type 0 where
-  pub written : Appends old new (cut_text answer)
-  pub status_is : ended ≡ cut_status answer
+abbrev pub IsCutTold : Result (List ℕ) CutError → (old new : Option (List ℕ)) → (ended : ℕ) → Type 0
+IsCutTold answer old new ended = IsWritten (cut_text answer) (cut_status answer) old new ended
 
 -- Some bytes were read of the capture and of the order; cutting at message m answers this of them, and the answer was told.
 pub record IsCutFrom (capture order : Option (List ℕ)) (m : ℕ) (old new : Option (List ℕ)) (ended : ℕ) : Type 0 where

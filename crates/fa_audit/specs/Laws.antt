@@ -25,6 +25,17 @@ abbrev pub OneProposalAnswer : Type 0
 OneProposalAnswer =
     (capture : List ℕ) (tree : Option (List ℕ)) (a b : Result (List ℕ) StartError) → IsProposalAnswer capture tree a → IsProposalAnswer capture tree b → a ≡ b
 
+-- A capture of bytes and a tree text or none have never no answer of a proposal.
+abbrev pub ProposalAnswerIsThere : Type 0
+ProposalAnswerIsThere =
+    (capture : List ℕ) (tree : Option (List ℕ)) → All (λ b. b < 256) capture
+    → ((answer : Result (List ℕ) StartError) → IsProposalAnswer capture tree answer → ⊥) → ⊥
+
 -- a capture, an order text and a message have one answer at most
 abbrev pub OneCutAnswer : Type 0
 OneCutAnswer = (capture order : List ℕ) (m : ℕ) (a b : Result (List ℕ) CutError) → IsCutAnswer capture order m a → IsCutAnswer capture order m b → a ≡ b
+
+-- A capture of bytes, an order text and a message have never no answer of a cut.
+abbrev pub CutAnswerIsThere : Type 0
+CutAnswerIsThere =
+    (capture order : List ℕ) (m : ℕ) → All (λ b. b < 256) capture → ((answer : Result (List ℕ) CutError) → IsCutAnswer capture order m answer → ⊥) → ⊥

@@ -1,7 +1,6 @@
 -- The answers of a proposal, each by what it says of the capture and of the tree text if one is handed in; and what a run of it
 -- writes. The capture, the given tree and the faults are those of the audit.
 use Rattle.std.specs.Prelude.{◌≡◌, ℕ, List, ◌++◌, Option, Result, Ok, Err}
-use Rattle.std.specs.Io.KnownBytes.{Appends}
 use Rattle.fa_capture.specs.Message.{Message}
 use Rattle.fa_ledger.specs.Passing.{IsGoodCapture, IsFirstFault}
 use Rattle.fa_tree.specs.State.{TreeState}
@@ -18,7 +17,7 @@ use Rattle.fa_audit.specs.declared.status.Status.TheVariants as status
 use Rattle.fa_audit.specs.Status.{status_number}
 use Rattle.fa_audit.specs.Verdict.{IsGivenTree, IsTreeTextAtFault}
 use Rattle.fa_audit.specs.Line.{answer_line, answer_status}
-use Rattle.fa_audit.specs.Run.{line_feed, IsRead}
+use Rattle.fa_audit.specs.Run.{line_feed, IsWritten, IsRead}
 
 -- ---- answers
 
@@ -67,9 +66,8 @@ proposal_status (Ok text) = status_number status.Legal
 proposal_status (Err error) = answer_status (answer_of error)
 
 -- what is to be written of the answer was written, and the status is that of the answer
-pub record IsProposalTold (answer : Result (List ℕ) StartError) (old new : Option (List ℕ)) (ended : ℕ) : Type 0 where
-  pub written : Appends old new (proposal_text answer)
-  pub status_is : ended ≡ proposal_status answer
+abbrev pub IsProposalTold : Result (List ℕ) StartError → (old new : Option (List ℕ)) → (ended : ℕ) → Type 0
+IsProposalTold answer old new ended = IsWritten (proposal_text answer) (proposal_status answer) old new ended
 
 -- Some bytes were read of the capture, and of the tree what `Tree` says; a proposal answers this of them, and the answer was told.
 pub record IsProposedFrom (capture : Option (List ℕ)) (Tree : Option (List ℕ) → Type 0) (old new : Option (List ℕ)) (ended : ℕ) : Type 0 where

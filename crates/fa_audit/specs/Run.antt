@@ -17,10 +17,14 @@ use Rattle.fa_audit.specs.Line.{answer_line, answer_status}
 abbrev pub line_feed : List ℕ
 line_feed = 10 ∷ []
 
+-- this text was written, and the status with which the call ended is the due one
+pub record IsWritten (text : List ℕ) (due : ℕ) (old new : Option (List ℕ)) (ended : ℕ) : Type 0 where
+  pub written : Appends old new text
+  pub status_is : ended ≡ due
+
 -- the answer's line and one line feed were written, and the status is that of the answer
-pub record IsTold (answer : Result Verdict AuditError) (old new : Option (List ℕ)) (status : ℕ) : Type 0 where
-  pub written : Appends old new (answer_line answer ++ line_feed)
-  pub ended : status ≡ answer_status answer
+abbrev pub IsTold : Result Verdict AuditError → (old new : Option (List ℕ)) → (ended : ℕ) → Type 0
+IsTold answer old new ended = IsWritten (answer_line answer ++ line_feed) (answer_status answer) old new ended
 
 -- What a call leaves of an input that may be handed in: nothing, or the input as it is then.
 abbrev pub LeftOf : Type 0 → Type 0

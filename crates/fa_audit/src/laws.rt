@@ -3,7 +3,7 @@
 ghost use Rattle.std.specs.Prelude.{◌≡◌};
 ghost use Rattle.fa_audit.specs.declared.judge.TheConstants.{ROOT_BITS};
 ghost use Rattle.fa_audit.specs.declared.running.TheConstants.{MAX_INPUT_BYTES};
-ghost use Rattle.fa_audit.specs.Laws.{OneAnswer, AnswerIsThere, OneProposalAnswer, OneCutAnswer};
+ghost use Rattle.fa_audit.specs.Laws.{OneAnswer, AnswerIsThere, OneProposalAnswer, ProposalAnswerIsThere, OneCutAnswer, CutAnswerIsThere};
 
 /// A capture, a tree text or none and an order text have one answer at most.
 pub fn one_answer()
@@ -20,9 +20,19 @@ pub fn one_proposal_answer()
     ensures { OneProposalAnswer }
 {}
 
+/// A capture of bytes and a tree text or none have never no answer of a proposal.
+pub fn proposal_answer_is_there()
+    ensures { ProposalAnswerIsThere }
+{}
+
 /// A capture, an order text and a message at which is cut have one answer at most.
 pub fn one_cut_answer()
     ensures { OneCutAnswer }
+{}
+
+/// A capture of bytes, an order text and a message at which is cut have never no answer.
+pub fn cut_answer_is_there()
+    ensures { CutAnswerIsThere }
 {}
 
 /// The limit of an input, and the permission bits of a root without a tree text, 755 in octal, as numbers.

@@ -104,7 +104,8 @@ pub(crate) fn input_bytes<R: Input>(alloc: Global, input: &mut R) -> Result<Vec<
     Ok(read_all(alloc, input, MAX_INPUT_BYTES)?)
 }
 
-/// The line that tells an answer of [`audit`], without a line feed, and its status.
+/// The line that tells an answer of [`audit`], without a line feed, and its status. The code of a verdict is one that has a text, as
+/// in each answer of [`audit`].
 ///
 /// # Errors
 ///

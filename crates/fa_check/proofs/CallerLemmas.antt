@@ -21,8 +21,10 @@ pub use Rattle.fa_check.proofs.OrderLemmas.{valid_where_each_is_placed, placed_v
 -- one entry more, and an order without a fault
 pub use Rattle.fa_check.proofs.EntryLemmas.{each_more, choice_allowed}
 pub use Rattle.fa_check.proofs.FaultLemmas.{placed_no_fault}
--- an order has one cut
+-- an order has one cut, of good messages never none, with numbers in range where the order's are
 pub use Rattle.fa_check.proofs.CutOneLemmas.{cut_is_one}
+pub use Rattle.fa_check.proofs.CutThereLemmas.{cut_is_there}
+pub use Rattle.fa_check.proofs.CutRangeLemmas.{cut_in_range}
 -- what may come next, and what a replay says of it
 pub use Rattle.fa_check.proofs.FrontLemmas.{may_come_next, comes_before_front, replayed_step, refused_no_step, entries_within, all_before_front, left_at_front}
 

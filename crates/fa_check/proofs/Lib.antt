@@ -15,6 +15,7 @@ pub mod CutLemmas
 pub mod CutRunLemmas
 pub mod CutOneLemmas
 pub mod CutThereLemmas
+pub mod CutRangeLemmas
 pub mod CuttingLemmas
 pub mod CutAgainLemmas
 pub mod CallerLemmas

@@ -1,4 +1,6 @@
 -- The lemmas for the crates above.
 
--- a proposal is one
+-- a proposal is one, of good messages never none, with numbers in range for as many messages as a capture has
 pub use Rattle.fa_propose.proofs.OneLemmas.{proposal_is_one}
+pub use Rattle.fa_propose.proofs.ExistLemmas.{proposal_is_there}
+pub use Rattle.fa_propose.proofs.RangeLemmas.{proposal_in_range}

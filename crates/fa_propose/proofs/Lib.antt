@@ -11,5 +11,6 @@ pub mod CandidateLemmas
 pub mod OneLemmas
 pub mod ExistLemmas
 pub mod PlacedLemmas
+pub mod RangeLemmas
 pub mod SerialLemmas
 pub mod CallerLemmas
