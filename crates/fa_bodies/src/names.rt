@@ -1,18 +1,25 @@
 //! Names and targets in requests.
 
 ghost use Rattle.std.specs.Prelude.{◌≡◌, ◌↔◌, ℕ, List, [], ◌∷◌, ◌++◌, IsTrue, IfSome, IfNone};
-ghost use Rattle.fa_bodies.specs.Names.{LacksByte, IsFilename, IsName, IsTarget};
+ghost use Rattle.fa_bodies.specs.Names.{LacksByte, IsNameByte, IsFilename, IsName, IsTarget};
 ghost use Rattle.fa_bodies.specs.Fields.{BeginsWith, IsSpelled};
 ghost use Rattle.fa_bodies.specs.Fields.Field.{Name, Target};
 
 /// The most bytes that a name may have (`FUSE_NAME_MAX` of Linux).
 pub const MAX_NAME: usize = 1024;
 
+/// Whether a byte may stand in a filename: it is neither zero nor a slash.
+fn is_name_byte(byte: u8) -> bool
+    ensures { IsTrue result ↔ IsNameByte byte }
+{
+    byte != 0 && byte != b'/'
+}
+
 /// Whether bytes are a filename: 1 to 1,024 bytes without zero byte and slash.
 pub(crate) fn is_filename(bytes: &[u8]) -> bool
     ensures { IsTrue result ↔ IsFilename bytes.now }
 {
-    !bytes.is_empty() && bytes.len() <= MAX_NAME && bytes.iter().all(|b| *b != 0 && *b != b'/')
+    !bytes.is_empty() && bytes.len() <= MAX_NAME && bytes.iter().all(|b| is_name_byte(*b))
 }
 
 /// Whether bytes are a name as a request may have it: a filename of POSIX, which is 1 to 1,024 bytes without zero byte and

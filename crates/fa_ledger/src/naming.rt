@@ -68,11 +68,13 @@ pub(crate) fn handle_used(body: &RequestBody<'_>) -> Option<(u64, HandleKind)>
     ensures { result ≡ handle_used (body_shown body.now) }
 {
     match body {
-        RequestBody::Getattr(getattr) if getattr.getattr_flags.contains(GetattrFlags::FH) => {
-            Some((getattr.fh, HandleKind::File))
+        RequestBody::Getattr(getattr) => {
+            let used = getattr.getattr_flags.contains(GetattrFlags::FH);
+            used.then_some((getattr.fh, HandleKind::File))
         }
-        RequestBody::Setattr(setattr) if setattr.valid.contains(FattrFlags::FH) => {
-            Some((setattr.fh, HandleKind::File))
+        RequestBody::Setattr(setattr) => {
+            let used = setattr.valid.contains(FattrFlags::FH);
+            used.then_some((setattr.fh, HandleKind::File))
         }
         RequestBody::Read(read) => Some((read.fh, HandleKind::File)),
         RequestBody::Write { fh, .. } => Some((*fh, HandleKind::File)),

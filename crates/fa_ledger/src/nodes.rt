@@ -55,7 +55,10 @@ impl Nodes {
     pub fn name_given(&self, id: u64, at: u32) -> NodeName
         ensures { result ≡ given_to id at (get nat_eq self.now.known id) }
     {
-        let by = self.known.get(&id).map_or(at, |lookups| lookups.by);
+        let by = match self.known.get(&id) {
+            Some(lookups) => lookups.by,
+            None => at,
+        };
         NodeName::Given { id, by }
     }
 

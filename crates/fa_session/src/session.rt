@@ -144,11 +144,18 @@ impl<'a> Session<'a> {
         }
     }
 
+    /// How many messages came.
+    fn len(&self) -> u32
+        ensures { result ≡ self.now.messages }
+    {
+        self.messages
+    }
+
     /// Whether no message came.
     fn is_empty(&self) -> bool
         ensures { IsTrue result ↔ (self.now.messages ≡ 0) }
     {
-        self.messages == 0
+        self.len() == 0
     }
 
     /// The outstanding request with this unique.

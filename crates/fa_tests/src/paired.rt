@@ -144,12 +144,17 @@ impl<'a> Paired<'a> {
     }
 }
 
+/// Whether all of these are codes of messages that are taken.
+fn all_taken(codes: &[u16]) -> bool {
+    codes.iter().all(|code| *code == 0)
+}
+
 /// The calls of a capture whose messages are all taken.
 pub fn calls_of<'a>(alloc: Global, packets: &[Packet<'a>]) -> Option<Calls<'a>> {
     let mut paired = Paired::new(alloc);
     let mut codes = vec![in alloc; 0; packets.len()].ok()?;
     paired.take_each(packets, &mut codes);
-    if codes.iter().any(|code| *code != 0) {
+    if !all_taken(&codes) {
         return None;
     }
     Some(paired.into_calls())
