@@ -1,7 +1,7 @@
 //! Ledgers of a few messages. The unique of each request is the number of its message.
 
 use crate::messages::{INIT, INIT_ANSWER, begun, packet, spelled, thirty};
-use crate::paired::{Paired, calls_of};
+use crate::paired::{Paired, calls_of, handed_in};
 use crate::sent::Sent::{self, *};
 use crate::sent::{CREAT, with, with_all};
 use Mark::*;
@@ -34,8 +34,7 @@ const ATOMIC_O_TRUNC: u32 = 8;
 fn codes_of(alloc: Global, sample: Sample) -> Option<Vec<u16>> {
     let bytes = sample.capture().ok()?;
     let capture = read_capture(alloc, &bytes).ok()?;
-    let mut codes = vec![in alloc; 0; capture.packets.len()].ok()?;
-    Paired::new(alloc).take_each(&capture.packets, &mut codes);
+    let (_, codes) = handed_in(alloc, &capture.packets)?;
     Some(codes)
 }
 

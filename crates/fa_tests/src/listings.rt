@@ -1,7 +1,7 @@
 //! What a READDIR or READDIRPLUS goes on from. The unique of each request is the number of its message.
 
 use crate::messages::begun;
-use crate::paired::Paired;
+use crate::paired::{all_taken, handed_in};
 use crate::sent::Sent::{self, *};
 use crate::sent::{listed, with_all};
 use fa_bodies::ROOT_ID;
@@ -554,14 +554,14 @@ fn are_listed(calls: &[Call<'_>], expected: &[Expected]) -> bool {
 }
 
 /// Whether each message is taken but this one.
-fn are_taken(codes: &[u16], refused: Refused) -> bool {
+fn are_taken(codes: &mut [u16], refused: Refused) -> bool {
     let (place, refusal) = refused;
-    for (at, code) in codes.iter().enumerate() {
-        if *code != if at == place { refusal } else { 0 } {
-            return false;
-        }
-    }
-    true
+    let Some(code) = codes.get_mut(place) else {
+        return false;
+    };
+    let is_refused = *code == refusal;
+    *code = 0;
+    is_refused && all_taken(codes)
 }
 
 /// Whether the messages of a capture are taken but this one, and their calls list so.
@@ -573,10 +573,8 @@ fn is_listed(
 ) -> Option<bool> {
     let bytes = sample.capture().ok()?;
     let capture = read_capture(alloc, &bytes).ok()?;
-    let mut codes = vec![in alloc; 0; capture.packets.len()].ok()?;
-    let mut paired = Paired::new(alloc);
-    paired.take_each(&capture.packets, &mut codes);
-    let is_taken = are_taken(&codes, refused);
+    let (paired, mut codes) = handed_in(alloc, &capture.packets)?;
+    let is_taken = are_taken(&mut codes, refused);
     Some(is_taken && are_listed(&paired.into_calls().list, expected))
 }
 

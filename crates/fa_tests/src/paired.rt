@@ -144,18 +144,25 @@ impl<'a> Paired<'a> {
     }
 }
 
+/// A ledger and sessions that were handed these messages, and the code of each, 0 where it is taken. None where memory was refused.
+pub fn handed_in<'a>(alloc: Global, packets: &[Packet<'a>]) -> Option<(Paired<'a>, Vec<u16>)> {
+    let mut codes = vec![in alloc; 0; packets.len()].ok()?;
+    let mut paired = Paired::new(alloc);
+    paired.take_each(packets, &mut codes);
+    Some((paired, codes))
+}
+
 /// Whether all of these are codes of messages that are taken.
-fn all_taken(codes: &[u16]) -> bool {
+pub fn all_taken(codes: &[u16]) -> bool {
     codes.iter().all(|code| *code == 0)
 }
 
 /// The calls of a capture whose messages are all taken.
 pub fn calls_of<'a>(alloc: Global, packets: &[Packet<'a>]) -> Option<Calls<'a>> {
-    let mut paired = Paired::new(alloc);
-    let mut codes = vec![in alloc; 0; packets.len()].ok()?;
-    paired.take_each(packets, &mut codes);
-    if !all_taken(&codes) {
-        return None;
+    let (paired, codes) = handed_in(alloc, packets)?;
+    if all_taken(&codes) {
+        Some(paired.into_calls())
+    } else {
+        None
     }
-    Some(paired.into_calls())
 }
