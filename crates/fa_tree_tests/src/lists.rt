@@ -1,12 +1,16 @@
 //! Listings: of a directory of many names, and of the directory that a handle is open on.
 
 use crate::steps::step;
+use crate::trees::Added::{self, File};
+use crate::trees::tree_of;
 use fa_bodies::ROOT_ID as ROOT;
 use fa_capture::codes::{ATTRIBUTES, LISTING};
 use fa_capture::read_capture;
-use fa_sample::{DIR, Listed, REG, Sample, entry_out};
+use fa_sample::{DIR, Listed, Sample};
 use fa_tests::messages::begun;
 use fa_tests::paired::calls_of;
+use fa_tests::sent::Sent::{self, *};
+use fa_tests::sent::with_all;
 use fa_tree::{Kind, StepError, Tree};
 use std::alloc::Global;
 
@@ -103,56 +107,67 @@ fn a_large_directory(rt: HostRuntime) {
     assert!(rt; steps_of(alloc, short) == Some((298, Some(StepError::Refused(LISTING)))));
 }
 
-/// A tree with a regular file `f`, and a directory `d` with a directory `f` in it. None where memory was refused.
-fn twice_named(alloc: Global) -> Option<Tree> {
-    let mut tree = Tree::empty(alloc, 0o755).ok()?;
-    let root = tree.root();
-    tree.add(root, b"f", Kind::Regular, 0o644, b"").ok()?;
-    let directory = tree.add(root, b"d", Kind::Directory, 0o755, b"").ok()?;
-    tree.add(directory, b"f", Kind::Directory, 0o755, b"").ok()?;
-    Some(tree)
+/// A directory `a`, and files `b` in the root and in `a`: one is regular, and the other a directory.
+const REGULAR_IN_ROOT: &[Added] = &[
+    File(0, b"a", Kind::Directory, b""),
+    File(0, b"b", Kind::Regular, b""),
+    File(1, b"b", Kind::Directory, b""),
+];
+
+const REGULAR_BELOW: &[Added] = &[
+    File(0, b"a", Kind::Directory, b""),
+    File(0, b"b", Kind::Directory, b""),
+    File(1, b"b", Kind::Regular, b""),
+];
+
+/// LOOKUP of `a`, which is the node 5, the message 2; and OPENDIR of the root as the file handle 1, the message 4.
+const ROOT_OPENED: &[Sent] = &[
+    Lookup(2, ROOT),
+    Directory(2, 5),
+    Opendir(4, ROOT),
+    Opened(4, 1, 0),
+];
+
+/// The same of `a`; and READDIRPLUS of it, the message 6, whose answer gives `b` a node, as a regular file.
+const BELOW_LISTED: &[Sent] = &[
+    Lookup(2, ROOT),
+    Directory(2, 5),
+    Opendir(4, 5),
+    Opened(4, 1, 0),
+    Readdirplus(6, 5, 1, 0),
+    DirentsPlus(6, 7, &[("b", 1)]),
+];
+
+/// What the last of these calls is told, each by the number of its request, where a tree takes them in turn. None where a message is
+/// refused, or memory was.
+fn told_last(
+    alloc: Global,
+    tree: &mut Tree,
+    messages: &[Sent],
+    numbers: &[u32],
+) -> Option<Result<(), StepError>> {
+    let bytes = with_all(begun(alloc, (0, 0)), messages).capture().ok()?;
+    let capture = read_capture(alloc, &bytes).ok()?;
+    let calls = calls_of(alloc, &capture.packets)?;
+    let mut told = None;
+    for at in numbers {
+        told = step(tree, &calls, *at, None);
+    }
+    told
 }
 
-/// LOOKUP of `d`, which is the node 5, the message 2; and OPENDIR of this node as the file handle 1, the message 4.
-fn opened(alloc: Global, node: u64) -> Sample {
-    begun(alloc, (0, 0))
-        .lookup(2, ROOT, b"d")
-        .entry(2, 5, DIR | 0o755, 0, 2)
-        .opendir(4, node)
-        .opened(4, 1)
-}
-
-/// What READDIRPLUS of the node of `d` is told, the message 6, where the calls of another capture opened the root by the message 4: an
-/// answer that gives `f` a node, with this mode. None where a message or another step is refused, or memory was.
-fn listed_elsewhere(alloc: Global, mode: u32) -> Option<Result<(), StepError>> {
-    let entry = entry_out(7, mode, 0, 1);
-    let name = Listed {
-        name: b"f",
-        off: 1,
-        file_type: 0,
-    };
-    let first = opened(alloc, ROOT).capture().ok()?;
-    let second = opened(alloc, 5)
-        .readdirplus(6, 5, 1, 0, 4096)
-        .listing_plus(6, &[(entry, name)])
-        .capture()
-        .ok()?;
-    let (first, second) = (
-        read_capture(alloc, &first).ok()?,
-        read_capture(alloc, &second).ok()?,
-    );
-    let root_opened = calls_of(alloc, &first.packets)?;
-    let listed = calls_of(alloc, &second.packets)?;
-    let mut tree = twice_named(alloc)?;
-    step(&mut tree, &root_opened, 4, None)?.ok()?;
-    step(&mut tree, &listed, 2, None)?.ok()?;
-    step(&mut tree, &listed, 6, None)
+/// What READDIRPLUS of `a` is told, where the calls of another capture opened the root by the same message.
+fn listed_elsewhere(alloc: Global, files: &[Added]) -> Option<Result<(), StepError>> {
+    let mut tree = tree_of(alloc, files)?;
+    told_last(alloc, &mut tree, ROOT_OPENED, &[4])?.ok()?;
+    told_last(alloc, &mut tree, BELOW_LISTED, &[2, 6])
 }
 
 /// The names and types of a listing are those of the directory that its handle is open on, also where the request names another.
 #[test]
 fn the_directory_that_is_open(rt: HostRuntime) {
-    let alloc = rt.alloc();
-    assert!(rt; listed_elsewhere(alloc, REG | 0o644) == Some(Ok(())));
-    assert!(rt; listed_elsewhere(alloc, DIR | 0o755) == Some(Err(StepError::Refused(ATTRIBUTES))));
+    let told = listed_elsewhere(rt.alloc(), REGULAR_IN_ROOT);
+    assert!(rt; told == Some(Ok(())));
+    let told = listed_elsewhere(rt.alloc(), REGULAR_BELOW);
+    assert!(rt; told == Some(Err(StepError::Refused(ATTRIBUTES))));
 }
