@@ -9,6 +9,7 @@
 #include <sys/wait.h>
 
 #include "fuse-record.h"
+#include "trace.h"
 
 static const char usage[] =
     "usage: fuse-record [options] -o FILE -- SERVER WORDS..\n"
@@ -19,13 +20,16 @@ static const char usage[] =
     "  --refuse NAME[,NAME]   answers these operations with ENOSYS in the server's place\n"
     "  --keep-init            leaves INIT and its answer as they are\n"
     "  --keep-refused         leaves in the capture what the kernel refused to take\n"
+    "  --trace                records by stopping the system calls of SERVER and all that it starts, which suits any program;\n"
+    "                         without this option, so are those recorded that are linked statically or made by Go\n"
+    "  --preload              records by a library that SERVER loads, whatever it is\n"
     "It ends with the status of SERVER, or 125 where no message was seen or requests were never answered.\n";
 
-/* How it ends where not as the server did. A server's own status 125 becomes 1. */
-enum { FAILED = 1, MISUSED = 2, NOT_WHOLE = 125, NO_SERVER = 127 };
+/* How it ends where not as the server did. A server's own status 125 or 126 becomes 1. */
+enum { FAILED = 1, MISUSED = 2, NOT_WHOLE = 125, NOT_TRACED = 126, NO_SERVER = 127 };
 
-/* How long a server that has gone into the background is given for its first message: so many times 50 milliseconds. */
-enum { PATIENCE = 100 };
+/* For how many seconds a server that has gone into the background is waited for its first message. */
+enum { PATIENCE = 5 };
 
 /* A file that is made, its descriptor, and where that is kept which stood at its path, until the server has started. */
 struct output {
@@ -378,7 +382,7 @@ static int status_of(int ended)
 {
     if (WIFSIGNALED(ended))
         return 128 + WTERMSIG(ended);
-    return WEXITSTATUS(ended) == NOT_WHOLE ? FAILED : WEXITSTATUS(ended);
+    return WEXITSTATUS(ended) == NOT_WHOLE || WEXITSTATUS(ended) == NOT_TRACED ? FAILED : WEXITSTATUS(ended);
 }
 
 /* Tells at the end what was recorded, and answers the status to end with. */
@@ -451,22 +455,34 @@ static pid_t start(char **words, const sigset_t *before)
     if (read(began[0], &error, sizeof error) == sizeof error)
         fail(NO_SERVER, "%s: %s", words[0], strerror(error));
     close(began[0]);
-    for (int i = CAPTURE; i <= TREE; i++)
-        if (outputs[i].kept[0])
-            unlink(outputs[i].kept);
     return server;
 }
 
-/* Lets the first process end, since the server goes on in the background: with its status, or that of no message. */
-static void hand_back(pid_t first, int ended)
+/* The same with its system calls traced. */
+static pid_t start_traced(char **words, const sigset_t *before)
+{
+    pid_t server;
+    const char *call;
+    switch (trace_start(words, before, &server, &call)) {
+    case TRACE_STARTED: return server;
+    case TRACE_NO_SERVER: fail(NO_SERVER, "%s: %s", words[0], strerror(errno));
+    default: fail(NOT_TRACED, "the system calls of %s can't be traced: %s: %s", words[0], call, strerror(errno));
+    }
+}
+
+/* The status of a server that goes on in the background: its own, or that of no message. */
+static int status_in_background(int ended)
+{
+    if (has_messages())
+        return status_of(ended);
+    tell(true, "%s: no message was seen in the %d seconds since the server went into the background", outputs[CAPTURE].path, PATIENCE);
+    return NOT_WHOLE;
+}
+
+/* Lets the first process end with a status, since what it waits for goes on in the background. */
+static void hand_back(pid_t first, int status)
 {
     struct stat error;
-    int status = status_of(ended);
-    if (!has_messages()) {
-        tell(true, "%s: no message was seen in the %d seconds since the server went into the background", outputs[CAPTURE].path,
-             PATIENCE / 20);
-        status = NOT_WHOLE;
-    }
     /* Nobody is to wait for the end of a pipe that is held here. Standard error stays where it is a terminal or a file. */
     close(STDIN_FILENO);
     close(STDOUT_FILENO);
@@ -476,40 +492,57 @@ static void hand_back(pid_t first, int ended)
         sigqueue(first, SIGRTMIN, (union sigval){.sival_int = status});
 }
 
-/* Starts the server and waits for the end of all its processes. Answers the status to end with. */
-static int watch(pid_t first, char **words, const sigset_t *signals, const sigset_t *before)
+static int64_t milliseconds(void)
 {
-    const struct timespec moment = {0, 50000000};
-    int ended = 0, moments = 0;
-    bool failed = false, handed_back = false;
+    struct timespec now;
+    clock_gettime(CLOCK_MONOTONIC, &now);
+    return (int64_t)now.tv_sec * 1000 + now.tv_nsec / 1000000;
+}
+
+/* Starts the server and waits for the end of all its processes. Answers the status to end with. */
+static int watch(pid_t first, bool traced, char **words, const sigset_t *signals, const sigset_t *before)
+{
+    const struct timespec none = {0, 0}, moment = {0, 50000000};
+    int ended = 0;
+    int64_t patience = 0; /* when it ends, in milliseconds */
+    bool failed = false, handed_back = false, told = false, busy = false;
     prctl(PR_SET_CHILD_SUBREAPER, 1);
     prctl(PR_SET_PDEATHSIG, SIGTERM);
-    pid_t server = start(words, before);
+    pid_t server = traced ? start_traced(words, before) : start(words, before);
+    for (int i = CAPTURE; i <= TREE; i++)
+        if (outputs[i].kept[0])
+            unlink(outputs[i].kept);
     for (;;) {
         siginfo_t got;
         int status;
         pid_t child;
-        if (sigtimedwait(signals, &got, server > 0 || handed_back ? NULL : &moment) > 0)
+        if (sigtimedwait(signals, &got, busy ? &none : server > 0 || handed_back ? NULL : &moment) > 0)
             hand_on(server, &got);
-        while ((child = waitpid(-1, &status, WNOHANG)) > 0) {
+        busy = traced && trace_stops();
+        while ((child = traced ? trace_ended(&status) : waitpid(-1, &status, WNOHANG)) > 0) {
             /* Of several processes the first that did not end well. */
             if (child == server || (server == 0 && ended == 0))
                 ended = status;
             if (child == server) {
                 server = 0;
                 failed = status != 0;
+                patience = milliseconds() + PATIENCE * 1000;
             }
         }
         if (child < 0)
-            return tell_sum(ended);
+            return told ? FAILED : tell_sum(ended);
         if (server > 0 || handed_back)
             continue;
-        /* What a server leaves behind that failed is no server in the background. */
-        moments++;
-        if (failed && moments > PATIENCE)
-            return tell_sum(ended);
-        if (!failed && (has_messages() || moments > PATIENCE)) {
-            hand_back(first, ended);
+        /* What a server leaves behind that failed is no server in the background. What is traced can't do without this process. */
+        bool late = milliseconds() > patience;
+        if (failed && late) {
+            int result = tell_sum(ended);
+            if (!traced)
+                return result;
+            hand_back(first, result);
+            handed_back = told = true;
+        } else if (!failed && (late || has_messages())) {
+            hand_back(first, status_in_background(ended));
             handed_back = true;
         }
     }
@@ -532,7 +565,7 @@ static int follow(pid_t watcher, const sigset_t *signals)
 
 int main(int count, char **words)
 {
-    enum { LOWER = 256, REFUSE, FORCE, KEEP_INIT, KEEP_REFUSED };
+    enum { LOWER = 256, REFUSE, FORCE, KEEP_INIT, KEEP_REFUSED, TRACE, PRELOAD };
     static const struct option options[] = {
         {"output", required_argument, NULL, 'o'},
         {"force", no_argument, NULL, FORCE},
@@ -540,12 +573,14 @@ int main(int count, char **words)
         {"refuse", required_argument, NULL, REFUSE},
         {"keep-init", no_argument, NULL, KEEP_INIT},
         {"keep-refused", no_argument, NULL, KEEP_REFUSED},
+        {"trace", no_argument, NULL, TRACE},
+        {"preload", no_argument, NULL, PRELOAD},
         {"help", no_argument, NULL, 'h'},
         {0},
     };
-    const char *output = NULL, *lower = NULL;
+    const char *output = NULL, *lower = NULL, *traced = NULL;
     uint64_t refused = 0;
-    bool forced = false;
+    bool forced = false, preloaded = false;
     unsetenv("FUSE_RECORD_KEEP_INIT");
     unsetenv("FUSE_RECORD_KEEP_REFUSED");
     for (int option; (option = getopt_long(count, words, "+o:h", options, NULL)) != -1;) {
@@ -556,11 +591,13 @@ int main(int count, char **words)
         case REFUSE: refused |= operations(optarg); break;
         case KEEP_INIT: setenv("FUSE_RECORD_KEEP_INIT", "1", 1); break;
         case KEEP_REFUSED: setenv("FUSE_RECORD_KEEP_REFUSED", "1", 1); break;
+        case TRACE: traced = "is to be traced"; break;
+        case PRELOAD: preloaded = true; break;
         case 'h': fputs(usage, stdout); return 0;
         default: fputs(usage, stderr); return MISUSED;
         }
     }
-    if (!output || optind == count) {
+    if (!output || optind == count || (traced && preloaded)) {
         fputs(usage, stderr);
         return MISUSED;
     }
@@ -577,12 +614,17 @@ int main(int count, char **words)
     snprintf(mask, sizeof mask, "%" PRIx64, refused);
     setenv("FUSE_RECORD", outputs[CAPTURE].path, 1);
     setenv("FUSE_RECORD_REFUSE", mask, 1);
-    load_library();
+    if (!traced && !preloaded)
+        traced = trace_is_needed(words[optind]);
+    if (traced)
+        tell(false, "%s %s: its system calls are stopped, and it loads no library", words[optind], traced);
+    else
+        load_library();
     pid_t first = getpid(), watcher = fork();
     if (watcher < 0)
         fail(FAILED, "a process: %s", strerror(errno));
     if (watcher == 0)
-        return watch(first, words + optind, &signals, &before);
+        return watch(first, traced, words + optind, &signals, &before);
     close(outputs[CAPTURE].file);
     return follow(watcher, &signals);
 }

@@ -34,6 +34,10 @@
 
 enum fuse_record_way { FUSE_RECORD_READ, FUSE_RECORD_WRITE };
 
+/* The section by which fuse-record sees that a program has this text in itself, and records without its help. */
+#define FUSE_RECORD_MARK "fuse_record"
+__attribute__((used, section(FUSE_RECORD_MARK))) static const char fuse_record_mark[] = FUSE_RECORD_MARK;
+
 /* How the device is read and written: by system calls, so that a library which is loaded too does not record them again. */
 #ifndef FUSE_RECORD_READV
 #define FUSE_RECORD_READV(device, parts, count) syscall(SYS_readv, device, parts, count)
@@ -224,6 +228,19 @@ static void fuse_record_tell_end(const char *cause, uint32_t messages)
     fuse_record_note("%s: the recording ends with %" PRIu32 " messages", cause, messages);
 }
 
+/* Ends the recording, which tells why if it had not ended before. */
+static void fuse_record_stop(const char *cause)
+{
+    struct fuse_record_progress *progress = fuse_record_setup.progress;
+    fuse_record_lock();
+    bool ended = progress->ended;
+    uint32_t messages = progress->messages;
+    progress->ended = true;
+    fuse_record_unlock();
+    if (!ended)
+        fuse_record_tell_end(cause, messages);
+}
+
 /* Copies the first bytes of a message from its parts, or back to them. */
 static void fuse_record_copy(void *bytes, size_t length, const struct iovec *parts, int count, bool back)
 {
@@ -324,13 +341,7 @@ static struct fuse_record_place fuse_record_message(enum fuse_record_way way, co
         return fuse_record_parts(way, parts, count, length);
     struct iovec joined = {malloc(length), length};
     if (!joined.iov_base) {
-        fuse_record_lock();
-        bool ended = fuse_record_setup.progress->ended;
-        uint32_t messages = fuse_record_setup.progress->messages;
-        fuse_record_setup.progress->ended = true;
-        fuse_record_unlock();
-        if (!ended)
-            fuse_record_tell_end(strerror(ENOMEM), messages);
+        fuse_record_stop(strerror(ENOMEM));
         return (struct fuse_record_place){0, 0};
     }
     fuse_record_copy(joined.iov_base, length, parts, count, false);
@@ -471,13 +482,38 @@ static size_t fuse_record_total(const struct iovec *parts, int count)
     return total;
 }
 
+/* A message from the server that was recorded, and is to be written: its header, its length, and where it stands. */
+struct fuse_record_sent {
+    struct fuse_out_header header;
+    size_t length;
+    struct fuse_record_place place;
+};
+
+/* Records a message from the server before it is written. */
+static struct fuse_record_sent fuse_record_before(const struct iovec *parts, int count)
+{
+    struct fuse_record_sent sent = {.length = fuse_record_total(parts, count)};
+    fuse_record_copy(&sent.header, sizeof sent.header, parts, count, false);
+    /* The kernel refuses what is shorter than a header. */
+    if (sent.length >= sizeof sent.header || fuse_record_setup.keeps_refused)
+        sent.place = fuse_record_message(FUSE_RECORD_WRITE, parts, count, sent.length);
+    return sent;
+}
+
+/* Takes a message out of the capture whose write failed with this error, where the kernel did not take it. */
+static void fuse_record_failed(const struct fuse_record_sent *sent, int error)
+{
+    if (sent->place.offset != 0 && !fuse_record_setup.keeps_refused &&
+        !fuse_record_was_taken(&sent->header, sent->length, error))
+        fuse_record_strike(sent->place, &sent->header, sent->length, error);
+}
+
 /* Records a message from the server, and writes it. A thread is cancelled before both or not at all. */
 static ssize_t fuse_record_send(int device, const struct iovec *parts, int count)
 {
     struct fuse_record_init init;
     struct iovec cut = {&init, 0};
     struct fuse_out_header header = {0};
-    struct fuse_record_place place = {0};
     size_t length = fuse_record_total(parts, count);
     uint32_t minor;
     int cancels;
@@ -492,16 +528,14 @@ static ssize_t fuse_record_send(int device, const struct iovec *parts, int count
         parts = &cut;
         count = 1;
     }
-    /* The kernel refuses what is shorter than a header. */
-    if (length >= sizeof header || fuse_record_setup.keeps_refused)
-        place = fuse_record_message(FUSE_RECORD_WRITE, parts, count, length);
-    ssize_t sent = FUSE_RECORD_WRITEV(device, parts, count);
+    struct fuse_record_sent sent = fuse_record_before(parts, count);
+    ssize_t written = FUSE_RECORD_WRITEV(device, parts, count);
     int error = errno;
-    if (sent < 0 && place.offset != 0 && !fuse_record_setup.keeps_refused && !fuse_record_was_taken(&header, length, error))
-        fuse_record_strike(place, &header, length, error);
+    if (written < 0)
+        fuse_record_failed(&sent, error);
     pthread_setcancelstate(cancels, NULL);
     errno = error;
-    return sent;
+    return written;
 }
 
 /*
