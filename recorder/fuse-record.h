@@ -61,8 +61,12 @@ __attribute__((used, section(FUSE_RECORD_MARK))) static const char fuse_record_m
 #define FUSE_RECORD_FLAGS (((1u << 27) - 1) & ~(uint32_t)(FUSE_WRITEBACK_CACHE | FUSE_POSIX_ACL))
 /* The bytes of the struct that stands before the name in SETXATTR. */
 #define FUSE_RECORD_SETXATTR 8u
-/* Servers from this minor on know all requests that the kernel sends to one of minor 31, or may answer them by ENOSYS. */
-#define FUSE_RECORD_LEAST_MINOR 16u
+/*
+ * Servers from this minor on know all requests that the kernel sends to one of minor 31, or may answer them by ENOSYS. BATCH_FORGET is
+ * the one that is to have no answer: a server below minor 16, as bazil's for Go, may not know it and answer all the same, and the
+ * kernel refuses to take that.
+ */
+#define FUSE_RECORD_LEAST_MINOR 12u
 
 /* The operations by their numbers. Those up to the last of 7.31 are the server's. */
 #define FUSE_RECORD_LAST_OPERATION 47u
