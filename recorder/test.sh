@@ -14,6 +14,9 @@ examples=/usr/share/doc/libfuse3-dev/examples
 passed=0
 failed=0
 servers=()
+# How servers are recorded now: options of fuse-record, and words behind the names of checks.
+how=()
+by=""
 
 skip_all() {
     echo "recorder: skipped: $1"
@@ -53,7 +56,7 @@ check() {
         return 0
     fi
     failed=$((failed + 1))
-    echo "recorder: failed: $name" >&2
+    echo "recorder: failed: $name$by" >&2
     for file in "$work/errors" "$capture.log"; do
         [ ! -s "$file" ] || head -n 20 "$file" >&2
     done
@@ -74,7 +77,7 @@ is_mounted() { grep -qs " $mnt " /proc/self/mounts; }
 # It is to stay in the foreground; its process is the last of servers.
 record_on() {
     rm -f "$work/a.order" "$work/errors"
-    "${under[@]}" "$work/recorder/fuse-record" -o "$capture" "$@" > /dev/null 2> "$work/errors" &
+    "${under[@]}" "$work/recorder/fuse-record" -o "$capture" "${how[@]}" "$@" > /dev/null 2> "$work/errors" &
     servers+=($!)
     for _ in $(seq 100); do
         is_mounted && return 0
@@ -126,7 +129,7 @@ verdict() {
 judged() {
     local found
     found="$(verdict)"
-    echo "$1: $found"
+    echo "$1$by: $found"
     [[ "$found" == $2 ]]
 }
 
@@ -250,36 +253,48 @@ check "README has the example" in_readme example.c
 refuses() {
     local status="$1" words="$2" found=0
     shift 2
-    "$work/recorder/fuse-record" "$@" > "$work/seen" 2> "$work/errors" || found=$?
+    "${under[@]}" "$work/recorder/fuse-record" "$@" > "$work/seen" 2> "$work/errors" || found=$?
     [ "$found" -eq "$status" ] && grep -q -- "$words" "$work/errors"
 }
 check "no server is a fault of the command line" refuses 2 "usage: fuse-record" -o "$capture"
 check "no capture is a fault of the command line" refuses 2 "usage: fuse-record" -- true
+check "two ways are a fault of the command line" refuses 2 "usage: fuse-record" --trace --preload -o "$capture" -- true
 check "INIT can't be refused" refuses 2 "INIT: no operation" --refuse IOCTL,INIT -o "$capture" -- true
 check "a device is no capture" refuses 1 "/dev/null: no regular file" -o /dev/null -- true
 check "a folder that is not there has no tree" refuses 1 "no tree text of" --lower "$work/none" -o "$capture" -- true
 check "a server that is not there" refuses 127 "No such file" -o "$capture" -- "$work/none"
 
-# Servers that others wrote: libfuse's own example, and bindfs.
+# Servers that others wrote, by the library and by their system calls: libfuse's own example, and bindfs.
+compile_examples() {
+    compile_example "$work/passthrough_ll" "$examples/passthrough_ll.c" || return
+    # The same with answers that are spliced.
+    sed '/if(conn->capable & FUSE_CAP_EXPORT_SUPPORT)/i conn->want |= conn->capable & FUSE_CAP_SPLICE_WRITE;' \
+        "$examples/passthrough_ll.c" > "$work/splicing.c" && compile_example "$work/splicing" "$work/splicing.c"
+}
+bindfs_words=(bindfs -f -o "hard_remove,attr_timeout=0,entry_timeout=0" "$lower" "$mnt")
+sessions_of_others() {
+    if [ -x "$work/splicing" ]; then
+        session passthrough_ll "$work/passthrough_ll" -f -o "source=$lower" "$mnt"
+        check "passthrough_ll: an operation is refused" logged "FALLOCATE.*answered ENOSYS in the server's place"
+        # With a descriptor for each thread.
+        session "passthrough_ll, splicing" "$work/splicing" -f -o clone_fd -o "source=$lower" "$mnt"
+    fi
+    # Two names of a file are two nodes here: without timeouts the kernel asks for the attributes of each.
+    ! command -v bindfs > /dev/null || session bindfs "${bindfs_words[@]}"
+    ! has_fusepy || session fusepy /usr/bin/python3 "$here/tests/folder.py" "$lower" "$mnt"
+}
+has_fusepy() { /usr/bin/python3 -c "import fusepy" 2> /dev/null; }
+has_fusepy || echo "recorder: skipped: a server in Python: python3-fusepy is not installed"
 if [ -e "$examples/passthrough_ll.c" ]; then
-    check "passthrough_ll compiles" compile_example "$work/passthrough_ll" "$examples/passthrough_ll.c"
-    session passthrough_ll "$work/passthrough_ll" -f -o "source=$lower" "$mnt"
-    check "passthrough_ll: an operation is refused" logged "FALLOCATE.*answered ENOSYS in the server's place"
+    check "passthrough_ll compiles" compile_examples
     left_out "passthrough_ll, FALLOCATE" "fallocate -l 100 room" "$work/passthrough_ll" -f -o "source=$lower" "$mnt"
     left_out "passthrough_ll, COPY_FILE_RANGE" "cp second third" "$work/passthrough_ll" -f -o "source=$lower" "$mnt"
-    # The same with a descriptor for each thread, and with answers that are spliced.
-    sed '/if(conn->capable & FUSE_CAP_EXPORT_SUPPORT)/i conn->want |= conn->capable & FUSE_CAP_SPLICE_WRITE;' \
-        "$examples/passthrough_ll.c" > "$work/splicing.c"
-    check "passthrough_ll with splices compiles" compile_example "$work/splicing" "$work/splicing.c"
-    session "passthrough_ll, splicing" "$work/splicing" -f -o clone_fd -o "source=$lower" "$mnt"
 else
     echo "recorder: skipped: passthrough_ll: libfuse3-dev is not installed"
 fi
 if command -v bindfs > /dev/null; then
-    # Two names of a file are two nodes here: without timeouts the kernel asks for the attributes of each.
-    session bindfs bindfs -f -o hard_remove,attr_timeout=0,entry_timeout=0 "$lower" "$mnt"
     fill_lower
-    check "bindfs, copied to: mounts" record --lower "$lower" -- bindfs -f -o hard_remove,attr_timeout=0,entry_timeout=0 "$lower" "$mnt" &&
+    check "bindfs, copied to: mounts" record --lower "$lower" -- "${bindfs_words[@]}" &&
         copying_session "bindfs, copied to"
     if command -v lsattr > /dev/null; then
         left_out "bindfs, IOCTL" "lsattr second" bindfs -f -o hard_remove "$lower" "$mnt"
@@ -289,6 +304,7 @@ if command -v bindfs > /dev/null; then
 else
     echo "recorder: skipped: bindfs is not installed"
 fi
+sessions_of_others
 
 # A server with an image: its tree text is that of a mount before.
 image_tree() {
@@ -326,11 +342,156 @@ else
     echo "recorder: skipped: a server with an image: fuse2fs is not installed"
 fi
 
-# The tests' own server: by read and writev, by splice both ways, and with the header.
-own memory --
-whole_session memory
-check "memory, splicing: mounts" record -- "$work/memory-splicing" "$mnt" && whole_session "memory, splicing"
+# The tests' own server, by the library and by its system calls: by read and writev, and by splice both ways.
+# A server that fails and leaves a process behind has ended, and is not in the background.
+failing() {
+    status=0
+    timeout 20 "${under[@]}" "$work/recorder/fuse-record" --force -o "$capture" "${how[@]}" -- sh -c "sleep 0.5 & exit 3" 2> "$work/errors" || status=$?
+}
+# Servers that go into the background: fuse-record ends when the first message is there, and tells the rest when they end.
+in_background() {
+    rm -f "$work"/a.cap*
+    status=0
+    timeout 20 "${under[@]}" "$work/recorder/fuse-record" -o "$capture" "${how[@]}" -- sh -c "'$1' '$mnt' > '$work/seen' 2>&1 &" 2> "$work/errors" || status=$?
+    is_mounted
+}
+told() {
+    for _ in $(seq 100); do
+        ! grep -q "^fuse-record: $capture: .* messages, .*$1" "$work/errors" || return 0
+        sleep 0.05
+    done
+    return 1
+}
+# A full disk, and a limit of the file's size, end the recording and not the server.
+ended() { [ "$(wc -l < "$work/errors")" -eq 2 ] && grep -q "fuse-record: .*$1: the recording ends with [0-9]* messages" "$work/errors"; }
+# A server of which the recording may write so much to a file. Its standard error is descriptor 5.
+limited() {
+    rm -f "$work"/a.cap*
+    ( ulimit -f 100; trap - EXIT; exec "${under[@]}" "$work/recorder/fuse-record" -o "$capture" "${how[@]}" -- "$work/memory" "$mnt" 2>&5 ) &
+    servers+=($!)
+    for _ in $(seq 100); do
+        is_mounted && return 0
+        sleep 0.05
+    done
+    return 1
+}
+# A second server of the same recording does not touch what the first one left: again CAUSE.
+started_again() {
+    check "again: mounts" record -- sh -c "'$work/memory' '$mnt'; exec '$work/memory' '$mnt'"
+    check "again: serves" work_in_mount
+    timeout 20 umount "$mnt"
+    for _ in $(seq 100); do
+        is_mounted && break
+        sleep 0.05
+    done
+    timeout 20 ls "$mnt" > "$work/seen"
+    check "again: is unmounted" stop
+    check "again: is told once" ended "$1"
+    check "again: is legal" is_legal "memory, started again"
+}
+
+of_own_server() {
+    own memory --
+    whole_session memory
+    check "memory, splicing: mounts" record -- "$work/memory-splicing" "$mnt" && whole_session "memory, splicing"
+    own copied --
+    copying_session "memory, copied to"
+
+    # A server that ends in the middle of its work.
+    own killed -- --die-after 200
+    ! work_in_mount 2> /dev/null
+    stop
+    check "killed: is told" ends 125 "[1-9]$unanswered: the server was ended by signal 9 (Killed) with requests unanswered\$"
+    check "killed: the request is told" logged "message [0-9]*: [A-Z]* of node .*: never answered" 1
+    check "killed: is legal" is_legal "memory, killed"
+
+    # A crash in an operation that is not judged: the verdict is legal, with nothing left out, so the end has to tell it.
+    own crashed -- --die-at 45
+    timeout 20 sh -c "echo text > '$mnt/name'; mv -n '$mnt/name' '$mnt/other'" 2> /dev/null
+    stop
+    check "crashed: is told" ends 125 "1 requests were never answered, 1 of them of .*: the server was ended by signal 9 (Killed) with requests un"
+    check "crashed: in RENAME2" logged "message [0-9]*: RENAME2 of node 1, unique .*: never answered" 1
+    check "crashed: is legal" judged "memory, killed in RENAME2" "legal: [1-9]* messages, *, 0 left out"
+
+    # A server that fails and leaves a process behind.
+    failing
+    check "failing: is told" ends 125 "$unanswered: no message was seen, and the server ended with status 3"
+
+    # A server that goes into the background.
+    check "background: mounts" in_background "$work/memory"
+    check "background: fuse-record ends" [ "$status" -eq 0 ]
+    check "background: serves" work_in_mount
+    check "background: has told nothing" [ ! -s "$work/errors" ]
+    timeout 20 umount "$mnt"
+    check "background: is told at the end" told "$unanswered\$"
+    check "background: is legal" is_legal "memory, in the background"
+    # A planted bug: a name that is there is denied.
+    own denied -- --deny name
+    timeout 20 sh -c "echo text > '$mnt/name'; cat '$mnt/name' '$mnt/name'" > "$work/seen" 2> /dev/null
+    stop
+    denied="$("$work/recorder/fuse-messages" "$capture" | awk '
+        / LOOKUP.* name name$/ { asked[$5 $6] = $1 } / CREATE.* name name$/ { made = 1 }
+        made && / ENOENT/ { for (key in asked) if (key == $5 $6) { print asked[key]; exit } }')"
+    check "denied: is not shown at that LOOKUP" judged "memory with a denied name" "not shown: entry * message $denied: code 73: *"
+
+    # What the kernel refuses is taken out of the capture, unless it is to be kept.
+    own twice -- --answer-twice name
+    timeout 20 ls "$mnt/name" 2> /dev/null
+    stop
+    check "twice: the second answer is told" logged "refused it (No such file or directory): an answer to LOOKUP of node 1, .*: it was answered before; it"
+    check "twice: and no part of the capture" judged "memory that answers twice" "legal: 1* messages, *"
+    own forgetful -- --answer-forget
+    timeout 20 sh -c "echo text > '$mnt/name'; rm '$mnt/name'"
+    stop
+    check "forgetful: the answer is told" logged "refused it (No such file or directory): an answer to FORGET of node .*: this operation is to have no"
+    check "forgetful: and no part of the capture" judged "memory that answers FORGET" "legal: [1-9]* messages, *"
+    own kept --keep-refused -- --answer-twice name
+    timeout 20 ls "$mnt/name" 2> /dev/null
+    stop
+    check "kept: it is a fault" judged "memory that answers twice, with what was refused" "fault: message *: code 31: *"
+
+    # A reply of which it refuses the body alone has ended its request, and stays.
+    own short -- --answer-short name
+    timeout 20 sh -c "echo text > '$mnt/name'; cat '$mnt/name'" 2> "$work/seen"
+    stop
+    check "short: its request ended" grep -q "Input/output error" "$work/seen"
+    check "short: it is a fault" judged "memory that answers short" "fault: message *: code 16: *"
+
+    # INIT as it is.
+    own init --keep-init --
+    timeout 20 ls "$mnt" > /dev/null
+    stop
+    check "init: the kernel's own" judged "memory with the kernel's INIT" "fault: message 1: code 24: *"
+
+    # A full disk, and a limit of the file's size.
+    mkdir -p "$work/small"
+    check "full: a small disk" mount -t tmpfs -o size=128k none "$work/small"
+    capture="$work/small/a.cap"
+    own full --
+    check "full: serves on" work_in_mount
+    check "full: is unmounted" stop
+    check "full: is told once" ended "No space left on device"
+    check "full: is legal" is_legal "memory, on a full disk"
+    umount "$work/small"
+    capture="$work/a.cap"
+    # Standard error is a file, and then a pipe that nobody reads.
+    exec 5> "$work/errors"
+    check "limited: mounts" limited
+    check "limited: serves on" work_in_mount
+    check "limited: is unmounted" stop
+    check "limited: is told once" ended "File too large"
+    check "limited: is legal" is_legal "memory, with a limit of the file's size"
+    exec 5> >(true)
+    check "unread: mounts" limited
+    check "unread: serves on" work_in_mount
+    check "unread: is unmounted" stop
+    exec 5>&-
+    check "unread: is legal" is_legal "memory, with standard error to nobody"
+}
+of_own_server
+started_again "another process has written to it"
 check "memory, linked statically: mounts" record -- "$work/memory-static" "$mnt" && whole_session "memory, linked statically"
+check "memory, linked statically: records itself" [ "$(grep -c "system calls are stopped" "$capture.log")" -eq 0 ]
 
 # A server that a sanitizer watches, whose library the user preloads.
 if [ ${#sanitizer[@]} -gt 0 ]; then
@@ -343,62 +504,15 @@ else
     echo "recorder: skipped: a server with AddressSanitizer: $(tail -n 1 "$work/errors")"
 fi
 
-own copied --
-copying_session "memory, copied to"
-
-# A server that ends in the middle of its work.
-own killed -- --die-after 200
-! work_in_mount 2> /dev/null
-stop
-check "killed: is told" ends 125 "[1-9]$unanswered: the server was ended by signal 9 (Killed) with requests unanswered\$"
-check "killed: the request is told" logged "message [0-9]*: [A-Z]* of node .*: never answered" 1
-check "killed: is legal" is_legal "memory, killed"
-
-# A crash in an operation that is not judged: the verdict is legal, with nothing left out, so the end has to tell it.
-own crashed -- --die-at 45
-timeout 20 sh -c "echo text > '$mnt/name'; mv -n '$mnt/name' '$mnt/other'" 2> /dev/null
-stop
-check "crashed: is told" ends 125 "1 requests were never answered, 1 of them of .*: the server was ended by signal 9 (Killed) with requests un"
-check "crashed: in RENAME2" logged "message [0-9]*: RENAME2 of node 1, unique .*: never answered" 1
-check "crashed: is legal" judged "memory, killed in RENAME2" "legal: [1-9]* messages, *, 0 left out"
-
-# A server that fails and leaves a process behind has ended, and is not in the background.
-failing() {
-    status=0
-    timeout 20 "${under[@]}" "$work/recorder/fuse-record" --force -o "$capture" -- sh -c "sleep 0.5 & exit 3" 2> "$work/errors" || status=$?
-}
-failing
-check "failing: is told" ends 125 "$unanswered: no message was seen, and the server ended with status 3"
-
 # A server of which nothing is recorded: one that makes its system calls itself.
 check "the server without the recorder compiles" "${CC:-cc}" "${plain[@]}" -static -o "$work/memory-unseen" "$here/tests/memory.c"
-check "unseen: mounts" record -- "$work/memory-unseen" "$mnt"
+check "unseen: mounts" record --preload -- "$work/memory-unseen" "$mnt"
 check "unseen: serves" timeout 20 ls "$mnt"
 check "unseen: is unmounted" stop
 check "unseen: is told" ends 125 "$unanswered: no message was seen, and the server ended with status 0\$"
-
-# Servers that go into the background: fuse-record ends when the first message is there, and tells the rest when they end.
-in_background() {
-    rm -f "$work"/a.cap*
-    status=0
-    timeout 20 "${under[@]}" "$work/recorder/fuse-record" -o "$capture" -- sh -c "'$1' '$mnt' > '$work/seen' 2>&1 &" 2> "$work/errors" || status=$?
-    is_mounted
-}
-told() {
-    for _ in $(seq 100); do
-        ! grep -q "^fuse-record: $capture: .* messages, .*$1" "$work/errors" || return 0
-        sleep 0.05
-    done
-    return 1
-}
-check "background: mounts" in_background "$work/memory"
-check "background: fuse-record ends" [ "$status" -eq 0 ]
-check "background: serves" work_in_mount
-check "background: has told nothing" [ ! -s "$work/errors" ]
-timeout 20 umount "$mnt"
-check "background: is told at the end" told "$unanswered\$"
-check "background: is legal" is_legal "memory, in the background"
+how=(--preload)
 check "background, unseen: mounts" in_background "$work/memory-unseen"
+how=()
 check "background, unseen: fuse-record ends with its own status" [ "$status" -eq 125 ]
 check "background, unseen: says so" grep -q "no message was seen in the 5 seconds since" "$work/errors"
 timeout 20 umount "$mnt"
@@ -428,6 +542,7 @@ mkdir -p "$mnt/deep" "$lower/deep"
 check "below: the mount" refuses 1 "is below $mnt, which is taken for the mount" -o "$mnt/deep/a.cap" -- "$work/memory" "$mnt"
 check "below: the folder" refuses 1 "is in the folder of --lower" --lower "$lower" -o "$lower/deep/a.cap" -- "$work/memory" "$mnt"
 check "below: nothing is left there" [ -z "$(ls "$mnt/deep" "$lower/deep" | grep cap)" ]
+rmdir "$mnt/deep"
 # An empty recording is no loss.
 check "empty: is told" refuses 125 "no message was seen" --force -o "$capture" -- true
 echo 1234567 > "$work/b"
@@ -455,90 +570,95 @@ check "signalled: ends" ended_server
 check "signalled: as the server ends" ends 0 "$unanswered\$"
 ! is_mounted || timeout 20 umount -l "$mnt"
 
-# A planted bug: a name that is there is denied.
-own denied -- --deny name
-timeout 20 sh -c "echo text > '$mnt/name'; cat '$mnt/name' '$mnt/name'" > "$work/seen" 2> /dev/null
-stop
-denied="$("$work/recorder/fuse-messages" "$capture" | awk '
-    / LOOKUP.* name name$/ { asked[$5 $6] = $1 } / CREATE.* name name$/ { made = 1 }
-    made && / ENOENT/ { for (key in asked) if (key == $5 $6) { print asked[key]; exit } }')"
-check "denied: is not shown at that LOOKUP" judged "memory with a denied name" "not shown: entry * message $denied: code 73: *"
-
-# What the kernel refuses is taken out of the capture, unless it is to be kept.
-own twice -- --answer-twice name
-timeout 20 ls "$mnt/name" 2> /dev/null
-stop
-check "twice: the second answer is told" logged "refused it (No such file or directory): an answer to LOOKUP of node 1, .*: it was answered before; it"
-check "twice: and no part of the capture" judged "memory that answers twice" "legal: 1* messages, *"
-own forgetful -- --answer-forget
-timeout 20 sh -c "echo text > '$mnt/name'; rm '$mnt/name'"
-stop
-check "forgetful: the answer is told" logged "refused it (No such file or directory): an answer to FORGET of node .*: this operation is to have no"
-check "forgetful: and no part of the capture" judged "memory that answers FORGET" "legal: [1-9]* messages, *"
-own kept --keep-refused -- --answer-twice name
-timeout 20 ls "$mnt/name" 2> /dev/null
-stop
-check "kept: it is a fault" judged "memory that answers twice, with what was refused" "fault: message *: code 31: *"
-
-# A reply of which it refuses the body alone has ended its request, and stays.
-own short -- --answer-short name
-timeout 20 sh -c "echo text > '$mnt/name'; cat '$mnt/name'" 2> "$work/seen"
-stop
-check "short: its request ended" grep -q "Input/output error" "$work/seen"
-check "short: it is a fault" judged "memory that answers short" "fault: message *: code 16: *"
-
-# INIT as it is.
-own init --keep-init --
-timeout 20 ls "$mnt" > /dev/null
-stop
-check "init: the kernel's own" judged "memory with the kernel's INIT" "fault: message 1: code 24: *"
-
-# A full disk, and a limit of the file's size, end the recording and not the server.
-ended() { [ "$(wc -l < "$work/errors")" -eq 2 ] && grep -q "fuse-record: .*$1: the recording ends with [0-9]* messages" "$work/errors"; }
-mkdir "$work/small"
-check "full: a small disk" mount -t tmpfs -o size=128k none "$work/small"
-capture="$work/small/a.cap"
-own full --
-check "full: serves on" work_in_mount
-check "full: is unmounted" stop
-check "full: is told once" ended "No space left on device"
-check "full: is legal" is_legal "memory, on a full disk"
-umount "$work/small"
-capture="$work/a.cap"
-# The same with standard error to a file, and to a pipe that nobody reads.
-limited() {
-    rm -f "$work"/a.cap*
-    ( ulimit -f 100; trap - EXIT; exec "${under[@]}" "$work/recorder/fuse-record" -o "$capture" -- "$work/memory" "$mnt" 2>&5 ) &
-    servers+=($!)
-    for _ in $(seq 100); do
-        is_mounted && return 0
-        sleep 0.05
-    done
-    return 1
+# By their system calls, where these may be stopped.
+how=(--trace)
+by=", traced"
+permitted() {
+    status=0
+    "$work/recorder/fuse-record" --force -o "$capture" --trace -- true 2> "$work/errors" || status=$?
+    [ "$status" -ne 126 ] || ! grep -q "not permitted\|not implemented" "$work/errors"
 }
-exec 5> "$work/errors"
-check "limited: mounts" limited
-check "limited: serves on" work_in_mount
-check "limited: is unmounted" stop
-check "limited: is told once" ended "File too large"
-check "limited: is legal" is_legal "memory, with a limit of the file's size"
-exec 5> >(true)
-check "unread: mounts" limited
-check "unread: serves on" work_in_mount
-check "unread: is unmounted" stop
-exec 5>&-
-check "unread: is legal" is_legal "memory, with standard error to nobody"
+traced_checks() {
+    check "a call that traces nothing ends" [ "$status" -eq 125 ]
+    sessions_of_others
+    of_own_server
+    started_again "a second mount begins"
+    check "a server that is not there" refuses 127 "No such file" --trace --force -o "$capture" -- "$work/none"
 
-# A second server of the same recording does not touch what the first one left.
-check "again: mounts" record -- sh -c "'$work/memory' '$mnt'; exec '$work/memory' '$mnt'"
-check "again: serves" work_in_mount
-timeout 20 umount "$mnt"
-for _ in $(seq 100); do
-    is_mounted && break
-    sleep 0.05
-done
-timeout 20 ls "$mnt" > "$work/seen"
-check "again: is unmounted" stop
-check "again: is told once" ended "another process has written to it"
-check "again: is legal" is_legal "memory, started again"
+    # Without a filter all system calls are stopped.
+    check "what takes system calls away compiles" "${CC:-cc}" "${plain[@]}" -o "$work/without" "$here/tests/without.c" || return
+    under=("$work/without" seccomp)
+    own "memory, without a filter" --
+    whole_session "memory, without a filter"
+    under=("$work/without" ptrace)
+    rm -f "$work"/a.cap*
+    check "not permitted: is told" refuses 126 "calls of true can't be traced: ptrace: Operation not permitted" --trace -o "$capture" -- true
+    check "not permitted: leaves nothing" [ -z "$(ls "$work" | grep a.cap)" ]
+    under=(env)
+
+    # It is chosen by itself, and told.
+    how=()
+    check "memory, static: mounts" record -- "$work/memory-unseen" "$mnt" && whole_session "memory, static"
+    check "memory, static: is told" logged "is linked statically: its system calls are stopped" 1
+    servers_in_go
+}
+servers_in_go() {
+    if command -v gocryptfs > /dev/null; then
+        mkdir -m 755 "$work/secret"
+        echo words > "$work/password"
+        check "gocryptfs: makes its folder" gocryptfs -q -init -scryptn 10 -passfile "$work/password" "$work/secret"
+        check "gocryptfs: mounts" record --refuse FALLOCATE,COPY_FILE_RANGE,IOCTL -- \
+            gocryptfs -fg -nosyslog -sharedstorage -passfile "$work/password" "$work/secret" "$mnt" && whole_session gocryptfs
+        check "gocryptfs: is told" logged "gocryptfs was made by Go, .*: its system calls are stopped" 1
+    else
+        echo "recorder: skipped: gocryptfs is not installed"
+    fi
+    if command -v rclone > /dev/null; then
+        fill_plain
+        check "rclone: mounts" record --lower "$lower" -- "${rclone_words[@]}" "$lower" "$mnt" && plain_session rclone
+        fill_plain
+        rm -f "$work"/a.cap*
+        status=0
+        timeout 60 "$work/recorder/fuse-record" -o "$capture" --lower "$lower" -- "${rclone_words[@]}" --daemon "$lower" "$mnt" \
+            > "$work/seen" 2> "$work/errors" || status=$?
+        check "rclone, in the background: fuse-record ends" [ "$status" -eq 0 ] &&
+            check "rclone, in the background: mounts" is_mounted &&
+            check "rclone, in the background: serves" work_plainly
+        timeout 20 umount "$mnt"
+        check "rclone, in the background: is told at the end" told "$unanswered\$"
+        check "rclone, in the background: is legal" is_legal "rclone, in the background"
+    else
+        echo "recorder: skipped: rclone is not installed"
+    fi
+}
+# rclone has one mode for all files, and one for all folders, and neither links nor pipes.
+rclone_words=(rclone mount --config /dev/null --vfs-cache-mode writes --cache-dir "$work/cache" --file-perms 0644 --dir-perms 0755)
+fill_plain() {
+    rm -rf "$lower"
+    (umask 022 && mkdir -p "$lower/old/deep" && echo here > "$lower/old/deep/file")
+}
+work_plainly() {
+    is_mounted && timeout 60 sh -ec "umask 022; cd '$mnt'
+        [ \"\$(cat old/deep/file)\" = here ]
+        for i in 1 2 3 4 5 6 7 8; do mkdir new\$i; echo \$i > new\$i/file; echo more >> new\$i/file; done
+        mv new1/file old/moved; rmdir new1; rm new3/file; rmdir new3
+        [ \"\$(cat old/moved new2/file new4/file | wc -l)\" -eq 6 ]
+        [ ! -e new3 ]
+        ls -lR > '$work/seen'"
+}
+plain_session() {
+    check "$1: serves" work_plainly
+    check "$1: is unmounted" stop
+    check "$1: ends well" ends 0 "$unanswered\$"
+    check "$1: is legal" is_legal "$1"
+}
+if [ ${#sanitizer[@]} -gt 0 ]; then
+    echo "recorder: skipped: servers that are traced, by a process of one thread"
+elif permitted; then
+    traced_checks
+else
+    echo "recorder: skipped: servers that are traced: $(tail -n 1 "$work/errors")"
+fi
+how=()
+by=""
 finish
