@@ -607,8 +607,15 @@ servers_in_go() {
         mkdir -m 755 "$work/secret"
         echo words > "$work/password"
         check "gocryptfs: makes its folder" gocryptfs -q -init -scryptn 10 -passfile "$work/password" "$work/secret"
-        check "gocryptfs: mounts" record --refuse FALLOCATE,COPY_FILE_RANGE,IOCTL -- \
-            gocryptfs -fg -nosyslog -sharedstorage -passfile "$work/password" "$work/secret" "$mnt" && whole_session gocryptfs
+        check "gocryptfs: mounts" record --refuse FALLOCATE,COPY_FILE_RANGE,IOCTL,RENAME2 -- \
+            gocryptfs -fg -nosyslog -sharedstorage -passfile "$work/password" "$work/secret" "$mnt" && {
+            check "gocryptfs: serves several processes" work_in_mount
+            check "gocryptfs: is unmounted" stop
+            check "gocryptfs: ends well" ends 0 "$unanswered\$"
+            # All messages keep the protocol. The first name that is looked up is one of go-fuse's own, which no tree has.
+            check "gocryptfs: is not shown at go-fuse's own name" judged gocryptfs "not shown: entry 0: message 2: code 73: *"
+            check "gocryptfs: looks that name up" names_of_go_fuse
+        }
         check "gocryptfs: is told" logged "gocryptfs was made by Go, .*: its system calls are stopped" 1
     else
         echo "recorder: skipped: gocryptfs is not installed"
@@ -631,10 +638,13 @@ servers_in_go() {
         echo "recorder: skipped: rclone is not installed"
     fi
 }
+names_of_go_fuse() {
+    "$work/recorder/fuse-messages" "$capture" > "$work/seen" && grep -q "^2 to server: LOOKUP, .*, name \.go-fuse-epoll-hack$" "$work/seen"
+}
 # rclone has one mode for all files, and one for all folders, and neither links nor pipes.
 rclone_words=(rclone mount --config /dev/null --vfs-cache-mode writes --cache-dir "$work/cache" --file-perms 0644 --dir-perms 0755)
 fill_plain() {
-    rm -rf "$lower"
+    rm -rf "$lower" "$work/cache"
     (umask 022 && mkdir -p "$lower/old/deep" && echo here > "$lower/old/deep/file")
 }
 work_plainly() {
