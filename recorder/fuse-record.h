@@ -1,7 +1,7 @@
 /*
- * Records what the kernel and a FUSE server say to each other. The command fuse-record loads this into a server of its own accord.
- * A server that is linked statically, or makes its system calls itself, includes this file in one of its files, links with
- * -pthread, is started by fuse-record too, and receives and sends each message by
+ * Records what the kernel and a FUSE server say to each other. The command fuse-record loads this into a server of its own accord, or
+ * traces one that is linked statically or makes its system calls itself. Such a server may instead include this file in one of its
+ * files: it links with -pthread, is started by fuse-record too, and receives and sends each message by
  *
  *     fuse_record(FUSE_RECORD_READ, device, parts, count)      instead of readv(device, parts, count)
  *     fuse_record(FUSE_RECORD_WRITE, device, parts, count)     instead of writev(device, parts, count)
