@@ -9,25 +9,45 @@ work="$(mktemp -d)"
 lower="$work/lower"
 mnt="$work/mnt"
 capture="$work/a.cap"
+examples=/usr/share/doc/libfuse3-dev/examples
+# The process that serves, and that of sshd. What the server reads from its standard input.
+running=
+sshd=
+typed=/dev/null
 mkdir "$mnt"
 
 clean_up() {
+    for process in $running $sshd; do
+        kill "$process" && wait "$process"
+    done
     while grep -qs " $mnt " /proc/self/mounts && timeout 20 umount -l "$mnt"; do :; done
     rm -rf --one-file-system "$work"
 }
 trap clean_up EXIT
+trap 'exit 1' HUP INT TERM
 
-# Waits until the mount is there, or is not: mounted yes, mounted no.
+# Waits until the mount is there, as long as the server runs. (cryfs makes a key of the password for 20 seconds.)
 mounted() {
-    for _ in $(seq 100); do
-        case "$1$(grep -c " $mnt " /proc/self/mounts)" in yes[1-9]* | no0) return 0 ;; esac
+    for _ in $(seq 800); do
+        ! grep -qs " $mnt " /proc/self/mounts || return 0
+        kill -0 "$running" 2> /dev/null || return 1
         sleep 0.05
     done
     return 1
 }
 
+# Ends the server by an unmount. Without a mount it is told to end.
+unmounted() {
+    timeout 20 umount "$mnt" 2> /dev/null || timeout 20 umount -l "$mnt" 2> /dev/null || kill "$running" 2> /dev/null
+    local status=0
+    wait "$running" || status=$?
+    running=
+    return "$status"
+}
+
 fill() {
-    rm -rf "$lower" "$work/other" "$work/cache" "$work"/a.cap*
+    rm -rf "$lower" "$work/other" "$work/cache" "$work/tree" "$work"/image*
+    typed=/dev/null
     (umask 022 && mkdir -p "$lower/old/deep" "$work/other" "$work/cache" && echo here > "$lower/old/deep/file")
 }
 
@@ -40,26 +60,36 @@ plainly() {
 }
 reading() { timeout 60 sh -ec "cd '$mnt'; ls -lR; cat old/deep/file; [ ! -e none ]"; }
 
+# The tree text of a server's mount, which is made without the recorder: own_tree SERVER WORDS..
+own_tree() {
+    timeout -k 5 100 "$@" > "$work/said" 2>&1 < "$typed" &
+    running=$!
+    ! mounted || timeout 20 "$here/fuse-tree" "$mnt" > "$work/tree"
+    unmounted
+}
+
 # One row: row NAME VERSION WORK [OPTIONS OF fuse-record] -- SERVER WORDS.. It stays in the foreground.
 row() {
-    local name="$1" version="$2" labour="$3" options=() found worked=done shown status=0
+    local name="$1" version="$2" labour="$3" options=() found worked="done" shown status=0
     shift 3
     while [ "$1" != -- ]; do
         options+=("$1")
         shift
     done
     shift
-    timeout 200 "$here/fuse-record" -o "$capture" "${options[@]}" -- "$@" > "$work/said" 2>&1 < /dev/null &
-    local recorder=$!
-    if mounted yes; then
+    rm -f "$capture"*
+    timeout -k 5 200 "$here/fuse-record" -o "$capture" "${options[@]}" -- "$@" > "$work/said" 2>&1 < "$typed" &
+    running=$!
+    if mounted; then
         "$labour" > "$work/seen" 2>&1 || worked="failed: $(grep -v "a process failed" "$work/seen" | tail -n 1)"
-        timeout 20 umount "$mnt" || timeout 20 umount -l "$mnt"
     else
         worked="not mounted"
     fi
-    wait "$recorder" || status=$?
-    local tree=()
-    [ ! -e "$capture.tree" ] || tree=(--tree "$capture.tree")
+    unmounted || status=$?
+    local tree=() text
+    for text in "$work/tree" "$capture.tree"; do
+        [ ! -e "$text" ] || tree=(--tree "$text")
+    done
     if "$program" propose --capture "$capture" "${tree[@]}" > "$work/order" 2>&1; then
         found="$("$program" check --capture "$capture" "${tree[@]}" --order "$work/order")"
     else
@@ -70,18 +100,21 @@ row() {
     shown="${shown//$work\//}"
     local way=library
     ! grep -q "system calls are stopped" "$capture.log" || way=trace
+    # shellcheck disable=SC2016
     printf '| %s | %s | `%s` | %s | %s | %s | %s |\n' "$name" "$version" "${shown//$here\//}" "$way" "$labour" "${worked//$work\//}" "$found"
 }
+
+version_of() { dpkg-query -W -f '${Version}' "$1" 2> /dev/null; }
 
 # A row of a server whose package is installed: try PACKAGE WORK WORDS OF row FROM ITS OPTIONS ON..
 try() {
     local package="$1" labour="$2" version
     shift 2
-    version="$(dpkg-query -W -f '${Version}' "$package" 2> /dev/null)" && [ -n "$version" ] || return 0
+    version="$(version_of "$package")" && [ -n "$version" ] || return 0
     row "$package" "$version" "$labour" "$@"
 }
 
-refused=(--refuse FALLOCATE,COPY_FILE_RANGE,IOCTL,RENAME2)
+refused=(--refuse "FALLOCATE,COPY_FILE_RANGE,IOCTL,RENAME2")
 make -s -C "$here" || exit
 echo "| server | version | started by | by | work | it was | verdict |"
 echo "|---|---|---|---|---|---|---|"
@@ -111,3 +144,82 @@ if command -v gocryptfs > /dev/null; then
 fi
 fill
 try python3-fusepy everything "${refused[@]}" --lower "$lower" -- /usr/bin/python3 "$here/tests/folder.py" "$lower" "$mnt"
+fill
+try python3-pyfuse3 everything "${refused[@]}" -- /usr/bin/python3 "$here/tests/nodes.py" pyfuse3 "$mnt"
+fill
+try python3-llfuse everything "${refused[@]}" -- /usr/bin/python3 "$here/tests/nodes.py" llfuse "$mnt"
+if [ -e "$examples/passthrough_ll.c" ]; then
+    fill
+    "${CC:-cc}" -O2 -w -I/usr/include/fuse3 -I"$examples" -o "$work/passthrough_ll" "$examples/passthrough_ll.c" -lfuse3 -pthread &&
+        row passthrough_ll "$(version_of libfuse3-dev)" everything "${refused[@]}" --lower "$lower" -- \
+            "$work/passthrough_ll" -f -o "source=$lower" "$mnt"
+fi
+fill
+# It is mounted over the folder that it passes on.
+cp -a "$lower/." "$mnt"
+try loggedfs everything "${refused[@]}" --lower "$mnt" -- loggedfs -f -p -e -l /dev/null "$mnt"
+rm -rf "${mnt:?}"/*
+
+# A server of files on the loopback address, with keys of its own. It needs a folder /run/sshd: nobody else sees this one.
+serve_files() {
+    local port=$((20000 + RANDOM % 10000))
+    ssh-keygen -q -t ed25519 -N "" -f "$work/host" && ssh-keygen -q -t ed25519 -N "" -f "$work/user" || return
+    printf '%s\n' "ListenAddress 127.0.0.1" "Port $port" "HostKey $work/host" "AuthorizedKeysFile $work/user.pub" "PidFile none" \
+        "StrictModes no" "UsePAM no" "Subsystem sftp internal-sftp -u 0" > "$work/sshd.options"
+    printf '%s\n' "Host loopback" "HostName 127.0.0.1" "Port $port" "IdentityFile $work/user" "UserKnownHostsFile $work/known" \
+        "StrictHostKeyChecking no" > "$work/ssh.options"
+    # shellcheck disable=SC2016
+    unshare -m sh -ec 'mount -t tmpfs none /run; mkdir /run/sshd; exec timeout -k 5 300 /usr/sbin/sshd -D -e -f "$0"' \
+        "$work/sshd.options" > "$work/sshd.said" 2>&1 &
+    sshd=$!
+    for _ in $(seq 100); do
+        ! grep -qs "listening on" "$work/sshd.said" || return 0
+        sleep 0.05
+    done
+    echo "servers.sh: sshd: $(tail -n 1 "$work/sshd.said")" >&2
+    return 1
+}
+if command -v sshfs > /dev/null && [ -x /usr/sbin/sshd ]; then
+    fill
+    ! serve_files || try sshfs plainly "${refused[@]}" --lower "$lower" -- sshfs -f -F "$work/ssh.options" "loopback:$lower" "$mnt"
+    [ -z "$sshd" ] || { kill "$sshd" && wait "$sshd"; }
+    sshd=
+fi
+
+# Servers of images and of encrypted folders.
+if command -v mkntfs > /dev/null; then
+    fill
+    truncate -s 16M "$work/image"
+    mkntfs -q -F "$work/image" > /dev/null 2>&1
+    own_tree ntfs-3g -o no_detach,permissions "$work/image" "$mnt"
+    try ntfs-3g plainly "${refused[@]}" -- ntfs-3g -o no_detach,permissions "$work/image" "$mnt"
+    mkntfs -q -F "$work/image" > /dev/null 2>&1
+    try ntfs-3g everything "${refused[@]}" -- \
+        ntfs-3g -o no_detach,permissions,hard_remove,attr_timeout=0,entry_timeout=0 "$work/image" "$mnt"
+fi
+if command -v fuse-zip > /dev/null && command -v zip > /dev/null; then
+    fill
+    (cd "$lower" && zip -qr "$work/image.zip" .)
+    own_tree fuse-zip -f "$work/image.zip" "$mnt"
+    try fuse-zip plainly "${refused[@]}" -- fuse-zip -f "$work/image.zip" "$mnt"
+fi
+echo words > "$work/password"
+if command -v encfs > /dev/null; then
+    fill
+    typed="$work/password"
+    own_tree encfs -f --standard -S "$work/other" "$mnt"
+    try encfs everything "${refused[@]}" -- encfs -f -S "$work/other" "$mnt" -o attr_timeout=0,entry_timeout=0
+fi
+if command -v cryfs > /dev/null; then
+    fill
+    typed="$work/password"
+    export CRYFS_FRONTEND=noninteractive CRYFS_NO_UPDATE_CHECK=true CRYFS_LOCAL_STATE_DIR="$work/cache"
+    own_tree cryfs -f "$work/other" "$mnt"
+    try cryfs plainly "${refused[@]}" -- cryfs -f "$work/other" "$mnt"
+fi
+if command -v securefs > /dev/null; then
+    fill
+    securefs create --pass words "$work/other" > /dev/null 2>&1
+    own_tree securefs mount --pass words "$work/other" "$mnt"
+    try securefs plainly "${refused[@]}" -- securefs mount --pass words "$work/other" "$mnt"
+fi
