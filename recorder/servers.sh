@@ -197,6 +197,19 @@ if command -v mkntfs > /dev/null; then
     try ntfs-3g everything "${refused[@]}" -- \
         ntfs-3g -o no_detach,permissions,hard_remove,attr_timeout=0,entry_timeout=0 "$work/image" "$mnt"
 fi
+if command -v fuse2fs > /dev/null && command -v mkfs.ext4 > /dev/null; then
+    fill
+    truncate -s 16M "$work/image"
+    mkfs.ext4 -q -F "$work/image" > /dev/null 2>&1
+    own_tree fuse2fs -f -o fakeroot "$work/image" "$mnt"
+    try fuse2fs everything "${refused[@]}" -- fuse2fs -f -o fakeroot,attr_timeout=0,entry_timeout=0 "$work/image" "$mnt"
+fi
+if command -v archivemount > /dev/null && command -v tar > /dev/null; then
+    fill
+    tar -C "$lower" -cf "$work/image.tar" .
+    own_tree archivemount -f -o nobackup "$work/image.tar" "$mnt"
+    try archivemount plainly "${refused[@]}" -- archivemount -f -o nobackup "$work/image.tar" "$mnt"
+fi
 if command -v fuse-zip > /dev/null && command -v zip > /dev/null; then
     fill
     (cd "$lower" && zip -qr "$work/image.zip" .)
