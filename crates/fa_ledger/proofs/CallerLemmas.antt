@@ -37,6 +37,9 @@ pub use Rattle.fa_ledger.proofs.FrontLemmas.{asked_of_front, asked_in_front, ans
 pub use Rattle.fa_ledger.proofs.SoFarLemmas.{calls_list_so_far}
 -- where nodes and open directories come from, and what answers a call
 pub use Rattle.fa_ledger.proofs.NamingLemmas.{IsTreeAnswer, IsNamedSince, IsOpenedBefore, HasReply, name_given, lists_directory, handle_opened, call_replied}
+-- operations, and what comes of those that are answered
+pub use Rattle.fa_ledger.proofs.OperationLemmas.{unanswered_there, ComesTo, action_made, list_made, reads_only}
+pub use Rattle.fa_ledger.proofs.OperationLawLemmas.{answered_operation, calls_have_operations}
 -- items one after the other
 pub use Rattle.fa_ledger.proofs.TakingLemmas.{moved_on}
 

@@ -10,6 +10,8 @@ pub mod FrontLemmas
 pub mod KeyLemmas
 pub mod NamingLemmas
 pub mod NodeLemmas
+pub mod OperationLawLemmas
+pub mod OperationLemmas
 pub mod CallStepLemmas
 pub mod SoFarLemmas
 pub mod ListedThereLemmas

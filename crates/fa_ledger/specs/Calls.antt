@@ -24,6 +24,7 @@ use Rattle.fa_ledger.specs.Events.{AreEvents}
 use Rattle.fa_ledger.specs.Counts.{nodes_given}
 use Rattle.fa_ledger.specs.Kinds.{IsTreeRequest}
 use Rattle.fa_ledger.specs.Names.{name_at, nodes_named}
+use Rattle.fa_ledger.specs.Operations.{PlainOperation, operation_of}
 use Rattle.fa_ledger.specs.Keys.{key_used}
 use Rattle.fa_ledger.specs.Listings.{IsListingIfAny}
 use Rattle.fa_ledger.specs.Handles.{times_opened, times_closed, OpensAt, IsHandle, IsDirect}
@@ -50,6 +51,10 @@ pub record PlainCall : Type 0 where
   pub truncates : Bool
   pub listing : Option Listing
   pub answer : Option PlainAnswer
+
+-- what a call asks for, and what came of it
+abbrev pub operation : PlainCall → Option PlainOperation
+operation call = operation_of call.request.body (option_map (λ answer. answer.reply) call.answer)
 
 -- both sides set this flag at INIT (`flags` of struct fuse_init_in and struct fuse_init_out of fuse.h)
 abbrev pub IsNegotiatedFlag : List PlainEvent → ℕ → Type 0

@@ -15,7 +15,10 @@ use Rattle.fa_ledger.specs.Events.{AreEvents}
 use Rattle.fa_ledger.specs.Names.{name_at, IsNamedBy}
 use Rattle.fa_ledger.specs.Handles.{IsHandle}
 use Rattle.fa_ledger.specs.Listings.{UsesHandle, IsListedSoFar, IsListingIfAny, IsFirstWith, offset_asked, count_to}
-use Rattle.fa_ledger.specs.Calls.{PlainCall, IsCall, AreCalls, AreCallsOf}
+use Rattle.std.specs.Option.{option_map_or}
+use Rattle.fa_ledger.specs.declared.operation.Outcome.TheVariants.{Unanswered}
+use Rattle.fa_ledger.specs.Calls.{PlainCall, operation, IsCall, AreCalls, AreCallsOf}
+use Rattle.fa_ledger.specs.Operations.{PlainOperation, ended, ended_by}
 use Rattle.fa_ledger.specs.Passing.{AreGood}
 use Rattle.fa_ledger.specs.SoFar.{listing_so_far}
 
@@ -84,3 +87,10 @@ CallsListSoFar =
     → (place : ℕ) (call : PlainCall) (listing : Listing) → slice_get calls place ≡ Some call → call.listing ≡ Some listing
     → (handle offset : ℕ) → UsesHandle (take call.asked es) call.request handle → offset_asked call.request.body ≡ Some offset
     → IsListedSoFar (take call.asked es) handle offset (listing_so_far calls place) listing.adrift
+
+-- Each call of messages has an operation. What came of it is what the call's answer says: its error, or success; nothing where it has no
+-- answer.
+abbrev pub CallsHaveOperations : Type 0
+CallsHaveOperations =
+    (c : List Message) (es : List PlainEvent) (call : PlainCall) → AreEvents c es → IsCall es call
+    → (o : PlainOperation) × (operation call ≡ Some o) × (ended o ≡ option_map_or (λ answer. ended_by answer.reply) call.answer Unanswered)

@@ -15,6 +15,7 @@ pub mod Listings
 pub mod Passing
 -- the calls of messages, and what an order may say of them
 pub mod Kinds
+pub mod Operations
 pub mod Calls
 pub mod Choices
 -- the listing so far of a call

@@ -1,10 +1,13 @@
 //! Calls: the requests that act on the tree, each with what it names and with its answer.
 
 ghost use Rattle.std.specs.Prelude.{◌≡◌, ◌↔◌, IsTrue};
-ghost use Rattle.fa_ledger.specs.Calls.{call_shown, given_shown};
+ghost use Rattle.std.specs.Option.{option_map};
+ghost use Rattle.fa_ledger.specs.Calls.{call_shown, given_shown, operation};
 ghost use Rattle.fa_ledger.specs.Choices.{Allows};
+ghost use Rattle.fa_ledger.specs.Operations.{operation_shown};
 
 use crate::name::NodeName;
+use crate::operation::Operation;
 use crate::placing::may_be_placed;
 use fa_bodies::{Reply, Request};
 use std::slice;
@@ -88,7 +91,19 @@ pub struct Call<'a> {
     pub answer: Option<Answer<'a>>,
 }
 
-impl Call<'_> {
+impl<'a> Call<'a> {
+    /// What it asks for, and what came of it. Each call of a ledger has such.
+    ///
+    /// Takes no memory, in constant time.
+    pub fn operation(&self) -> Option<Operation<'a>>
+        ensures { option_map operation_shown result ≡ operation (call_shown self.now) }
+    {
+        Operation::of(
+            &self.request.body,
+            self.answer.as_ref().map(|answer| &answer.reply),
+        )
+    }
+
     /// Whether an order may name the request with this count of bytes written, or without one: an answered request
     /// without one; one that was not answered and changes the tree without one as well, but for a WRITE, which has a
     /// count of at most its size; one that only reads, and was not answered, not at all (this profile).

@@ -1,6 +1,6 @@
 //! What holds of names, events, listings and calls. Each function does nothing: its contract is the law.
 
-ghost use Rattle.fa_ledger.specs.Laws.{NameIsLeast, EventsAreOne, EventsAreThere, CallsAreOne, CallsAreThere, NamesLookBack, CallsStay, ListedIsOne, ListedIsThere, CountIsFirst, CallsListSoFar};
+ghost use Rattle.fa_ledger.specs.Laws.{NameIsLeast, EventsAreOne, EventsAreThere, CallsAreOne, CallsAreThere, NamesLookBack, CallsStay, ListedIsOne, ListedIsThere, CountIsFirst, CallsListSoFar, CallsHaveOperations};
 
 /// A node other than the root has the name of the least event since which it is counted.
 pub fn name_is_least()
@@ -56,4 +56,9 @@ pub fn count_is_first()
 /// The listing so far that the calls of messages give for one of them is the listing so far of its request.
 pub fn calls_list_so_far()
     ensures { CallsListSoFar }
+{}
+
+/// Each call of messages has an operation, and what came of it is what the call's answer says.
+pub fn calls_have_operations()
+    ensures { CallsHaveOperations }
 {}

@@ -17,6 +17,7 @@ mod listings;
 mod name;
 mod naming;
 mod nodes;
+mod operation;
 mod placing;
 
 pub use call::{Answer, Call, GivenNodes, Listing};
@@ -25,3 +26,4 @@ pub use error::LedgerError;
 pub use kinds::{keeps_tree, only_reads};
 pub use ledger::Ledger;
 pub use name::NodeName;
+pub use operation::{Action, List, Operation, Outcome};

@@ -1,0 +1,400 @@
+//! Operations: what tree requests ask for, and what came of each.
+
+ghost use Rattle.std.specs.Prelude.{◌≡◌};
+ghost use Rattle.std.specs.Option.{option_map};
+ghost use Rattle.fa_bodies.specs.Listing.{entries_left};
+ghost use Rattle.fa_bodies.specs.Requests.{body_shown};
+ghost use Rattle.fa_bodies.specs.Replies.{reply_shown};
+ghost use Rattle.fa_ledger.specs.Operations.{action_shown, operation_shown, with_success, action_of, operation_of, action_ended, bare, done_as, entry_as, created_as, attributes_as, opened_as, written_as, bytes_as, listed_as};
+
+use fa_bodies::{
+    AttrOut, Entries, EntryOut, Mode, OpenFlags, OpenOut, Reply, RequestBody, SetattrIn,
+};
+
+/// What came of a request whose success says a `T`.
+#[derive(Clone, Copy, Debug)]
+pub enum Outcome<T> {
+    /// This error was answered: `error` of `struct fuse_out_header`, which is below 0.
+    Fails(i32),
+    /// It was done, and this was answered.
+    Succeeds(T),
+    /// It was not answered.
+    Unanswered,
+}
+
+/// What a tree request that does not list asks for, each with what came of it. Nodes and file handles stand by name in its
+/// [`Call`](crate::Call), and are not here.
+#[derive(Clone, Copy, Debug)]
+pub enum Action<'a> {
+    /// The file of a name in a directory. The node id 0 says that the name is not there.
+    Lookup {
+        name: &'a [u8],
+        outcome: Outcome<EntryOut>,
+    },
+    /// The attributes of a file.
+    Getattr {
+        outcome: Outcome<AttrOut>,
+    },
+    /// A change of attributes of a file.
+    Setattr {
+        setattr: SetattrIn,
+        outcome: Outcome<AttrOut>,
+    },
+    /// The target of a symbolic link.
+    Readlink {
+        outcome: Outcome<&'a [u8]>,
+    },
+    /// A new symbolic link with this name and target in a directory.
+    Symlink {
+        name: &'a [u8],
+        target: &'a [u8],
+        outcome: Outcome<EntryOut>,
+    },
+    /// A new file in a directory that is neither a directory nor a symbolic link.
+    Mknod {
+        mode: Mode,
+        umask: u32,
+        name: &'a [u8],
+        outcome: Outcome<EntryOut>,
+    },
+    /// A new directory in a directory. The type in its mode is of no meaning.
+    Mkdir {
+        mode: Mode,
+        umask: u32,
+        name: &'a [u8],
+        outcome: Outcome<EntryOut>,
+    },
+    /// A name of a file that is no directory goes.
+    Unlink {
+        name: &'a [u8],
+        outcome: Outcome<()>,
+    },
+    /// A name of an empty directory goes.
+    Rmdir {
+        name: &'a [u8],
+        outcome: Outcome<()>,
+    },
+    /// A name moves from one directory to another, which is the call's `other`.
+    Rename {
+        old_name: &'a [u8],
+        new_name: &'a [u8],
+        outcome: Outcome<()>,
+    },
+    /// A file, which is the call's `other`, gets a further name in a directory.
+    Link {
+        new_name: &'a [u8],
+        outcome: Outcome<EntryOut>,
+    },
+    /// A file is opened.
+    Open {
+        outcome: Outcome<OpenOut>,
+    },
+    /// Bytes of a file: at most `size` of them, from `offset` on.
+    Read {
+        offset: u64,
+        size: u32,
+        outcome: Outcome<&'a [u8]>,
+    },
+    /// Bytes for a file, which are `payload`: `size` of them, from `offset` on. Its success says how many were written.
+    Write {
+        offset: u64,
+        size: u32,
+        payload: &'a [u8],
+        outcome: Outcome<u32>,
+    },
+    /// A directory is opened.
+    Opendir {
+        outcome: Outcome<OpenOut>,
+    },
+    /// A new file in a directory, or one that is there, is opened.
+    Create {
+        flags: OpenFlags,
+        mode: Mode,
+        umask: u32,
+        name: &'a [u8],
+        outcome: Outcome<(EntryOut, OpenOut)>,
+    },
+}
+
+/// What READDIR and READDIRPLUS ask for, with what came of it: entries of a directory, in at most `size` bytes. READDIRPLUS
+/// looks their names up too.
+#[derive(Clone, Copy, Debug)]
+pub struct List<'a> {
+    pub size: u32,
+    pub outcome: Outcome<Entries<'a>>,
+}
+
+/// What a tree request asks for, with what came of it.
+#[derive(Clone, Copy, Debug)]
+pub enum Operation<'a> {
+    /// READDIR or READDIRPLUS.
+    List(List<'a>),
+    /// Any other.
+    Act(Action<'a>),
+}
+
+/// What a reply that says no more than that it is done comes to.
+fn done_as(reply: Option<&Reply<'_>>) -> Option<Outcome<()>>
+    ensures { result ≡ done_as (option_map (λ r. reply_shown r.now) reply.entry) }
+{
+    match reply {
+        None => Some(Outcome::Unanswered),
+        Some(Reply::Refused(error)) => Some(Outcome::Fails(*error)),
+        Some(Reply::Empty) => Some(Outcome::Succeeds(())),
+        Some(_) => None,
+    }
+}
+
+/// What an entry comes to.
+fn entry_as(reply: Option<&Reply<'_>>) -> Option<Outcome<EntryOut>>
+    ensures { result ≡ entry_as (option_map (λ r. reply_shown r.now) reply.entry) }
+{
+    match reply {
+        None => Some(Outcome::Unanswered),
+        Some(Reply::Refused(error)) => Some(Outcome::Fails(*error)),
+        Some(Reply::Entry(entry)) => Some(Outcome::Succeeds(*entry)),
+        Some(_) => None,
+    }
+}
+
+/// What an entry with an open handle comes to.
+fn created_as(reply: Option<&Reply<'_>>) -> Option<Outcome<(EntryOut, OpenOut)>>
+    ensures { result ≡ created_as (option_map (λ r. reply_shown r.now) reply.entry) }
+{
+    match reply {
+        None => Some(Outcome::Unanswered),
+        Some(Reply::Refused(error)) => Some(Outcome::Fails(*error)),
+        Some(Reply::Created { entry, open }) => Some(Outcome::Succeeds((*entry, *open))),
+        Some(_) => None,
+    }
+}
+
+/// What attributes come to.
+fn attributes_as(reply: Option<&Reply<'_>>) -> Option<Outcome<AttrOut>>
+    ensures { result ≡ attributes_as (option_map (λ r. reply_shown r.now) reply.entry) }
+{
+    match reply {
+        None => Some(Outcome::Unanswered),
+        Some(Reply::Refused(error)) => Some(Outcome::Fails(*error)),
+        Some(Reply::Attributes(attributes)) => Some(Outcome::Succeeds(*attributes)),
+        Some(_) => None,
+    }
+}
+
+/// What an open handle comes to.
+fn opened_as(reply: Option<&Reply<'_>>) -> Option<Outcome<OpenOut>>
+    ensures { result ≡ opened_as (option_map (λ r. reply_shown r.now) reply.entry) }
+{
+    match reply {
+        None => Some(Outcome::Unanswered),
+        Some(Reply::Refused(error)) => Some(Outcome::Fails(*error)),
+        Some(Reply::Opened(open)) => Some(Outcome::Succeeds(*open)),
+        Some(_) => None,
+    }
+}
+
+/// What a count of bytes written comes to.
+fn written_as(reply: Option<&Reply<'_>>) -> Option<Outcome<u32>>
+    ensures { result ≡ written_as (option_map (λ r. reply_shown r.now) reply.entry) }
+{
+    match reply {
+        None => Some(Outcome::Unanswered),
+        Some(Reply::Refused(error)) => Some(Outcome::Fails(*error)),
+        Some(Reply::Written(count)) => Some(Outcome::Succeeds(*count)),
+        Some(_) => None,
+    }
+}
+
+/// What bytes come to.
+fn bytes_as<'a>(reply: Option<&Reply<'a>>) -> Option<Outcome<&'a [u8]>>
+    ensures { option_map (λ o. with_success (λ bytes. bytes.now) o) result ≡ bytes_as (option_map (λ r. reply_shown r.now) reply.entry) }
+{
+    match reply {
+        None => Some(Outcome::Unanswered),
+        Some(Reply::Refused(error)) => Some(Outcome::Fails(*error)),
+        Some(Reply::Bytes(bytes)) => Some(Outcome::Succeeds(*bytes)),
+        Some(_) => None,
+    }
+}
+
+/// What entries of a directory come to.
+fn listed_as<'a>(reply: Option<&Reply<'a>>) -> Option<Outcome<Entries<'a>>>
+    ensures { option_map (λ o. with_success entries_left o) result ≡ listed_as (option_map (λ r. reply_shown r.now) reply.entry) }
+{
+    match reply {
+        None => Some(Outcome::Unanswered),
+        Some(Reply::Refused(error)) => Some(Outcome::Fails(*error)),
+        Some(Reply::Listed(entries)) => Some(Outcome::Succeeds(*entries)),
+        Some(_) => None,
+    }
+}
+
+impl<T> Outcome<T> {
+    /// The same, but for what its success says.
+    fn bare(&self) -> Outcome<()>
+        ensures { result ≡ bare self.now }
+    {
+        match self {
+            Outcome::Fails(error) => Outcome::Fails(*error),
+            Outcome::Succeeds(_) => Outcome::Succeeds(()),
+            Outcome::Unanswered => Outcome::Unanswered,
+        }
+    }
+}
+
+impl<'a> Action<'a> {
+    /// What a request of this body asks for that was answered so, or was not answered, if it is a tree request that does
+    /// not list.
+    fn of(body: &RequestBody<'a>, reply: Option<&Reply<'a>>) -> Option<Action<'a>>
+        ensures { option_map action_shown result ≡ action_of (body_shown body.now) (option_map (λ r. reply_shown r.now) reply.entry) }
+    {
+        match body {
+            RequestBody::Lookup { name } => Some(Action::Lookup {
+                name: *name,
+                outcome: entry_as(reply)?,
+            }),
+            RequestBody::Getattr(_) => Some(Action::Getattr {
+                outcome: attributes_as(reply)?,
+            }),
+            RequestBody::Setattr(setattr) => Some(Action::Setattr {
+                setattr: *setattr,
+                outcome: attributes_as(reply)?,
+            }),
+            RequestBody::Readlink => Some(Action::Readlink {
+                outcome: bytes_as(reply)?,
+            }),
+            RequestBody::Symlink { name, target } => Some(Action::Symlink {
+                name: *name,
+                target: *target,
+                outcome: entry_as(reply)?,
+            }),
+            RequestBody::Mknod {
+                mode,
+                umask,
+                name,
+                ..
+            } => Some(Action::Mknod {
+                mode: *mode,
+                umask: *umask,
+                name: *name,
+                outcome: entry_as(reply)?,
+            }),
+            RequestBody::Mkdir { mode, umask, name } => Some(Action::Mkdir {
+                mode: *mode,
+                umask: *umask,
+                name: *name,
+                outcome: entry_as(reply)?,
+            }),
+            RequestBody::Unlink { name } => Some(Action::Unlink {
+                name: *name,
+                outcome: done_as(reply)?,
+            }),
+            RequestBody::Rmdir { name } => Some(Action::Rmdir {
+                name: *name,
+                outcome: done_as(reply)?,
+            }),
+            RequestBody::Rename {
+                old_name,
+                new_name,
+                ..
+            } => Some(Action::Rename {
+                old_name: *old_name,
+                new_name: *new_name,
+                outcome: done_as(reply)?,
+            }),
+            RequestBody::Link { new_name, .. } => Some(Action::Link {
+                new_name: *new_name,
+                outcome: entry_as(reply)?,
+            }),
+            RequestBody::Open(_) => Some(Action::Open {
+                outcome: opened_as(reply)?,
+            }),
+            RequestBody::Read(read) => Some(Action::Read {
+                offset: read.offset,
+                size: read.size,
+                outcome: bytes_as(reply)?,
+            }),
+            RequestBody::Write {
+                offset,
+                size,
+                payload,
+                ..
+            } => Some(Action::Write {
+                offset: *offset,
+                size: *size,
+                payload: *payload,
+                outcome: written_as(reply)?,
+            }),
+            RequestBody::Opendir(_) => Some(Action::Opendir {
+                outcome: opened_as(reply)?,
+            }),
+            RequestBody::Create {
+                flags,
+                mode,
+                umask,
+                name,
+            } => Some(Action::Create {
+                flags: *flags,
+                mode: *mode,
+                umask: *umask,
+                name: *name,
+                outcome: created_as(reply)?,
+            }),
+            RequestBody::Forget { .. }
+            | RequestBody::Release(_)
+            | RequestBody::Flush(_)
+            | RequestBody::Init(_)
+            | RequestBody::Releasedir(_)
+            | RequestBody::BatchForget { .. }
+            | RequestBody::Readdir(_)
+            | RequestBody::Readdirplus(_)
+            | RequestBody::Passed => None,
+        }
+    }
+
+    /// What came of it, but for what its success says.
+    ///
+    /// Takes no memory, in constant time.
+    pub fn ended(&self) -> Outcome<()>
+        ensures { result ≡ action_ended (action_shown self.now) }
+    {
+        match self {
+            Action::Lookup { outcome, .. }
+            | Action::Symlink { outcome, .. }
+            | Action::Mknod { outcome, .. }
+            | Action::Mkdir { outcome, .. }
+            | Action::Link { outcome, .. } => outcome.bare(),
+            Action::Getattr { outcome } | Action::Setattr { outcome, .. } => outcome.bare(),
+            Action::Readlink { outcome } | Action::Read { outcome, .. } => outcome.bare(),
+            Action::Unlink { outcome, .. }
+            | Action::Rmdir { outcome, .. }
+            | Action::Rename { outcome, .. } => *outcome,
+            Action::Open { outcome } | Action::Opendir { outcome } => outcome.bare(),
+            Action::Write { outcome, .. } => outcome.bare(),
+            Action::Create { outcome, .. } => outcome.bare(),
+        }
+    }
+}
+
+impl<'a> Operation<'a> {
+    /// What a request of this body asks for that was answered so, or was not answered, if it is a tree request. No reply
+    /// of another form than that of its success answers a request; it would count as none.
+    ///
+    /// Takes no memory, in constant time.
+    pub(crate) fn of(body: &RequestBody<'a>, reply: Option<&Reply<'a>>) -> Option<Operation<'a>>
+        ensures { option_map operation_shown result ≡ operation_of (body_shown body.now) (option_map (λ r. reply_shown r.now) reply.entry) }
+    {
+        match body {
+            RequestBody::Readdir(read) | RequestBody::Readdirplus(read) => {
+                Some(Operation::List(List {
+                    size: read.size,
+                    outcome: listed_as(reply)?,
+                }))
+            }
+            _ => match Action::of(body, reply) {
+                Some(action) => Some(Operation::Act(action)),
+                None => None,
+            },
+        }
+    }
+}
