@@ -16,11 +16,10 @@ use Rattle.fa_session.proofs.CallerLemmas.{one_request, answered_once, answered_
 use Rattle.fa_ledger.specs.Choices.{MayBePlaced}
 use Rattle.fa_ledger.specs.Kinds.{IsTreeRequest, IsReadingRequest, KeepsTree}
 use Rattle.fa_ledger.proofs.CallerLemmas.{asked_of_front, asked_in_front, answers_of_front, answers_in_front}
-use Rattle.fa_tree.specs.Outcomes.{count_by_reply}
 use Rattle.fa_order.specs.declared.entry.Entry.{Entry}
 use Rattle.fa_check.specs.Orders.{IsTreeRequestAt, numbers, IsChoice, IsValidOrder}
 use Rattle.fa_check.specs.Faults.{order_checks, EachPlaced, IsAnsweredUnplaced}
-use Rattle.fa_check.specs.Cuts.{IsAnsweredBefore, IsRepliedLate, wrote_without, Stays, AreLeft, IsAnsweredEntry, IsCut}
+use Rattle.fa_check.specs.Cuts.{count_by_reply, IsAnsweredBefore, IsRepliedLate, wrote_without, Stays, AreLeft, IsAnsweredEntry, IsCut}
 use Rattle.fa_check.proofs.OrderLemmas.{placed_precedence, placed_valid, number_of, number_in}
 
 -- ---- answers

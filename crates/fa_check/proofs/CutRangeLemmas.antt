@@ -7,10 +7,9 @@ use Rattle.fa_bodies.specs.Requests.{PlainBody, PlainRequest}
 use Rattle.fa_bodies.specs.Requests.PlainBody.{Write}
 use Rattle.fa_bodies.specs.Replies.{PlainReply, IsWrittenBody, IsSuccessBody, IsReply}
 use Rattle.fa_bodies.specs.Replies.PlainReply.{Refused}
-use Rattle.fa_tree.specs.Outcomes.{count_by_reply}
 use Rattle.fa_order.specs.declared.entry.Entry.{Entry}
 use Rattle.fa_order.specs.Order.{IsCount, IsInRange}
-use Rattle.fa_check.specs.Cuts.{wrote_without, Stays, AreLeft, IsCut}
+use Rattle.fa_check.specs.Cuts.{count_by_reply, wrote_without, Stays, AreLeft, IsCut}
 
 -- the count that a reply tells
 count_written : (asked : ℕ) (body : List ℕ) (reply : PlainReply) → IsWrittenBody asked body reply → count_by_reply reply < 2 ^ 32

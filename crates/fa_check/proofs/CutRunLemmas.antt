@@ -1,15 +1,13 @@
 -- Runs of orders that are cut at a message: the run of what is left of an order goes along with that of the whole, over a part of its
 -- trees.
-use Rattle.std.proofs.Common.{◌≡◌, ◌⊎◌, ℕ, suc, ◌<◌, ◌≤◌, List, [], ◌∷◌, ◌++◌, append_assoc, append-nil, length, take, Option, None, Some, refl, sym, ap, subst, ◌∙◌, inl, inr, arith}
-use Rattle.std.specs.Prelude.{slice_get, Contains}
-use Rattle.std.specs.Option.{option_map_or}
+use Rattle.std.proofs.Common.{◌≡◌, ◌⊎◌, ℕ, ℤ, suc, ◌<◌, ◌≤◌, List, [], ◌∷◌, ◌++◌, append_assoc, append-nil, length, take, Option, None, Some, refl, sym, ap, subst, ◌∙◌, inl, inr, arith}
+use Rattle.std.specs.Prelude.{slice_get, Contains, option_map}
 use Rattle.std.proofs.lemmas.Option.{slice_get_within, same_Some}
 use Rattle.std.proofs.lemmas.List.{length-take, take-take}
 use Rattle.fa_capture.specs.Message.{Message}
 use Rattle.fa_capture.proofs.CallerLemmas.{contains_cases, contains_first, contains_behind}
 use Rattle.fa_bodies.specs.Dirents.{PlainDirent}
 use Rattle.fa_bodies.specs.Requests.{PlainRequest, PlainBody}
-use Rattle.fa_bodies.specs.Requests.PlainBody.{Write}
 use Rattle.fa_bodies.specs.Replies.{PlainReply}
 use Rattle.fa_bodies.specs.Replies.PlainReply.{Refused, Written}
 use Rattle.fa_session.specs.Answers.{AnswersAt, IsAnsweredBy, IsRepliedAt}
@@ -19,18 +17,21 @@ use Rattle.fa_ledger.specs.Events.{AreEvents}
 use Rattle.fa_ledger.specs.Kinds.{IsReadingRequest, KeepsTree}
 use Rattle.fa_ledger.specs.Listings.{offset_asked, IsListingIfAny}
 use Rattle.fa_ledger.specs.Calls.{PlainAnswer, PlainCall, IsHandleUsed, IsAnswerOf, HasAnswer}
-use Rattle.fa_ledger.proofs.CallerLemmas.{element_at, event_is_one, events_front, good_front, unanswered, call_in_front, call_cut_off, answers_at, IsTreeAnswer, HasReply, lists_directory, handle_opened, call_replied}
-use Rattle.fa_tree.specs.State.{TreeState}
+use Rattle.fa_ledger.specs.declared.operation.Outcome.{Outcome}
+use Rattle.fa_ledger.specs.declared.operation.Outcome.TheVariants.{Fails, Succeeds, Unanswered}
+use Rattle.fa_ledger.specs.Operations.{PlainAction, PlainOperation, operation_of, ended, ended_by, done_as, entry_as, created_as, attributes_as, opened_as, written_as, bytes_as, listed_as}
+use Rattle.fa_ledger.specs.Operations.PlainAction.{Lookup, Getattr, Setattr, Readlink, Symlink, Mknod, Mkdir, Unlink, Rmdir, Rename, Link, Open, Read, Write, Opendir, Create}
+use Rattle.fa_ledger.specs.Operations.PlainOperation.{Acts}
+use Rattle.fa_ledger.proofs.CallerLemmas.{answered_operation, unanswered_there, action_made, list_made, reads_only, element_at, event_is_one, events_front, good_front, unanswered, call_in_front, call_cut_off, answers_at, IsTreeAnswer, HasReply, lists_directory, handle_opened, call_replied}
+use Rattle.fa_tree.specs.State.{Store, TreeState}
 use Rattle.fa_tree.specs.Resolved.{resolved}
-use Rattle.fa_tree.specs.Answers.{IsAnswerTo}
-use Rattle.fa_tree.specs.Outcomes.{outcome, outcome_by, count_by_reply, count_written}
-use Rattle.fa_tree.specs.Outcomes.Outcome.{Fails, Succeeds, Unanswered}
-use Rattle.fa_tree.proofs.CallerLemmas.{IsPartOf, whole_part, UsesKept, OpensNone, step_same, step_failed, step_read, step_lost, step_answers, unknown_by}
+use Rattle.fa_tree.specs.Operations.{count_written}
+use Rattle.fa_tree.proofs.CallerLemmas.{IsPartOf, whole_part, UsesKept, OpensNone, step_same, step_failed, step_read, step_lost, same_rule, unknown_fails}
 use Rattle.fa_order.specs.declared.entry.Entry.{Entry}
 use Rattle.fa_check.specs.Orders.{IsTreeRequestAt, IsChoice}
 use Rattle.fa_check.specs.Runs.{IsListedFrom, IsCallAt, EntrySteps, Runs}
 use Rattle.fa_check.specs.Faults.{EachPlaced}
-use Rattle.fa_check.specs.Cuts.{IsAnsweredBefore, IsRepliedLate, wrote_without, Goes, Stays, AreLeft}
+use Rattle.fa_check.specs.Cuts.{count_by_reply, IsAnsweredBefore, IsRepliedLate, wrote_without, Goes, Stays, AreLeft}
 use Rattle.fa_check.specs.Laws.{CutIsLegal, ExplainedIsLegalCut, LegalExplains, ExplainsAllIsLegal}
 use Rattle.fa_check.proofs.OrderLemmas.{valid_placed, placed_valid}
 use Rattle.fa_check.proofs.RunLemmas.{run_more}
@@ -100,34 +101,89 @@ late_reply c m p call so_far is r reply tree late =
     record { there = there; before = omega arith; tree = tree; answered = (r, (late.1.0, late.1.1, late.1.2)) } in
     call_replied c is.events is.are call is.exact (suc q) q r reply (subst (λ (n : ℕ). IsTreeAnswer c is.events (suc q) q n r reply) (sym is.number) answer)
 
--- what comes of a call with this answer
-outcome_is : (call : PlainCall) (answer : PlainAnswer) (reply : PlainReply) → call.answer ≡ Some answer → answer.reply ≡ reply → outcome call ≡ outcome_by answer reply
-outcome_is call answer reply has says =
-    ap (λ (found : Option PlainAnswer). option_map_or (λ (a : PlainAnswer). outcome_by a a.reply) found Unanswered) has ∙ ap (outcome_by answer) says
+-- a reply is an error or a success
+reply_cases : (reply : PlainReply) → ((error : ℤ) × (reply ≡ Refused error)) ⊎ (ended_by reply ≡ Succeeds tt)
+reply_cases (Refused error) = inl (error, refl)
+reply_cases other = inr refl
 
--- an error or a success
-outcome_cases : (answer : PlainAnswer) (reply : PlainReply) → ((error : _) × (outcome_by answer reply ≡ Fails error) × (reply ≡ Refused error)) ⊎ (outcome_by answer reply ≡ Succeeds answer)
-outcome_cases answer (Refused error) = inl (error, refl, refl)
-outcome_cases answer other = inr refl
+-- a WRITE
+abbrev IsWrite : PlainBody → Type 0
+IsWrite (PlainBody.Write fh offset size write_flags lock_owner flags payload) = Unit {0}
+IsWrite other = ⊥
 
--- the count of a call is that of its reply
-count_is : (call : PlainCall) (answer : PlainAnswer) (reply : PlainReply) (wrote : Option ℕ) → call.answer ≡ Some answer → answer.reply ≡ reply → count_written call wrote ≡ count_by_reply reply
-count_is call answer reply wrote has says =
-    ap (λ (found : Option PlainAnswer). option_map_or (λ (a : PlainAnswer). count_by_reply a.reply) found (option_map_or (λ (count : ℕ). count) wrote 0)) has ∙ ap count_by_reply says
+-- no other request has a count
+abbrev CountsNone : PlainOperation → Type 0
+CountsNone o = count_written o None ≡ 0
 
--- and so is that of what is left
-count_left : (b : PlainBody) (reply : PlainReply) → IsAnswerTo b reply → option_map_or (λ (count : ℕ). count) (wrote_without b reply None) 0 ≡ count_by_reply reply
-count_left (Write fh offset size write_flags lock_owner flags payload) reply answers = refl
-count_left other (Written n) answers = absurd answers
-count_left other reply answers = refl
+none_counted : (body : PlainBody) (reply : Option PlainReply) (o : PlainOperation) → (IsWrite body → ⊥) → operation_of body reply ≡ Some o → CountsNone o
+none_counted (PlainBody.Lookup name) reply o not is = action_made (λ w. Lookup name w) (entry_as reply) o CountsNone is (λ w. refl)
+none_counted (PlainBody.Getattr g) reply o not is = action_made (λ w. Getattr w) (attributes_as reply) o CountsNone is (λ w. refl)
+none_counted (PlainBody.Setattr set) reply o not is = action_made (λ w. Setattr set w) (attributes_as reply) o CountsNone is (λ w. refl)
+none_counted PlainBody.Readlink reply o not is = action_made (λ w. Readlink w) (bytes_as reply) o CountsNone is (λ w. refl)
+none_counted (PlainBody.Symlink name target) reply o not is = action_made (λ w. Symlink name target w) (entry_as reply) o CountsNone is (λ w. refl)
+none_counted (PlainBody.Mknod mode rdev umask name) reply o not is = action_made (λ w. Mknod mode umask name w) (entry_as reply) o CountsNone is (λ w. refl)
+none_counted (PlainBody.Mkdir mode umask name) reply o not is = action_made (λ w. Mkdir mode umask name w) (entry_as reply) o CountsNone is (λ w. refl)
+none_counted (PlainBody.Unlink name) reply o not is = action_made (λ w. Unlink name w) (done_as reply) o CountsNone is (λ w. refl)
+none_counted (PlainBody.Rmdir name) reply o not is = action_made (λ w. Rmdir name w) (done_as reply) o CountsNone is (λ w. refl)
+none_counted (PlainBody.Rename newdir old_name new_name) reply o not is = action_made (λ w. Rename old_name new_name w) (done_as reply) o CountsNone is (λ w. refl)
+none_counted (PlainBody.Link oldnodeid new_name) reply o not is = action_made (λ w. Link new_name w) (entry_as reply) o CountsNone is (λ w. refl)
+none_counted (PlainBody.Open i) reply o not is = action_made (λ w. Open w) (opened_as reply) o CountsNone is (λ w. refl)
+none_counted (PlainBody.Read r) reply o not is = action_made (λ w. Read r.offset r.size w) (bytes_as reply) o CountsNone is (λ w. refl)
+none_counted (PlainBody.Opendir i) reply o not is = action_made (λ w. Opendir w) (opened_as reply) o CountsNone is (λ w. refl)
+none_counted (PlainBody.Create flags mode umask name) reply o not is = action_made (λ w. Create flags mode umask name w) (created_as reply) o CountsNone is (λ w. refl)
+none_counted (PlainBody.Readdir r) reply o not is = list_made r.size (listed_as reply) o CountsNone is (λ w. refl)
+none_counted (PlainBody.Readdirplus r) reply o not is = list_made r.size (listed_as reply) o CountsNone is (λ w. refl)
+none_counted (PlainBody.Write fh offset size write_flags lock_owner flags payload) reply o not is = absurd (not tt)
+none_counted other reply o not is = absurd cc
+
+-- the count of what is left is that which the reply tells
+write_left : (offset size : ℕ) (payload : List ℕ) (reply : PlainReply) (u o : PlainOperation) → Some (Acts (Write offset size payload Unanswered)) ≡ Some u
+    → option_map (λ (a : PlainAction). Acts a) (option_map (λ (w : Outcome ℕ). Write offset size payload w) (written_as (Some reply))) ≡ Some o → ended o ≡ Succeeds tt
+    → count_written u (Some (count_by_reply reply)) ≡ count_written o None
+write_left offset size payload (Written n) u o none is ends =
+    ap (λ (p : PlainOperation). count_written p (Some n)) (sym (same_Some (Acts (Write offset size payload Unanswered)) u none))
+    ∙ ap (λ (p : PlainOperation). count_written p None) (same_Some (Acts (Write offset size payload (Succeeds n))) o is)
+write_left offset size payload (Refused error) u o none is ends =
+    let clash = ap ended (same_Some (Acts (Write offset size payload (Fails error))) o is) ∙ ends in absurd cc
+write_left offset size payload other u o none is ends = absurd cc
+
+counts_alike : (body : PlainBody) (reply : PlainReply) (u o : PlainOperation) → operation_of body None ≡ Some u → operation_of body (Some reply) ≡ Some o → ended o ≡ Succeeds tt
+    → count_written u (wrote_without body reply None) ≡ count_written o None
+counts_alike (PlainBody.Write fh offset size write_flags lock_owner flags payload) reply u o none is ends = write_left offset size payload reply u o none is ends
+counts_alike (PlainBody.Lookup name) reply u o none is ends = none_counted (PlainBody.Lookup name) None u (λ w. w) none ∙ sym (none_counted (PlainBody.Lookup name) (Some reply) o (λ w. w) is)
+counts_alike (PlainBody.Getattr g) reply u o none is ends = none_counted (PlainBody.Getattr g) None u (λ w. w) none ∙ sym (none_counted (PlainBody.Getattr g) (Some reply) o (λ w. w) is)
+counts_alike (PlainBody.Setattr set) reply u o none is ends = none_counted (PlainBody.Setattr set) None u (λ w. w) none ∙ sym (none_counted (PlainBody.Setattr set) (Some reply) o (λ w. w) is)
+counts_alike PlainBody.Readlink reply u o none is ends = none_counted PlainBody.Readlink None u (λ w. w) none ∙ sym (none_counted PlainBody.Readlink (Some reply) o (λ w. w) is)
+counts_alike (PlainBody.Symlink name target) reply u o none is ends = none_counted (PlainBody.Symlink name target) None u (λ w. w) none ∙ sym (none_counted (PlainBody.Symlink name target) (Some reply) o (λ w. w) is)
+counts_alike (PlainBody.Mknod mode rdev umask name) reply u o none is ends = none_counted (PlainBody.Mknod mode rdev umask name) None u (λ w. w) none ∙ sym (none_counted (PlainBody.Mknod mode rdev umask name) (Some reply) o (λ w. w) is)
+counts_alike (PlainBody.Mkdir mode umask name) reply u o none is ends = none_counted (PlainBody.Mkdir mode umask name) None u (λ w. w) none ∙ sym (none_counted (PlainBody.Mkdir mode umask name) (Some reply) o (λ w. w) is)
+counts_alike (PlainBody.Unlink name) reply u o none is ends = none_counted (PlainBody.Unlink name) None u (λ w. w) none ∙ sym (none_counted (PlainBody.Unlink name) (Some reply) o (λ w. w) is)
+counts_alike (PlainBody.Rmdir name) reply u o none is ends = none_counted (PlainBody.Rmdir name) None u (λ w. w) none ∙ sym (none_counted (PlainBody.Rmdir name) (Some reply) o (λ w. w) is)
+counts_alike (PlainBody.Rename newdir old_name new_name) reply u o none is ends = none_counted (PlainBody.Rename newdir old_name new_name) None u (λ w. w) none ∙ sym (none_counted (PlainBody.Rename newdir old_name new_name) (Some reply) o (λ w. w) is)
+counts_alike (PlainBody.Link oldnodeid new_name) reply u o none is ends = none_counted (PlainBody.Link oldnodeid new_name) None u (λ w. w) none ∙ sym (none_counted (PlainBody.Link oldnodeid new_name) (Some reply) o (λ w. w) is)
+counts_alike (PlainBody.Open i) reply u o none is ends = none_counted (PlainBody.Open i) None u (λ w. w) none ∙ sym (none_counted (PlainBody.Open i) (Some reply) o (λ w. w) is)
+counts_alike (PlainBody.Read r) reply u o none is ends = none_counted (PlainBody.Read r) None u (λ w. w) none ∙ sym (none_counted (PlainBody.Read r) (Some reply) o (λ w. w) is)
+counts_alike (PlainBody.Opendir i) reply u o none is ends = none_counted (PlainBody.Opendir i) None u (λ w. w) none ∙ sym (none_counted (PlainBody.Opendir i) (Some reply) o (λ w. w) is)
+counts_alike (PlainBody.Create flags mode umask name) reply u o none is ends = none_counted (PlainBody.Create flags mode umask name) None u (λ w. w) none ∙ sym (none_counted (PlainBody.Create flags mode umask name) (Some reply) o (λ w. w) is)
+counts_alike (PlainBody.Readdir r) reply u o none is ends = none_counted (PlainBody.Readdir r) None u (λ w. w) none ∙ sym (none_counted (PlainBody.Readdir r) (Some reply) o (λ w. w) is)
+counts_alike (PlainBody.Readdirplus r) reply u o none is ends = none_counted (PlainBody.Readdirplus r) None u (λ w. w) none ∙ sym (none_counted (PlainBody.Readdirplus r) (Some reply) o (λ w. w) is)
+counts_alike other reply u o none is ends = absurd cc
 
 -- ---- a step of the whole, in the part
 
 module _ (c : List Message) (m : ℕ) (whole new part : TreeState) (e : Entry) (step : EntrySteps whole new c e) (p : IsPartOf (IsAnsweredBefore c m) whole part) (tree : IsTreeRequestAt c e.at) where
   -- a late answer opens nothing that is kept
-  opens_late : (r : PlainRequest) (reply : PlainReply) (late : IsRepliedLate c m e.at r reply) (answer : PlainAnswer) → OpensNone (IsAnsweredBefore c m) step.call.asked answer
-  opens_late r reply late answer opens kept =
+  opens_late : (r : PlainRequest) (reply : PlainReply) (late : IsRepliedLate c m e.at r reply) → OpensNone (IsAnsweredBefore c m) step.call
+  opens_late r reply late opens kept =
       not_late c m e.at r reply late (subst (IsAnsweredBefore c m) step.of_request.number kept)
+
+  -- what came of the request is what the late reply says
+  late_ends : (r : PlainRequest) (reply : PlainReply) (late : IsRepliedLate c m e.at r reply) → ended step.steps.asks ≡ ended_by reply
+  late_ends r reply late =
+      let has = late_reply c m e.at step.call step.so_far step.of_request r reply tree late in
+      let one = answered_operation c step.of_request.events step.of_request.are step.call step.of_request.exact has.answer has.has in
+      let asks : one.0 ≡ step.steps.asks = same_Some one.0 step.steps.asks (sym one.1 ∙ step.steps.is) in
+      ap ended (sym asks) ∙ one.2.ends ∙ ap ended_by has.says
 
   -- an entry that goes leaves the part a part
   entry_goes : Goes c m e → IsPartOf (IsAnsweredBefore c m) new part
@@ -135,16 +191,16 @@ module _ (c : List Message) (m : ℕ) (whole new part : TreeState) (e : Entry) (
   entry_goes (inr (r, reply, late, leaves)) =
       let call = step.call in
       let has = late_reply c m e.at call step.so_far step.of_request r reply tree late in
-      let comes : outcome call ≡ outcome_by has.answer reply = outcome_is call has.answer reply has.has has.says in
-      let fails : ((error : _) × (reply ≡ Refused error)) → IsPartOf (IsAnsweredBefore c m) new part =
-      λ error. step_failed (IsAnsweredBefore c m) whole part new call e.wrote step.so_far p step.steps error.0 (comes ∙ ap (outcome_by has.answer) error.1) in
+      let ends = late_ends r reply late in
+      let fails : ((error : ℤ) × (reply ≡ Refused error)) → IsPartOf (IsAnsweredBefore c m) new part =
+      λ error. step_failed (IsAnsweredBefore c m) whole part new call e.wrote step.so_far p step.steps error.0 (ends ∙ ap ended_by error.1) in
       elim leaves [
         | inl error ↦ fails error
-        | inr reads ↦ elim (outcome_cases has.answer reply) [
-          | inl error ↦ fails (error.0, error.2)
+        | inr reads ↦ elim (reply_cases reply) [
+          | inl error ↦ fails error
           | inr success ↦
-              step_read (IsAnsweredBefore c m) whole part new call e.wrote step.so_far p step.steps has.answer (comes ∙ success) (opens_late r reply late has.answer)
-              (subst (λ (x : PlainRequest). IsReadingRequest x.body) (sym has.same) reads)
+              step_read (IsAnsweredBefore c m) whole part new call e.wrote step.so_far p step.steps (ends ∙ success) (opens_late r reply late)
+              (reads_only call.request.body (option_map (λ (a : PlainAnswer). a.reply) call.answer) step.steps.asks (subst (λ (x : PlainRequest). IsReadingRequest x.body) (sym has.same) reads) step.steps.is)
         ]
       ]
 
@@ -170,23 +226,28 @@ module _ (c : List Message) (m : ℕ) (whole new part : TreeState) (e : Entry) (
         let call = step.call in
         let has = late_reply c m e.at call step.so_far step.of_request r reply tree late in
         let answer = has.answer in
-        let comes : outcome call ≡ outcome_by answer reply = outcome_is call answer reply has.has has.says in
-        let success : outcome call ≡ Succeeds answer =
-        elim (outcome_cases answer reply) [
-          | inl error ↦ absurd (leaves (inl (error.0, error.2)))
-          | inr succeeds ↦ comes ∙ succeeds
+        let ends = late_ends r reply late in
+        let success : ended step.steps.asks ≡ Succeeds tt =
+        elim (reply_cases reply) [
+          | inl error ↦ absurd (leaves (inl (error.0, error.1)))
+          | inr succeeds ↦ ends ∙ succeeds
         ] in
         let place : m ≤ answer.at = (let same = has.place in let far = late.2 in omega (arith, same, far)) in
         let of : IsCallAt (take m c) e.at (unanswered call) step.so_far = cut_call c m e.at call step.so_far step.of_request below answer has.has place in
         let left : Entry = record { at = e.at; wrote = wrote_without r.body reply e.wrote } in
         let carries : e.wrote ≡ None = choice.answered late.0 (r, (late.1.0, late.1.1, late.1.2)) in
-        let none = opens_late r reply late answer in
-        let answers : IsAnswerTo r.body reply =
-        subst (λ (x : PlainRequest). IsAnswerTo x.body reply) has.same
-        (subst (IsAnswerTo call.request.body) has.says (step_answers (IsAnsweredBefore c m) whole part new call e.wrote step.so_far p step.steps answer success none)) in
-        let count : count_written (unanswered call) left.wrote ≡ count_written call e.wrote =
-        ap (λ (w : Option ℕ). option_map_or (λ (n : ℕ). n) (wrote_without r.body reply w) 0) carries ∙ count_left r.body reply answers ∙ sym (count_is call answer reply e.wrote has.has has.says) in
-        let followed = step_lost (IsAnsweredBefore c m) whole part new call e.wrote step.so_far p step.steps answer success none left.wrote count
+        let replies : Option PlainReply = option_map (λ (a : PlainAnswer). a.reply) call.answer in
+        let told : replies ≡ Some reply = ap (λ (found : Option PlainAnswer). option_map (λ (a : PlainAnswer). a.reply) found) has.has ∙ ap (λ (x : PlainReply). Some x) has.says in
+        let body : call.request.body ≡ r.body = ap (λ (x : PlainRequest). x.body) has.same in
+        let lost = unanswered_there call.request.body step.of_request.exact.asked.tree in
+        let alike = λ (t : Store). same_rule t step.steps.files call.request.body replies None step.steps.asks lost.0 step.steps.is lost.1 in
+        let asked : operation_of r.body (Some reply) ≡ Some step.steps.asks =
+        sym (ap (λ (b : PlainBody). operation_of b (Some reply)) body) ∙ sym (ap (operation_of call.request.body) told) ∙ step.steps.is in
+        let without : operation_of r.body None ≡ Some lost.0 = sym (ap (λ (b : PlainBody). operation_of b None) body) ∙ lost.1 in
+        let count : count_written lost.0 left.wrote ≡ count_written step.steps.asks e.wrote =
+        ap (λ (w : Option ℕ). count_written lost.0 (wrote_without r.body reply w)) carries ∙ counts_alike r.body reply lost.0 step.steps.asks without asked success
+        ∙ ap (count_written step.steps.asks) (sym carries) in
+        let followed = step_lost (IsAnsweredBefore c m) whole part new call e.wrote step.so_far p step.steps success (opens_late r reply late) lost.0 lost.1 lost.2 alike left.wrote count
         (knows left refl (unanswered call) step.so_far of) (uses_before c m e.at call step.so_far step.of_request below) in
         (followed.0, record { call = unanswered call; so_far = step.so_far; of_request = of; steps = followed.1 }, followed.2)
 
@@ -215,7 +276,7 @@ module _ (c : List Message) (m : ℕ) (first : TreeState) (cut : List Entry) (pl
       → (call : PlainCall) (so_far : List PlainDirent) → IsCallAt (take m c) left.at call so_far → resolved part call ≡ None → ⊥
   known_left earlier later left part parts run call so_far of none =
       step_known (take m c) first part earlier left run (placed earlier later left parts).1.1.0
-      (record { call = call; so_far = so_far; of_request = of; fails = unknown_by part call left.wrote so_far none })
+      (record { call = call; so_far = so_far; of_request = of; fails = unknown_fails part call left.wrote so_far none })
 
   -- what is left of a run goes along with it
   cut_run : (es left earlier : List Entry) (whole part last : TreeState) → ((e : Entry) → Contains es e → IsInFront c m e) → AreLeft c m es left → cut ≡ earlier ++ left

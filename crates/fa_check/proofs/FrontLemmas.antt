@@ -1,5 +1,5 @@
 -- The front of an order: what it says of the entry that may come next, and of the end.
-use Rattle.std.proofs.Common.{◌≡◌, ℕ, ◌<◌, ◌≤◌, List, [], ◌∷◌, ◌++◌, length, Option, Some, None, refl, sym, subst, ◌∙◌, inl, inr, arith}
+use Rattle.std.proofs.Common.{◌≡◌, ℕ, ◌<◌, ◌≤◌, List, [], ◌∷◌, ◌++◌, length, Option, Some, None, refl, subst, inl, inr, arith}
 use Rattle.std.specs.Prelude.{slice_get, map, Contains}
 use Rattle.std.proofs.lemmas.Bool.{cases_lt}
 use Rattle.std.proofs.lemmas.List.{length-map}
@@ -14,8 +14,8 @@ use Rattle.fa_tree.specs.State.{TreeState}
 use Rattle.fa_tree.specs.declared.error.StepError.TheVariants.{Refused}
 use Rattle.fa_order.specs.declared.entry.Entry.{Entry}
 use Rattle.fa_check.specs.declared.placing.Placing.{Placing}
-use Rattle.fa_check.specs.Orders.{IsTreeRequestAt, numbers}
-use Rattle.fa_check.specs.Runs.{EntrySteps, Runs}
+use Rattle.fa_check.specs.Orders.{numbers}
+use Rattle.fa_check.specs.Runs.{EntrySteps}
 use Rattle.fa_check.specs.Faults.{order_checks, IsAnsweredUnplaced}
 use Rattle.fa_check.specs.Verdicts.{AreMessagesOf}
 use Rattle.fa_check.specs.Marks.{IsSet}

@@ -1,6 +1,5 @@
 -- Runs: the call of an entry is one, so is the tree that its step leaves, and so is the last tree of a run.
-use Rattle.std.proofs.Common.{◌≡◌, ℕ, List, [], ◌∷◌, ◌++◌, take, Option, Some, None, refl, sym, ap, subst, ◌∙◌}
-use Rattle.std.proofs.lemmas.Option.{same_Some}
+use Rattle.std.proofs.Common.{◌≡◌, ℕ, List, [], ◌∷◌, ◌++◌, take, Option, Some, None, refl, sym, subst, ◌∙◌}
 use Rattle.fa_capture.specs.Message.{Message}
 use Rattle.fa_bodies.specs.Dirents.{PlainDirent}
 use Rattle.fa_bodies.specs.Requests.{PlainRequest}
@@ -9,9 +8,8 @@ use Rattle.fa_ledger.specs.Listings.{offset_asked, IsListedSoFar}
 use Rattle.fa_ledger.specs.Calls.{PlainCall, IsCall}
 use Rattle.fa_ledger.proofs.CallerLemmas.{events_are_one, call_is_one, uses_is_one, listed_is_one}
 use Rattle.fa_tree.specs.State.{TreeState}
-use Rattle.fa_tree.specs.Outcomes.{outcome, count_written}
-use Rattle.fa_tree.specs.Steps.{tree_after, Steps}
-use Rattle.fa_tree.specs.Laws.{StepIsOne}
+use Rattle.fa_tree.specs.Steps.{Steps}
+use Rattle.fa_tree.proofs.CallerLemmas.{step_is_one}
 use Rattle.fa_order.specs.declared.entry.Entry.{Entry}
 use Rattle.fa_check.specs.Runs.{IsListedFrom, IsCallAt, EntrySteps, Runs}
 use Rattle.fa_check.specs.Laws.{RunIsOne}
@@ -38,12 +36,6 @@ call_one c p call other so_far listed is too =
     (same, listed_one (take p too.events) other.request (offset_asked other.request.body) so_far listed moved too.listed)
 
 -- ---- steps
-
--- from a tree a call leads to one other
-step_is_one : StepIsOne
-step_is_one old new other call wrote so_far is too =
-    let files = same_Some is.files too.files (sym is.named ∙ too.named) in
-    is.after ∙ ap (λ x. tree_after old x call (count_written call wrote) (outcome call)) files ∙ sym too.after
 
 -- an entry leads from a tree to one other
 entry_is_one : (c : List Message) (old new other : TreeState) (e : Entry) → EntrySteps old new c e → EntrySteps old other c e → new ≡ other

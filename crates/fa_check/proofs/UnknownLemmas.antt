@@ -1,5 +1,5 @@
 -- No call names what the tree does not know: what it names came from answers before it, to requests that are placed.
-use Rattle.std.proofs.Common.{◌≡◌, ℕ, suc, ◌+◌, ◌<◌, List, [], ◌∷◌, take, Option, None, Some, Result, Ok, refl, sym, ap, subst, ◌∙◌, inl, inr, arith}
+use Rattle.std.proofs.Common.{◌≡◌, ℕ, ℤ, true, false, map, suc, ◌+◌, ◌<◌, List, [], ◌∷◌, take, Option, None, Some, Result, Ok, refl, sym, ap, subst, ◌∙◌, inl, inr, arith}
 use Rattle.std.proofs.Math.Logic.{∥∥₁_elim}
 use Rattle.std.specs.Prelude.{slice_get, Contains, option_map, IfOk}
 use Rattle.std.specs.Option.{option_map_or}
@@ -11,7 +11,7 @@ use Rattle.fa_capture.proofs.CallerLemmas.{contains_cases, not_told}
 use Rattle.fa_bodies.specs.Requests.{PlainBody}
 use Rattle.fa_bodies.specs.Requests.PlainBody.{Opendir}
 use Rattle.fa_bodies.specs.Replies.{PlainReply}
-use Rattle.fa_bodies.specs.Replies.PlainReply.{Refused}
+use Rattle.fa_bodies.specs.declared.handles.OpenOut.{OpenOut}
 use Rattle.fa_session.specs.Answers.{IsAnsweredBy}
 use Rattle.fa_session.specs.Events.{PlainEvent}
 use Rattle.fa_ledger.specs.declared.call.Listing.{Listing}
@@ -22,11 +22,14 @@ use Rattle.fa_ledger.specs.Events.{AreEvents}
 use Rattle.fa_ledger.specs.Counts.{nodes_given}
 use Rattle.fa_ledger.specs.Names.{name_at, nodes_named}
 use Rattle.fa_ledger.specs.Listings.{IsListingIfAny}
-use Rattle.fa_ledger.specs.Calls.{PlainAnswer, PlainCall, IsHandleUsed, IsAskedCall, OpensAnew, IsCall}
-use Rattle.fa_ledger.proofs.CallerLemmas.{events_are_one, IsTreeAnswer, IsNamedSince, IsOpenedBefore, HasReply, name_given, lists_directory, handle_opened, call_replied}
+use Rattle.fa_ledger.specs.Calls.{PlainAnswer, PlainCall, operation, IsHandleUsed, IsAskedCall, OpensAnew, IsCall}
+use Rattle.fa_ledger.specs.declared.operation.Outcome.TheVariants.{Fails, Succeeds}
+use Rattle.fa_ledger.specs.Operations.{operation_of, ended, gives}
+use Rattle.fa_ledger.specs.Operations.PlainAction.{Opendir as OpendirAction}
+use Rattle.fa_ledger.specs.Operations.PlainOperation.{Acts}
+use Rattle.fa_ledger.proofs.CallerLemmas.{answered_operation, calls_have_operations, events_are_one, IsTreeAnswer, IsNamedSince, IsOpenedBefore, HasReply, name_given, lists_directory, handle_opened, call_replied}
 use Rattle.fa_tree.specs.State.{TreeState, root}
-use Rattle.fa_tree.specs.Outcomes.{outcome, outcome_by}
-use Rattle.fa_tree.specs.Outcomes.Outcome.{Succeeds, Unanswered}
+use Rattle.fa_tree.specs.Steps.{names_given, opens_anew}
 use Rattle.fa_tree.proofs.CallerLemmas.{IsKnownIn, IsOpenedIn, UsesOpened, step_keeps_node, step_keeps_open, step_gives, step_opens, all_known, told_unknown}
 use Rattle.fa_order.specs.declared.entry.Entry.{Entry}
 use Rattle.fa_check.specs.declared.verdict.Verdict.{Verdict}
@@ -58,17 +61,6 @@ run_makes c Such keeps asked makes (e ∷ es) first last run has =
 
 -- ---- the step of an answered request
 
--- what gives a node is a success
-gives_success : (answer : PlainAnswer) (body : PlainBody) (reply : PlainReply) (node : ℕ) → Contains (nodes_given body reply) node → outcome_by answer reply ≡ Succeeds answer
-gives_success answer body (Refused error) node has = absurd (omega (arith, has.1))
-gives_success answer body other node has = refl
-
--- what comes of a call with this answer
-outcome_with : (call : PlainCall) (answer : PlainAnswer) (reply : PlainReply) → call.answer ≡ Some answer → answer.reply ≡ reply → outcome_by answer reply ≡ Succeeds answer
-    → outcome call ≡ Succeeds answer
-outcome_with call answer reply has says success =
-    ap (λ found. option_map_or (λ (a : PlainAnswer). outcome_by a a.reply) found Unanswered) has ∙ ap (outcome_by answer) says ∙ success
-
 module _ (c : List Message) (es : List PlainEvent) (are : AreEvents c es) (old new : TreeState) (e : Entry) (step : EntrySteps old new c e) where
   -- the call of the entry, of these events
   exact : IsCall es step.call
@@ -82,11 +74,17 @@ module _ (c : List Message) (es : List PlainEvent) (are : AreEvents c es) (old n
       let replied : HasReply es call g named.request named.reply =
       call_replied c es are call exact p g named.request named.reply (subst (λ n. IsTreeAnswer c es p g n named.request named.reply) (sym number) named.answer) in
       let answer = replied.answer in
-      let success : outcome call ≡ Succeeds answer = outcome_with call answer named.reply replied.has replied.says (gives_success answer named.request.body named.reply id named.gives) in
+      let one = answered_operation c es are call exact answer replied.has in
+      let asks : one.0 ≡ step.steps.asks = same_Some one.0 step.steps.asks (sym one.1 ∙ step.steps.is) in
+      let gives_these : nodes_given call.request.body answer.reply ≡ gives step.steps.asks = one.2.given ∙ ap gives asks in
       let there : Contains (nodes_given call.request.body answer.reply) id =
       subst (λ r. Contains (nodes_given r.body answer.reply) id) (sym replied.same) (subst (λ reply. Contains (nodes_given named.request.body reply) id) (sym replied.says) named.gives) in
       let behind : suc g ≡ answer.at + 1 = (let place = replied.place in omega (arith, place)) in
-      step_gives old new call e.wrote step.so_far answer (λ node. name_at (take (answer.at + 1) es) node) id id g step.steps success replied.of_call.given there
+      let name_of : ℕ → Option NodeName = λ node. name_at (take (answer.at + 1) es) node in
+      let names : answer.given ≡ names_given call = ap (λ (found : Option PlainAnswer). option_map_or (λ (a : PlainAnswer). a.given) found []) (sym replied.has) in
+      step_gives old new call e.wrote step.so_far name_of id id g step.steps
+      (ap (map name_of) (sym gives_these) ∙ replied.of_call.given ∙ ap (map (λ n. Some n)) names)
+      (subst (λ (nodes : List ℕ). Contains nodes id) gives_these there)
       (subst (λ n. name_at (take n es) id ≡ Some (Given id g)) behind named.named)
 
   -- that of an OPENDIR whose answer opens a handle anew knows the directory
@@ -97,10 +95,17 @@ module _ (c : List Message) (es : List PlainEvent) (are : AreEvents c es) (old n
       let replied : HasReply es call opened.by opened.request opened.reply =
       call_replied c es are call exact p opened.by opened.request opened.reply (subst (λ n. IsTreeAnswer c es p opened.by n opened.request opened.reply) (sym number) opened.answer) in
       let answer = replied.answer in
-      let success : outcome call ≡ Succeeds answer = outcome_with call answer opened.reply replied.has replied.says (ap (outcome_by answer) opened.says.1) in
-      let asks : call.request.body ≡ Opendir opened.asks.0 = ap (λ r. r.body) replied.same ∙ opened.asks.1 in
+      let out : OpenOut = opened.says.0 in
+      let body : call.request.body ≡ Opendir opened.asks.0 = ap (λ r. r.body) replied.same ∙ opened.asks.1 in
+      let operation_is : operation call ≡ Some (Acts (OpendirAction (Succeeds out))) =
+      ap (λ (found : Option PlainAnswer). operation_of call.request.body (option_map (λ (a : PlainAnswer). a.reply) found)) replied.has
+      ∙ ap (λ (b : PlainBody). operation_of b (Some answer.reply)) body
+      ∙ ap (λ (reply : PlainReply). operation_of (Opendir opened.asks.0) (Some reply)) (replied.says ∙ opened.says.1) in
+      let asks : step.steps.asks ≡ Acts (OpendirAction (Succeeds out)) = same_Some step.steps.asks (Acts (OpendirAction (Succeeds out))) (sym step.steps.is ∙ operation_is) in
       let anew : OpensAnew es answer.at = subst (OpensAnew es) (sym replied.place) opened.anew in
-      subst (λ n. IsOpenedIn n new) number (step_opens old new call e.wrote step.so_far answer opened.asks.0 step.steps success asks (replied.of_call.opens.1 anew))
+      let opens : opens_anew call ≡ true = ap (λ (found : Option PlainAnswer). option_map_or (λ (a : PlainAnswer). a.opens) found false) replied.has ∙ replied.of_call.opens.1 anew in
+      let no_error : (error : ℤ) → ended step.steps.asks ≡ Fails error → ⊥ = λ error fails. (let clash = sym (ap ended asks) ∙ fails in absurd cc) in
+      subst (λ n. IsOpenedIn n new) number (step_opens old new call e.wrote step.so_far (Succeeds out) step.steps asks no_error opens)
 
 -- ---- behind a run
 
@@ -139,7 +144,8 @@ second_named name_of (Some node) other name is some = (node, same_Some (name_of 
 pub step_known : (c : List Message) (first tree : TreeState) (earlier : List Entry) (e : Entry) → Runs first tree c earlier
     → ((asked q : ℕ) → IsTreeRequestAt c asked → IsAnsweredBy c asked q → q < e.at → Contains (numbers earlier) asked) → StepFails tree c e UNKNOWN_HERE → ⊥
 step_known c first tree earlier e run placed fails =
-    all_known tree call (named call.request.node call.node asked.node) others handles (told_unknown tree call e.wrote fails.so_far fails.fails)
+    let has = calls_have_operations c es call are fails.of_request.exact in
+    all_known tree call (named call.request.node call.node asked.node) others handles (told_unknown tree call e.wrote fails.so_far has.0 has.1 fails.fails)
   where
     call : PlainCall
     call = fails.call

@@ -4,10 +4,10 @@ use Rattle.fa_capture.specs.Message.{Message}
 use Rattle.fa_bodies.specs.Requests.{PlainRequest, PlainBody}
 use Rattle.fa_bodies.specs.Requests.PlainBody.{Lookup, Forget, Getattr, Setattr, Readlink, Symlink, Mknod, Mkdir, Unlink, Rmdir, Rename, Link, Open, Read, Write, Release, Flush, Init, Opendir, Readdir, Releasedir, Create, BatchForget, Readdirplus, Passed}
 use Rattle.fa_bodies.specs.Replies.{PlainReply}
+use Rattle.fa_bodies.specs.Replies.PlainReply.{Written}
 use Rattle.fa_session.specs.Answers.{IsAnsweredBy, IsRepliedAt}
 use Rattle.fa_ledger.specs.Kinds.{KeepsTree}
 use Rattle.fa_tree.specs.State.{TreeState}
-use Rattle.fa_tree.specs.Outcomes.{count_by_reply}
 use Rattle.fa_order.specs.declared.entry.Entry.{Entry}
 use Rattle.fa_check.specs.Orders.{IsTreeRequestAt, numbers}
 use Rattle.fa_check.specs.Runs.{Runs}
@@ -20,6 +20,11 @@ IsAnsweredBefore c m p = (q : ℕ) × IsAnsweredBy c p q × (q < m)
 -- the request at p was answered late, at message m or behind it; this is the request, and its reply says this
 abbrev pub IsRepliedLate : List Message → (m p : ℕ) → PlainRequest → PlainReply → Type 0
 IsRepliedLate c m p r reply = (q : ℕ) × IsRepliedAt c q p r reply × (m ≤ q)
+
+-- how many bytes a WRITE wrote, as its reply says
+abbrev pub count_by_reply : PlainReply → ℕ
+count_by_reply (Written size) = size
+count_by_reply other = 0
 
 -- what the entry of a request carries without its reply: a WRITE the count that the reply tells
 abbrev pub wrote_without : PlainBody → PlainReply → Option ℕ → Option ℕ

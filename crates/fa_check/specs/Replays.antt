@@ -1,6 +1,6 @@
 -- How far an order is placed, where it is placed entry by entry: which calls are placed, by their places in the list, and which
 -- tree the entries lead to.
-use Rattle.std.specs.Prelude.{◌≡◌, ◌↔◌, ℕ, ◌^◌, ◌≤◌, ◌<◌, Bool, List, [], ◌∷◌, length, map, slice_get, Contains, Some}
+use Rattle.std.specs.Prelude.{◌≡◌, ◌↔◌, ℕ, ◌^◌, ◌≤◌, ◌<◌, Bool, List, length, map, slice_get, Contains, Some}
 use Rattle.fa_capture.specs.Message.{Message}
 use Rattle.fa_session.specs.Answers.{IsAnsweredBy}
 use Rattle.fa_ledger.specs.declared.calls.Calls.{Calls}

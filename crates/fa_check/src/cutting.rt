@@ -4,9 +4,8 @@ ghost use Rattle.std.specs.Prelude.{◌≡◌, ◌≤◌, ◌↔◌, List, lengt
 ghost use Rattle.fa_capture.specs.Message.{Message};
 ghost use Rattle.fa_bodies.specs.Requests.{body_shown};
 ghost use Rattle.fa_bodies.specs.Replies.{reply_shown};
-ghost use Rattle.fa_tree.specs.Outcomes.{count_by_reply};
 ghost use Rattle.fa_check.specs.Verdicts.{AreMessagesOf};
-ghost use Rattle.fa_check.specs.Cuts.{wrote_without, Goes, Stays, IsAnsweredEntry, IsCut};
+ghost use Rattle.fa_check.specs.Cuts.{count_by_reply, wrote_without, Goes, Stays, IsAnsweredEntry, IsCut};
 ghost use Rattle.fa_check.specs.parts.Cutting.{IsEndOfFront};
 
 use fa_bodies::{Reply, RequestBody};

@@ -1,47 +1,26 @@
 -- For which file an answer gives a name, and whether it may.
-use Rattle.std.proofs.Common.{◌≡◌, inl, inr, ℕ, ◌==◌, ◌<◌, ◌≤◌, zero, suc, Bool, List, [], ◌∷◌, length, slice_get, Option, None, Some, refl, sym, ap, subst, ◌∙◌, arith, eq-eqb, eqb-true}
-use Rattle.std.specs.Prelude.{◌↔◌, ◌⊎◌, IsTrue, Contains}
+use Rattle.std.proofs.Common.{◌≡◌, ℕ, ◌==◌, ◌<◌, ◌≤◌, zero, suc, Bool, List, [], ◌∷◌, length, slice_get, Option, None, Some, refl, sym, ap, subst, ◌∙◌, arith, eq-eqb, eqb-true}
+use Rattle.std.specs.Prelude.{◌↔◌, IsTrue, Contains}
 use Rattle.std.proofs.lemmas.Option.{get_or_from_slice_get, slice_get_read}
 use Rattle.std.specs.FinMap.{FinMap, get}
-use Rattle.fa_bodies.specs.declared.entry.EntryOut.{EntryOut}
-use Rattle.fa_bodies.specs.declared.handles.OpenOut.{OpenOut}
-use Rattle.fa_bodies.specs.declared.replies.Reply.{Reply}
-use Rattle.fa_bodies.specs.declared.replies.Reply.TheVariants as declared
-use Rattle.fa_bodies.specs.Dirents.{PlainDirent}
-use Rattle.fa_bodies.specs.Replies.{PlainReply, reply_shown}
-use Rattle.fa_bodies.specs.Replies.PlainReply.{Entry, Created, Listed}
-use Rattle.fa_bodies.specs.Requests.{PlainBody}
-use Rattle.fa_bodies.specs.Requests.PlainBody.{Readdir, Readdirplus}
-use Rattle.fa_ledger.specs.Calls.{answer_shown, given_shown}
-use Rattle.fa_ledger.specs.declared.call.Answer.{Answer}
 use Rattle.fa_ledger.specs.declared.name.NodeName.{NodeName}
-use Rattle.fa_tree.specs.State.{Store, TreeState, node_cmp}
-use Rattle.fa_tree.specs.Resolved.{Question, Resolved}
-use Rattle.fa_tree.specs.Conditions.{MayBeDone}
-use Rattle.fa_tree.specs.Changes.{changed}
-use Rattle.fa_tree.specs.Answers.{IsAnswerTo}
-use Rattle.fa_tree.specs.Judging.{entry_file, files_given}
-use Rattle.fa_tree.specs.Bindings.{AreBound, bound, given_in}
-use Rattle.fa_tree.specs.parts.PlainParts.{DoesNotList}
+use Rattle.fa_ledger.specs.Operations.{PlainAction}
+use Rattle.fa_ledger.specs.Operations.PlainOperation.{Acts}
+use Rattle.fa_tree.specs.State.{TreeState, node_cmp}
+use Rattle.fa_tree.specs.Resolved.{Resolved}
+use Rattle.fa_tree.specs.Bindings.{AreBound, bound}
+use Rattle.fa_tree.specs.Operations.{action_rule, action_said, changed}
+use Rattle.fa_tree.specs.parts.FactParts.{AreFilesGiven}
 use Rattle.fa_tree.proofs.NodeLemmas.{AreSeen}
 
--- ---- the file of an entry
+-- ---- the file that an answer gives
 
--- what is told of the file of an entry in a state is told in the same state
-pub still_told : (t u : TreeState) (x : Resolved) (q : Question) (count : ℕ) (file : Option ℕ) → t ≡ u
-    → (MayBeDone t.store x q.body → file ≡ entry_file (changed t.store x q count) x q.body)
-    → MayBeDone u.store x q.body → file ≡ entry_file (changed u.store x q count) x q.body
-still_told t u x q count file same told =
-    subst (λ (v : TreeState). MayBeDone v.store x q.body → file ≡ entry_file (changed v.store x q count) x q.body) same told
-
--- the reply has an entry
-abbrev pub HasEntry : Reply → Type 0
-HasEntry reply = ((e : EntryOut) × (reply ≡ declared.Entry e)) ⊎ ((e : EntryOut) × (o : OpenOut) × (reply ≡ declared.Created e o))
-
--- it gives the file of the entry
-one_given : (s : Store) (x : Resolved) (body : PlainBody) (reply : Reply) → HasEntry reply → files_given s x body (reply_shown reply) ≡ entry_file s x body ∷ []
-one_given s x body reply (inl is) = ap (λ r. files_given s x body (reply_shown r)) is.1
-one_given s x body reply (inr is) = ap (λ r. files_given s x body (reply_shown r)) is.2
+-- what is told of it in a state is told in the same state
+pub still_told : (t u : TreeState) → t ≡ u → (x : Resolved) (truncates direct : Bool) (a : PlainAction) (count : ℕ) (file : Option ℕ)
+    → ((action_rule t.store x a).needs → AreFilesGiven (action_said t.store (changed t.store x truncates (Acts a) count) x direct a).files file)
+    → (action_rule u.store x a).needs → AreFilesGiven (action_said u.store (changed u.store x truncates (Acts a) count) x direct a).files file
+still_told t u same x truncates direct a count file told =
+    subst (λ (v : TreeState). (action_rule v.store x a).needs → AreFilesGiven (action_said v.store (changed v.store x truncates (Acts a) count) x direct a).files file) same told
 
 -- ---- names with their files
 
@@ -62,46 +41,23 @@ bound_to_one (first ∷ names) name file is =
     let same : first ≡ name = cc in
     ap (λ rest. (first, file) ∷ rest) (bound_to_none names) ∙ ap (λ n. (n, file) ∷ []) same
 
--- an entry that is looked up in vain gives no name
-pub given_in_vain : (s : Store) (x : Resolved) (body : PlainBody) (answer : Answer) → HasEntry answer.reply → entry_file s x body ≡ None
-    → given_in s x body (answer_shown answer) ≡ []
-given_in_vain s x body answer has none =
-    ap (λ files. bound (given_shown answer.given) files) (one_given s x body answer.reply has ∙ ap (λ file. file ∷ []) none)
-    ∙ bound_in_vain (given_shown answer.given)
+-- where no file is given, no name is
+pub given_in_vain : (names : List NodeName) (files : List (Option ℕ)) → AreFilesGiven files None → bound names files ≡ []
+given_in_vain names [] is = bound_to_none names
+given_in_vain names (one ∷ files) is =
+    ap (λ (fs : List (Option ℕ)). bound names fs) (λ i. sym is.0 i ∷ is.1 i) ∙ bound_in_vain names
 
--- another entry gives the first name
-pub given_for_one : (s : Store) (x : Resolved) (body : PlainBody) (answer : Answer) (name : NodeName) (file : ℕ) → HasEntry answer.reply → entry_file s x body ≡ Some file
-    → slice_get (given_shown answer.given) 0 ≡ Some name → given_in s x body (answer_shown answer) ≡ (name, file) ∷ []
-given_for_one s x body answer name file has found first =
-    ap (λ files. bound (given_shown answer.given) files) (one_given s x body answer.reply has ∙ ap (λ f. f ∷ []) found)
-    ∙ bound_to_one (given_shown answer.given) name file first
+-- nor where the answer has none
+pub given_no_name : (names : List NodeName) (files : List (Option ℕ)) → slice_get names 0 ≡ None → bound names files ≡ []
+given_no_name [] files none = refl
+given_no_name (name ∷ names) files none = absurd cc
 
--- ---- replies that give no file
-
--- the reply has no entry
-abbrev pub HasNoEntry : PlainReply → Type 0
-HasNoEntry (Entry entry) = ⊥
-HasNoEntry (Created entry out) = ⊥
-HasNoEntry other = Unit {0}
-
--- no listing answers a request that has a step today
-pub none_listed : (body : PlainBody) (entries : List PlainDirent) → DoesNotList body → IsAnswerTo body (Listed entries) → ⊥
-none_listed (Readdir r) entries known answers = known
-none_listed (Readdirplus r) entries known answers = known
-none_listed other entries known answers = answers
-
--- such an answer gives no file
-none_given : (s : Store) (x : Resolved) (body : PlainBody) (reply : PlainReply) → HasNoEntry reply → DoesNotList body → IsAnswerTo body reply → files_given s x body reply ≡ []
-none_given s x body (Listed entries) plain known answers = absurd (none_listed body entries known answers)
-none_given s x body (Entry entry) plain known answers = absurd plain
-none_given s x body (Created entry out) plain known answers = absurd plain
-none_given s x body other plain known answers = refl
-
--- and no name
-pub given_for_none : (s : Store) (x : Resolved) (body : PlainBody) (answer : Answer) → HasNoEntry (reply_shown answer.reply) → DoesNotList body
-    → IsAnswerTo body (reply_shown answer.reply) → given_in s x body (answer_shown answer) ≡ []
-given_for_none s x body answer plain known answers =
-    ap (λ files. bound (given_shown answer.given) files) (none_given s x body (reply_shown answer.reply) plain known answers) ∙ bound_to_none (given_shown answer.given)
+-- the file that is given goes with the first name
+pub given_for_one : (names : List NodeName) (files : List (Option ℕ)) (name : NodeName) (file : ℕ) → AreFilesGiven files (Some file) → slice_get names 0 ≡ Some name
+    → bound names files ≡ (name, file) ∷ []
+given_for_one names [] name file is first = absurd cc
+given_for_one names (one ∷ files) name file is first =
+    ap (λ (fs : List (Option ℕ)). bound names fs) (λ i. sym is.0 i ∷ is.1 i) ∙ bound_to_one names name file first
 
 -- ---- whether a name may be given
 

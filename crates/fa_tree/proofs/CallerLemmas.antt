@@ -1,11 +1,12 @@
 -- The lemmas for the crates above.
 
 -- a step of a whole, and of a part of it
-pub use Rattle.fa_tree.proofs.PartLemmas.{IsPartOf, OpensNone, UsesKept, whole_part, step_same, step_failed, step_read, step_lost, step_answers}
+pub use Rattle.fa_tree.proofs.PartLemmas.{IsPartOf, OpensNone, UsesKept, whole_part, step_same, step_failed, step_read, step_lost}
 -- a call as it is shown
 pub use Rattle.fa_tree.proofs.StepLemmas.{shown_at}
 -- what a tree knows, and the code that is told where it does not know what a call names
-pub use Rattle.fa_tree.proofs.KnownLemmas.{IsKnownIn, IsOpenedIn, UsesOpened, step_keeps_node, step_keeps_open, step_gives, step_opens, all_known, told_unknown}
-pub use Rattle.fa_tree.proofs.ListingStepLemmas.{unknown_by}
+pub use Rattle.fa_tree.proofs.KnownLemmas.{IsKnownIn, IsOpenedIn, UsesOpened, step_keeps_node, step_keeps_open, step_gives, step_opens, all_known, unknown_fails, told_unknown}
 -- a step where all checks hold
-pub use Rattle.fa_tree.proofs.LawLemmas.{steps_where_all_hold}
+pub use Rattle.fa_tree.proofs.LawLemmas.{steps_where_all_hold, step_is_one}
+-- the rule of an operation is that of its request
+pub use Rattle.fa_tree.proofs.ChangeLemmas.{same_rule}

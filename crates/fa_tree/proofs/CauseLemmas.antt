@@ -2,15 +2,12 @@
 use Rattle.std.proofs.Common.{◌≡◌, ℤ}
 use Rattle.std.specs.Prelude.{◌↔◌}
 use Rattle.fa_bodies.specs.declared.errno.TheConstants.{ENOENT, EEXIST, ENOTDIR, EISDIR, ENOTEMPTY}
-use Rattle.fa_bodies.specs.Requests.{PlainBody}
-use Rattle.fa_tree.specs.State.{Store}
-use Rattle.fa_tree.specs.Resolved.{Resolved}
-use Rattle.fa_tree.specs.Causes.{IsMissing, IsTaken, IsNoDirectory, IsADirectory, IsNotEmpty, HasCause}
+use Rattle.fa_tree.specs.Rules.{Rule, HasCause}
 
 -- ENOENT has its cause where something is missing
-pub of_missing : {Asked : Type 0} {s : Store} {x : Resolved} {body : PlainBody} {error : ℤ} → error ≡ ENOENT
-    → Asked ↔ IsMissing s x body → Asked ↔ HasCause s x body error
-of_missing {Asked} {s} {x} {body} {error} is told = (
+pub of_missing : {Asked : Type 0} {r : Rule} {error : ℤ} → error ≡ ENOENT
+    → Asked ↔ r.missing → Asked ↔ HasCause r error
+of_missing {Asked} {r} {error} is told = (
   λ asked. record {
     missing = λ e. told.0 asked;
     taken = λ e. absurd cc;
@@ -22,9 +19,9 @@ of_missing {Asked} {s} {x} {body} {error} is told = (
 )
 
 -- EEXIST has its cause where a name is taken
-pub of_taken : {Asked : Type 0} {s : Store} {x : Resolved} {body : PlainBody} {error : ℤ} → error ≡ EEXIST
-    → Asked ↔ IsTaken s x body → Asked ↔ HasCause s x body error
-of_taken {Asked} {s} {x} {body} {error} is told = (
+pub of_taken : {Asked : Type 0} {r : Rule} {error : ℤ} → error ≡ EEXIST
+    → Asked ↔ r.taken → Asked ↔ HasCause r error
+of_taken {Asked} {r} {error} is told = (
   λ asked. record {
     missing = λ e. absurd cc;
     taken = λ e. told.0 asked;
@@ -36,9 +33,9 @@ of_taken {Asked} {s} {x} {body} {error} is told = (
 )
 
 -- ENOTDIR has its cause where what should be a directory is none
-pub of_no_directory : {Asked : Type 0} {s : Store} {x : Resolved} {body : PlainBody} {error : ℤ} → error ≡ ENOTDIR
-    → Asked ↔ IsNoDirectory s x body → Asked ↔ HasCause s x body error
-of_no_directory {Asked} {s} {x} {body} {error} is told = (
+pub of_no_directory : {Asked : Type 0} {r : Rule} {error : ℤ} → error ≡ ENOTDIR
+    → Asked ↔ r.no_directory → Asked ↔ HasCause r error
+of_no_directory {Asked} {r} {error} is told = (
   λ asked. record {
     missing = λ e. absurd cc;
     taken = λ e. absurd cc;
@@ -50,9 +47,9 @@ of_no_directory {Asked} {s} {x} {body} {error} is told = (
 )
 
 -- EISDIR has its cause where a directory is where none may be
-pub of_a_directory : {Asked : Type 0} {s : Store} {x : Resolved} {body : PlainBody} {error : ℤ} → error ≡ EISDIR
-    → Asked ↔ IsADirectory s x body → Asked ↔ HasCause s x body error
-of_a_directory {Asked} {s} {x} {body} {error} is told = (
+pub of_a_directory : {Asked : Type 0} {r : Rule} {error : ℤ} → error ≡ EISDIR
+    → Asked ↔ r.a_directory → Asked ↔ HasCause r error
+of_a_directory {Asked} {r} {error} is told = (
   λ asked. record {
     missing = λ e. absurd cc;
     taken = λ e. absurd cc;
@@ -64,9 +61,9 @@ of_a_directory {Asked} {s} {x} {body} {error} is told = (
 )
 
 -- ENOTEMPTY has its cause where a directory is not empty
-pub of_not_empty : {Asked : Type 0} {s : Store} {x : Resolved} {body : PlainBody} {error : ℤ} → error ≡ ENOTEMPTY
-    → Asked ↔ IsNotEmpty s x body → Asked ↔ HasCause s x body error
-of_not_empty {Asked} {s} {x} {body} {error} is told = (
+pub of_not_empty : {Asked : Type 0} {r : Rule} {error : ℤ} → error ≡ ENOTEMPTY
+    → Asked ↔ r.not_empty → Asked ↔ HasCause r error
+of_not_empty {Asked} {r} {error} is told = (
   λ asked. record {
     missing = λ e. absurd cc;
     taken = λ e. absurd cc;

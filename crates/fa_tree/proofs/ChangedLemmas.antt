@@ -3,18 +3,20 @@ use Rattle.std.proofs.Common.{◌≡◌, ℕ, Bool, true, false, if◌then◌els
 use Rattle.std.specs.Ordering.{nat_cmp}
 use Rattle.std.specs.FinMap.{FinMap, get, insert}
 use Rattle.fa_bodies.specs.declared.flags.OpenFlags.{OpenFlags}
-use Rattle.fa_bodies.specs.declared.handles.OpenIn.{OpenIn}
+use Rattle.fa_bodies.specs.declared.attributes.AttrOut.{AttrOut}
+use Rattle.fa_bodies.specs.declared.handles.OpenOut.{OpenOut}
 use Rattle.fa_bodies.specs.declared.setattr.SetattrIn.{SetattrIn}
-use Rattle.fa_bodies.specs.Requests.{PlainBody}
-use Rattle.fa_bodies.specs.Requests.PlainBody.{Lookup, Getattr, Setattr, Readlink, Symlink, Mknod, Mkdir, Unlink, Rmdir, Rename, Link, Open, Read, Write, Opendir, Create}
+use Rattle.fa_ledger.specs.declared.operation.Outcome.{Outcome}
+use Rattle.fa_ledger.specs.Operations.{PlainAction, Reads}
+use Rattle.fa_ledger.specs.Operations.PlainAction.{Lookup, Getattr, Setattr, Readlink, Open, Read, Write, Opendir}
 use Rattle.fa_tree.specs.State.{File, Store, OpenDirectory, IsFree}
 use Rattle.fa_tree.specs.Resolved.{Resolved, OfOther}
 use Rattle.fa_tree.specs.Edits.{open_after, handles_after}
 use Rattle.fa_tree.specs.Opening.{opened}
 use Rattle.fa_tree.specs.Lookups.{file_set}
-use Rattle.fa_tree.specs.Making.{MayBeMade, MayBeCreated, emptied}
-use Rattle.fa_tree.specs.Changes.{with_file, file_written, files_created}
-use Rattle.fa_tree.specs.parts.PlainParts.{DoesNotList}
+use Rattle.fa_tree.specs.Rules.{with_file}
+use Rattle.fa_tree.specs.Contents.{file_written}
+use Rattle.fa_tree.specs.Making.{MayBeMade, MayBeCreated, emptied, files_created}
 use Rattle.fa_tree.specs.parts.StoredParts.{StoredShown, stored_changed, stored_created, stored_with, stored_opened, stored_noted}
 use Rattle.fa_tree.proofs.EditedLemmas.{each_same}
 
@@ -40,20 +42,20 @@ still_open t store =
     ap with (sym (stays_open t.handles))
 
 -- SETATTR
-pub setattr_changed : (t : StoredShown) (x : Resolved) (truncates : Bool) (a : SetattrIn) (count : ℕ)
-    → stored_with (with_file t.store.files x.node (file_set a)) t ≡ stored_changed x truncates (Setattr a) count t
-setattr_changed t x truncates a count = still_open t (record { names = t.store.names; files = with_file t.store.files x.node (file_set a) })
+pub setattr_changed : (t : StoredShown) (x : Resolved) (truncates : Bool) (a : SetattrIn) (o : Outcome AttrOut) (count : ℕ)
+    → stored_with (with_file t.store.files x.node (file_set a)) t ≡ stored_changed x truncates (Setattr a o) count t
+setattr_changed t x truncates a o count = still_open t (record { names = t.store.names; files = with_file t.store.files x.node (file_set a) })
 
 -- OPEN
-pub open_changed : (t : StoredShown) (x : Resolved) (truncates : Bool) (o : OpenIn) (count : ℕ)
+pub open_changed : (t : StoredShown) (x : Resolved) (truncates : Bool) (o : Outcome OpenOut) (count : ℕ)
     → stored_with (if truncates then with_file t.store.files x.node emptied else t.store.files) t ≡ stored_changed x truncates (Open o) count t
 open_changed t x truncates o count = still_open t (record { names = t.store.names; files = (if truncates then with_file t.store.files x.node emptied else t.store.files) })
 
 -- WRITE
-pub write_changed : (t : StoredShown) (x : Resolved) (truncates : Bool) (fh offset size write_flags lock_owner : ℕ) (flags : OpenFlags) (payload : List ℕ) (count : ℕ)
+pub write_changed : (t : StoredShown) (x : Resolved) (truncates : Bool) (offset size : ℕ) (payload : List ℕ) (o : Outcome ℕ) (count : ℕ)
     → stored_with (with_file t.store.files x.node (file_written offset payload count)) t
-    ≡ stored_changed x truncates (Write fh offset size write_flags lock_owner flags payload) count t
-write_changed t x truncates fh offset size write_flags lock_owner flags payload count =
+    ≡ stored_changed x truncates (Write offset size payload o) count t
+write_changed t x truncates offset size payload o count =
     still_open t (record { names = t.store.names; files = with_file t.store.files x.node (file_written offset payload count) })
 
 -- CREATE of a name that is there
@@ -69,43 +71,18 @@ created_found t directory name truncates new number is =
     rw (is) (ap (λ files. stored_with files t) (created_there t.store.files truncates new number)
     ∙ still_open t (record { names = t.store.names; files = files_created t.store.files truncates new (Some number) }))
 
--- requests that leave what is stored
-abbrev pub IsStill : PlainBody → Type 0
-IsStill (Setattr a) = ⊥
-IsStill (Open o) = ⊥
-IsStill (Write fh offset size write_flags lock_owner flags payload) = ⊥
-IsStill (Symlink name target) = ⊥
-IsStill (Mknod mode rdev umask name) = ⊥
-IsStill (Mkdir mode umask name) = ⊥
-IsStill (Unlink name) = ⊥
-IsStill (Rmdir name) = ⊥
-IsStill (Rename newdir old_name new_name) = ⊥
-IsStill (Link oldnodeid new_name) = ⊥
-IsStill (Create flags mode umask name) = ⊥
-IsStill body = Unit {0}
-
-pub still_changed : (t : StoredShown) (x : Resolved) (truncates : Bool) (body : PlainBody) (count : ℕ) → DoesNotList body → IsStill body → t ≡ stored_changed x truncates body count t
-still_changed t x truncates (Lookup name) count known still = still_open t t.store
-still_changed t x truncates (Getattr g) count known still = still_open t t.store
-still_changed t x truncates Readlink count known still = still_open t t.store
-still_changed t x truncates (Read r) count known still = still_open t t.store
-still_changed t x truncates (Opendir o) count known still = still_open t t.store
-still_changed t x truncates (Setattr a) count known still = absurd still
-still_changed t x truncates (Open o) count known still = absurd still
-still_changed t x truncates (Write fh offset size write_flags lock_owner flags payload) count known still = absurd still
-still_changed t x truncates (Symlink name target) count known still = absurd still
-still_changed t x truncates (Mknod mode rdev umask name) count known still = absurd still
-still_changed t x truncates (Mkdir mode umask name) count known still = absurd still
-still_changed t x truncates (Unlink name) count known still = absurd still
-still_changed t x truncates (Rmdir name) count known still = absurd still
-still_changed t x truncates (Rename newdir old_name new_name) count known still = absurd still
-still_changed t x truncates (Link oldnodeid new_name) count known still = absurd still
-still_changed t x truncates (Create flags mode umask name) count known still = absurd still
-still_changed t x truncates body count known still = absurd known
+-- what reads leaves what is stored
+pub still_changed : (t : StoredShown) (x : Resolved) (truncates : Bool) (a : PlainAction) (count : ℕ) → Reads a → t ≡ stored_changed x truncates a count t
+still_changed t x truncates (Lookup name o) count reads = still_open t t.store
+still_changed t x truncates (Getattr o) count reads = still_open t t.store
+still_changed t x truncates (Readlink o) count reads = still_open t t.store
+still_changed t x truncates (Read offset size o) count reads = still_open t t.store
+still_changed t x truncates (Opendir o) count reads = still_open t t.store
+still_changed t x truncates other count reads = absurd reads
 
 -- ---- a directory that is opened
 
-pub opendir_noted : (t : StoredShown) (x : Resolved) (truncates : Bool) (o : OpenIn) (asked count : ℕ)
+pub opendir_noted : (t : StoredShown) (x : Resolved) (truncates : Bool) (o : Outcome OpenOut) (asked count : ℕ)
     → stored_opened asked x.node t ≡ stored_noted x truncates (Opendir o) asked true count t
 opendir_noted t x truncates o asked count =
     let with : FinMap nat_cmp OpenDirectory → StoredShown = λ handles. record { store = t.store; handles = insert handles asked (opened t.store.names x.node) } in

@@ -3,7 +3,7 @@ use Rattle.std.proofs.Common.{◌≡◌, ℕ, List, map, Some, None, slice_get, 
 use Rattle.std.proofs.lemmas.List.{map-set}
 use Rattle.std.proofs.lemmas.Option.{slice_get-map}
 use Rattle.fa_tree.specs.State as state
-use Rattle.fa_tree.specs.Changes.{with_file}
+use Rattle.fa_tree.specs.Rules.{with_file}
 use Rattle.fa_tree.specs.declared.file as declared
 use Rattle.fa_tree.specs.parts.FileParts.{file_shown, with_bytes}
 

@@ -1,6 +1,6 @@
 -- The file that an answer speaks of, and what its attributes are judged by, after a request.
 use Rattle.std.proofs.Common.{◌≡◌, ℕ, ◌+◌, ◌==◌, Bool, true, false, cond, List, [], ◌∷◌, ◌++◌, length, slice_get, count_by, Option, None, Some, refl, sym, ap, subst, ◌∙◌, arith, eq-eqb}
-use Rattle.std.specs.Prelude.{replicate, ◌-◌, ◌↔◌, IsTrue, IfSome, IfNone, if◌then◌else◌}
+use Rattle.std.specs.Prelude.{replicate, ◌-◌, ◌≢◌, ◌↔◌, IsTrue, IfSome, IfNone, if◌then◌else◌}
 use Rattle.std.specs.Option.{option_map_or}
 use Rattle.std.specs.Ordering.{is_eq}
 use Rattle.std.specs.declared.cmp.Ordering.TheVariants.{Less, Equal, Greater}
@@ -10,33 +10,25 @@ use Rattle.std.proofs.lemmas.List.{length-take, length-append, length-replicate}
 use Rattle.std.proofs.lemmas.List.Sums.{sum_by-cons}
 use Rattle.fa_capture.proofs.CallerLemmas.{get_last}
 use Rattle.fa_bodies.specs.declared.attributes.Attributes.{Attributes}
-use Rattle.fa_bodies.specs.declared.attributes.AttrOut.{AttrOut}
-use Rattle.fa_bodies.specs.declared.entry.EntryOut.{EntryOut}
-use Rattle.fa_bodies.specs.declared.handles.OpenOut.{OpenOut}
 use Rattle.fa_bodies.specs.declared.mode.Kind.{Kind}
 use Rattle.fa_bodies.specs.declared.mode.Kind.TheVariants.{Regular}
 use Rattle.fa_bodies.specs.declared.setattr.SetattrIn.{SetattrIn}
 use Rattle.fa_bodies.specs.FlagBits.{fattr_size}
 use Rattle.fa_bodies.specs.Flags.{has_flag, fattr_bits}
 use Rattle.fa_bodies.specs.Modes.{type_number}
-use Rattle.fa_bodies.specs.Replies.PlainReply.{Entry, Created, Attributes as AttributesReply}
-use Rattle.fa_bodies.specs.Requests.{PlainBody}
-use Rattle.fa_bodies.specs.Requests.PlainBody.{Lookup, Getattr, Setattr, Symlink as SymlinkBody, Mknod, Mkdir, Link, Create}
 use Rattle.fa_tree.specs.State.{File, Store, Place, place_cmp, IsFree, links}
 use Rattle.fa_tree.specs.Attributes.{Fits}
-use Rattle.fa_tree.specs.Changes.{with_file, files_created}
+use Rattle.fa_tree.specs.Rules.{with_file}
 use Rattle.fa_tree.specs.Contents.{filled, resized}
-use Rattle.fa_tree.specs.Making.{emptied}
+use Rattle.fa_tree.specs.Making.{emptied, files_created}
 use Rattle.fa_tree.specs.Edits.{names_after}
 use Rattle.fa_tree.specs.Edits.Edit.{Added}
 use Rattle.fa_tree.specs.Lookups.{bits_set, file_set}
-use Rattle.fa_tree.specs.Answers.{IsAnswerTo}
-use Rattle.fa_tree.specs.Judging.{AttributesFit}
 use Rattle.fa_tree.specs.Linking.{MayBeLinked}
-use Rattle.fa_tree.specs.Resolved.{Resolved, OfOther}
+use Rattle.fa_tree.specs.Resolved.{OfOther}
 use Rattle.fa_tree.specs.Shape.{IsTree}
 use Rattle.fa_tree.specs.declared.facts.Facts.{Facts}
-use Rattle.fa_tree.specs.parts.FactParts.{size_set, AreOpenedFacts, AreFactsOf, AreFit, AreFactsIfAny, AreNewFacts, AreFurtherFacts, AreSetFacts, AreCreatedFacts, IsFoundOrNext, SpokenFit, IsLookup, spoken_of}
+use Rattle.fa_tree.specs.parts.FactParts.{size_set, AreOpenedFacts, AreFactsOf, AreFit, AreFactsIfAny, AreNewFacts, AreFurtherFacts, AreSetFacts, AreCreatedFacts, IsFoundOrNext, SpokenFit, FitIfAny}
 use Rattle.fa_tree.specs.parts.ShapeParts.{parent_in, parent_of}
 use Rattle.fa_tree.proofs.PlaceOrderLemmas.{place_self}
 use Rattle.fa_tree.specs.parts.PlaceLaws.{place_cmp_total}
@@ -315,26 +307,17 @@ spoken_fit s found facts attr b (number, is, are) told = (
       told.1 (fit_from s number facts attr are (subst (λ n. Fits s n attr) (sym same) fit.2)),
 )
 
--- ---- what an answer gives
+-- the same of facts that may be none
+pub any_fit : (s : Store) (found : Option ℕ) (facts : Option Facts) (attr : Attributes) (b : Bool) → AreFactsIfAny s found facts
+    → IsTrue b ↔ FitIfAny facts attr → IsTrue b ↔ SpokenFit s found attr
+any_fit s found None attr b none told = (
+  λ t. absurd (told.0 t),
+  λ fit. let clash = sym (none fit.0 fit.1) ∙ fit.2.there in absurd cc,
+)
+any_fit s found (Some facts) attr b are told = spoken_fit s found facts attr b are told
 
--- an entry gives attributes of the file that it speaks of, but where LOOKUP finds nothing
-pub entry_judged : (s : Store) (x : Resolved) (body : PlainBody) (entry : EntryOut) (b : Bool) → IsAnswerTo body (Entry entry)
-    → (IsLookup body × (entry.nodeid ≡ 0) → ⊥) → IsTrue b ↔ SpokenFit s (spoken_of s x body) entry.attr → IsTrue b ↔ AttributesFit s x body (Entry entry)
-entry_judged s x (Lookup name) entry b answers finds told = (λ t other. told.0 t, λ fits. told.1 (fits (λ zero. finds (tt, zero))))
-entry_judged s x (SymlinkBody name target) entry b answers finds told = told
-entry_judged s x (Mknod mode rdev umask name) entry b answers finds told = told
-entry_judged s x (Mkdir mode umask name) entry b answers finds told = told
-entry_judged s x (Link oldnodeid new_name) entry b answers finds told = told
-entry_judged s x other entry b answers finds told = absurd answers
-
--- and so does the answer of CREATE
-pub created_judged : (s : Store) (x : Resolved) (body : PlainBody) (entry : EntryOut) (out : OpenOut) (b : Bool) → IsAnswerTo body (Created entry out)
-    → IsTrue b ↔ SpokenFit s (spoken_of s x body) entry.attr → IsTrue b ↔ AttributesFit s x body (Created entry out)
-created_judged s x (Create flags mode umask name) entry out b answers told = told
-created_judged s x other entry out b answers told = absurd answers
-
--- what fits the file of the node is what is spoken of
-of_node : (s : Store) (number : ℕ) (attr : Attributes) (b : Bool) → IsTrue b ↔ SpokenFit s (Some number) attr → IsTrue b ↔ Fits s number attr
+-- what fits a file is what is spoken of it
+pub of_node : (s : Store) (number : ℕ) (attr : Attributes) (b : Bool) → IsTrue b ↔ SpokenFit s (Some number) attr → IsTrue b ↔ Fits s number attr
 of_node s number attr b told = (
   λ t.
       let fit = told.0 t in
@@ -343,9 +326,7 @@ of_node s number attr b told = (
   λ fit. told.1 (number, refl, fit),
 )
 
--- attributes alone are of the file of the node
-pub attributes_judged : (s : Store) (x : Resolved) (body : PlainBody) (a : AttrOut) (b : Bool) → IsAnswerTo body (AttributesReply a)
-    → IsTrue b ↔ SpokenFit s (spoken_of s x body) a.attr → IsTrue b ↔ AttributesFit s x body (AttributesReply a)
-attributes_judged s x (Getattr g) a b answers told = of_node s x.node a.attr b told
-attributes_judged s x (Setattr set) a b answers told = of_node s x.node a.attr b told
-attributes_judged s x other a b answers told = absurd answers
+-- and what fits the file of a name that is looked up, where its entry gives a node
+pub of_entry : (s : Store) (found : Option ℕ) (nodeid : ℕ) (attr : Attributes) (b : Bool) → nodeid ≢ 0 → IsTrue b ↔ SpokenFit s found attr
+    → IsTrue b ↔ (nodeid ≢ 0 → SpokenFit s found attr)
+of_entry s found nodeid attr b some told = (λ t other. told.0 t, λ fits. told.1 (fits some))

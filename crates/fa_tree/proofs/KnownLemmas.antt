@@ -1,6 +1,6 @@
 -- What a tree knows: steps keep it, a success adds the nodes that its answer gives and the directory that it opens, and a call
 -- of which all is known does not fail for want of it.
-use Rattle.std.proofs.Common.{◌≡◌, ℕ, ◌==◌, Bool, true, false, cond, List, [], ◌∷◌, ◌++◌, map, Option, None, Some, refl, sym, ap, subst, ◌∙◌, inl, inr, arith}
+use Rattle.std.proofs.Common.{◌≡◌, ℕ, ℤ, ◌==◌, Bool, true, false, cond, List, [], ◌∷◌, ◌++◌, map, Option, None, Some, refl, sym, ap, subst, ◌∙◌, inl, inr, arith}
 use Rattle.std.specs.Prelude.{All, Contains, if◌then◌else◌, not, option_map, option_and_then}
 use Rattle.std.specs.Cmp.{IsTotalOrder, nat_cmp_total, tied_itself}
 use Rattle.std.specs.Ordering.{nat_cmp, eq_by_cmp, is_eq}
@@ -10,34 +10,33 @@ use Rattle.std.proofs.lemmas.Bool.Decides.{nat_tests}
 use Rattle.std.proofs.lemmas.List.Elements.{All-head, All-tail}
 use Rattle.std.proofs.lemmas.Option.{same_Some}
 use Rattle.fa_capture.specs.declared.codes.TheConstants.{UNKNOWN_HERE}
-use Rattle.fa_capture.specs.Checks.{AllHold, FirstFailure}
+use Rattle.fa_capture.specs.Checks.{FirstFailure}
 use Rattle.fa_capture.proofs.CallerLemmas.{contains_cases, contains_first, contains_behind, not_told}
 use Rattle.fa_bodies.specs.declared.entry.EntryOut.{EntryOut}
-use Rattle.fa_bodies.specs.declared.handles.OpenIn.{OpenIn}
 use Rattle.fa_bodies.specs.declared.handles.OpenOut.{OpenOut}
 use Rattle.fa_bodies.specs.Dirents.{PlainDirent}
-use Rattle.fa_bodies.specs.Requests.{PlainBody}
-use Rattle.fa_bodies.specs.Requests.PlainBody.{Lookup, Symlink, Mknod, Mkdir, Link, Opendir}
-use Rattle.fa_bodies.specs.Replies.{PlainReply}
-use Rattle.fa_bodies.specs.Replies.PlainReply.{Entry, Created, Listed}
 use Rattle.fa_ledger.specs.declared.call.Listing.{Listing}
 use Rattle.fa_ledger.specs.declared.name.NodeName.{NodeName}
 use Rattle.fa_ledger.specs.declared.name.NodeName.TheVariants.{Root, Given}
-use Rattle.fa_ledger.specs.Calls.{PlainAnswer, PlainCall}
-use Rattle.fa_ledger.specs.Counts.{is_dots, node_of, nodes_of_entry, nodes_of_listing, nodes_of_name, nodes_given}
-use Rattle.fa_tree.specs.State.{OpenDirectory, Store, TreeState, node_cmp, root, file_of}
-use Rattle.fa_tree.specs.Resolved.{Question, Resolved, question, other_of, handle_of, resolved_with, resolved_on, resolved}
+use Rattle.fa_ledger.specs.declared.operation.Outcome.{Outcome}
+use Rattle.fa_ledger.specs.declared.operation.Outcome.TheVariants.{Fails, Succeeds, Unanswered}
+use Rattle.fa_ledger.specs.Calls.{PlainCall, operation}
+use Rattle.fa_ledger.specs.Counts.{is_dots, node_of, nodes_of_entry, nodes_of_listing}
+use Rattle.fa_ledger.specs.Operations.{PlainOperation, bare, ended, gives, nodes_of_list}
+use Rattle.fa_ledger.specs.Operations.PlainAction.{Lookup, Symlink, Mknod, Mkdir, Link, Opendir, Create}
+use Rattle.fa_ledger.specs.Operations.PlainOperation.{Lists, Acts}
+use Rattle.fa_tree.specs.State.{OpenDirectory, Store, TreeState, place_cmp, node_cmp, root, file_of}
+use Rattle.fa_tree.specs.Resolved.{Resolved, other_of, handle_of, resolved_with, resolved_on, resolved}
 use Rattle.fa_tree.specs.Edits.{each_open, open_after, handles_after}
 use Rattle.fa_tree.specs.Opening.{opened, with_opened}
-use Rattle.fa_tree.specs.Changes.{edits, changed}
-use Rattle.fa_tree.specs.Directories.{judged, IsThereIfLookedUp}
-use Rattle.fa_tree.specs.Judging.{size_asked, entry_file, file_if, files_listed, files_on, files_given, AttributesFit, EntriesAre, ListingFits}
-use Rattle.fa_tree.specs.Bindings.{bound, nodes_after, given_in}
-use Rattle.fa_tree.specs.Outcomes.{Outcome, outcome, count_written}
-use Rattle.fa_tree.specs.Outcomes.Outcome.{Fails, Succeeds, Unanswered}
-use Rattle.fa_tree.specs.Steps.{tree_after, setting, outcome_checks, checks_of_files, step_checks, Steps}
+use Rattle.fa_tree.specs.Directories.{judged, IsThereIfLookedUp, file_if, files_listed, files_on, EntriesAre, list_said}
+use Rattle.fa_tree.specs.Operations.{Setting, rule, changed, said, directory_opened, count_written}
+use Rattle.fa_tree.specs.Bindings.{bound, nodes_after}
+use Rattle.fa_tree.specs.Steps.{names_given, opens_anew, setting, given_in, tree_done, tree_by, operation_checks, checks_of_files, checks_of, step_checks, Steps}
 use Rattle.fa_tree.proofs.NodeLemmas.{node_total}
 use Rattle.fa_tree.proofs.NameLemmas.{get-each_open}
+use Rattle.fa_tree.proofs.NamedLemmas.{checks_hold}
+use Rattle.fa_tree.proofs.OutcomeLemmas.{given_whatever}
 
 -- ---- what is known
 
@@ -86,42 +85,70 @@ nodes_have (one ∷ given) nodes name file has =
 -- ---- steps keep what is known
 
 -- nodes
-after_keeps_node : (t : TreeState) (x : Resolved) (call : PlainCall) (count : ℕ) (o : Outcome) (name : NodeName) → IsKnownIn name t → IsKnownIn name (tree_after t x call count o)
-after_keeps_node t x call count o Root known = (root, refl)
-after_keeps_node t x call count (Fails error) (Given id by) known = known
-after_keeps_node t x call count (Succeeds answer) (Given id by) known =
-    nodes_keep (given_in (changed t.store x (question call) count) x call.request.body answer) t.nodes (Given id by) known
-after_keeps_node t x call count Unanswered (Given id by) known = known
-
 pub step_keeps_node : (old new : TreeState) (call : PlainCall) (wrote : Option ℕ) (so_far : List PlainDirent) (name : NodeName) → Steps old new call wrote so_far
     → IsKnownIn name old → IsKnownIn name new
-step_keeps_node old new call wrote so_far name s known =
-    subst (IsKnownIn name) (sym s.after) (after_keeps_node old s.files call (count_written call wrote) (outcome call) name known)
+step_keeps_node old new call wrote so_far Root s known = (root, refl)
+step_keeps_node old new call wrote so_far (Given id by) s known =
+    subst (IsKnownIn (Given id by)) (sym s.after) (after (ended s.asks))
+  where
+    count : ℕ
+    count = count_written s.asks wrote
+
+    done : IsKnownIn (Given id by) (tree_done old s.files call s.asks count)
+    done = nodes_keep (given_in (setting old.store s.files call s.asks count []) call s.asks) old.nodes (Given id by) known
+
+    after : (e : Outcome (Unit {0})) → IsKnownIn (Given id by) (tree_by old (tree_done old s.files call s.asks count) e)
+    after (Fails error) = known
+    after (Succeeds success) = done
+    after Unanswered = done
 
 -- open directories
 each_keeps : (change : OpenDirectory → OpenDirectory) (handles : FinMap nat_cmp OpenDirectory) (asked : ℕ) → (h : OpenDirectory) × (get handles asked ≡ Some h)
     → (h : OpenDirectory) × (get (each_open change handles) asked ≡ Some h)
 each_keeps change handles asked has = (change has.0, get-each_open change handles asked ∙ ap (option_map change) has.1)
 
-opening_keeps : (s : Store) (x : Resolved) (body : PlainBody) (asked : ℕ) (opens : Bool) (handles : FinMap nat_cmp OpenDirectory) (q : ℕ)
-    → (h : OpenDirectory) × (get handles q ≡ Some h) → (h : OpenDirectory) × (get (with_opened s x body asked opens handles) q ≡ Some h)
-opening_keeps s x (Opendir o) asked true handles q has = insert_keeps nat_cmp_total handles asked (opened s.names x.node) q has
-opening_keeps s x (Opendir o) asked false handles q has = has
-opening_keeps s x other asked opens handles q has = has
-
-after_keeps_open : (t : TreeState) (x : Resolved) (call : PlainCall) (count : ℕ) (o : Outcome) (asked : ℕ) → IsOpenedIn asked t → IsOpenedIn asked (tree_after t x call count o)
-after_keeps_open t x call count (Fails error) asked known = known
-after_keeps_open t x call count (Succeeds answer) asked known =
-    opening_keeps (changed t.store x (question call) count) x call.request.body call.asked answer.opens
-    (handles_after (edits t.store x call.request.body) t.handles) asked (each_keeps (open_after (edits t.store x call.request.body)) t.handles asked known)
-after_keeps_open t x call count Unanswered asked known = each_keeps (open_after (edits t.store x call.request.body)) t.handles asked known
+opening_keeps : (names : FinMap place_cmp ℕ) (directory : Option ℕ) (asked : ℕ) (opens : Bool) (handles : FinMap nat_cmp OpenDirectory) (q : ℕ)
+    → (h : OpenDirectory) × (get handles q ≡ Some h) → (h : OpenDirectory) × (get (with_opened names directory asked opens handles) q ≡ Some h)
+opening_keeps names (Some directory) asked true handles q has = insert_keeps nat_cmp_total handles asked (opened names directory) q has
+opening_keeps names (Some directory) asked false handles q has = has
+opening_keeps names None asked opens handles q has = has
 
 pub step_keeps_open : (old new : TreeState) (call : PlainCall) (wrote : Option ℕ) (so_far : List PlainDirent) (asked : ℕ) → Steps old new call wrote so_far
     → IsOpenedIn asked old → IsOpenedIn asked new
 step_keeps_open old new call wrote so_far asked s known =
-    subst (IsOpenedIn asked) (sym s.after) (after_keeps_open old s.files call (count_written call wrote) (outcome call) asked known)
+    subst (IsOpenedIn asked) (sym s.after) (after (ended s.asks))
+  where
+    count : ℕ
+    count = count_written s.asks wrote
+
+    done : IsOpenedIn asked (tree_done old s.files call s.asks count)
+    done =
+        opening_keeps (changed old.store s.files call.truncates s.asks count).names (directory_opened s.files s.asks) call.asked (opens_anew call)
+        (handles_after (rule old.store s.files s.asks).edits old.handles) asked
+        (each_keeps (open_after (rule old.store s.files s.asks).edits) old.handles asked known)
+
+    after : (e : Outcome (Unit {0})) → IsOpenedIn asked (tree_by old (tree_done old s.files call s.asks count) e)
+    after (Fails error) = known
+    after (Succeeds success) = done
+    after Unanswered = done
 
 -- ---- the nodes that a success gives have files
+
+-- an error gives none
+list_error_gives : (o : Outcome (List PlainDirent)) (error : ℤ) → bare o ≡ Fails error → nodes_of_list o ≡ []
+list_error_gives (Fails e) error is = refl
+list_error_gives (Succeeds entries) error is = absurd cc
+list_error_gives Unanswered error is = refl
+
+errors_give_no_node : (o : PlainOperation) (error : ℤ) → ended o ≡ Fails error → gives o ≡ []
+errors_give_no_node (Lists l) error is = list_error_gives l.outcome error is
+errors_give_no_node (Acts (Lookup name (Succeeds entry))) error is = absurd cc
+errors_give_no_node (Acts (Symlink name target (Succeeds entry))) error is = absurd cc
+errors_give_no_node (Acts (Mknod mode umask name (Succeeds entry))) error is = absurd cc
+errors_give_no_node (Acts (Mkdir mode umask name (Succeeds entry))) error is = absurd cc
+errors_give_no_node (Acts (Link new_name (Succeeds entry))) error is = absurd cc
+errors_give_no_node (Acts (Create flags mode umask name (Succeeds made))) error is = absurd cc
+errors_give_no_node other error is = refl
 
 -- there is a file for each of these nodes
 abbrev HaveFiles : List ℕ → List (Option ℕ) → Type 0
@@ -133,25 +160,6 @@ HaveFiles (node ∷ nodes) (Some file ∷ files) = HaveFiles nodes files
 one_has : (node : ℕ) (file : Option ℕ) (number : ℕ) → file ≡ Some number → HaveFiles (node ∷ []) (file ∷ [])
 one_has node None number is = absurd cc
 one_has node (Some file) number is = tt
-
--- the node of an entry, and of a file that is created
-entry_has : (s : Store) (x : Resolved) (body : PlainBody) (entry : EntryOut) → AttributesFit s x body (Entry entry) → HaveFiles (nodes_of_name body entry) (entry_file s x body ∷ [])
-entry_has s x (Lookup name) entry fits = by (entry.nodeid == 0) refl
-  where
-    by : (b : Bool) → (entry.nodeid == 0) ≡ b → HaveFiles (if b then [] else entry.nodeid ∷ []) (entry_file s x (Lookup name) ∷ [])
-    by true test = tt
-    by false test =
-        let found = fits (λ none. grind (arith, nat_tests, test, none)) in
-        one_has entry.nodeid (entry_file s x (Lookup name)) found.0 found.1
-entry_has s x (Symlink name target) entry fits = one_has entry.nodeid (entry_file s x (Symlink name target)) fits.0 fits.1
-entry_has s x (Mknod mode rdev umask name) entry fits = one_has entry.nodeid (entry_file s x (Mknod mode rdev umask name)) fits.0 fits.1
-entry_has s x (Mkdir mode umask name) entry fits = one_has entry.nodeid (entry_file s x (Mkdir mode umask name)) fits.0 fits.1
-entry_has s x (Link oldnodeid new_name) entry fits = one_has entry.nodeid (entry_file s x (Link oldnodeid new_name)) fits.0 fits.1
-entry_has s x other entry fits = tt
-
-created_has : (s : Store) (x : Resolved) (body : PlainBody) (entry : EntryOut) (out : OpenOut) → AttributesFit s x body (Created entry out) → HaveFiles (entry.nodeid ∷ []) (entry_file s x body ∷ [])
-created_has s x (Lookup name) entry out fits = one_has entry.nodeid (entry_file s x (Lookup name)) fits.0 fits.1
-created_has s x other entry out fits = one_has entry.nodeid (entry_file s x other) fits.0 fits.1
 
 -- the nodes of a listing
 node_more : (node : ℕ) (file : Option ℕ) (none : Bool) (nodes : List ℕ) (files : List (Option ℕ)) → (none ≡ false → (number : ℕ) × (file ≡ Some number)) → HaveFiles nodes files
@@ -188,19 +196,33 @@ listed_have s directory (d ∷ entries) each =
     let apart = judged_apart (IsThereIfLookedUp s directory) d (judged entries) (not (is_dots d.name)) each in
     looked_up_more s directory d (nodes_of_listing entries) (files_listed s directory entries) apart.0 (listed_have s directory entries apart.1)
 
-on_open_have : (s : Store) (size : Option ℕ) (handle : Option OpenDirectory) (listing : Option Listing) (so_far entries : List PlainDirent)
+on_open_have : (s : Store) (size : ℕ) (handle : Option OpenDirectory) (listing : Option Listing) (so_far entries : List PlainDirent)
     → EntriesAre s size handle listing so_far entries → HaveFiles (nodes_of_listing entries) (files_on s handle entries)
-on_open_have s (Some size) (Some h) (Some listing) so_far entries are = listed_have s h.directory entries are.now
+on_open_have s size (Some h) (Some listing) so_far entries are = listed_have s h.directory entries are.now
 on_open_have s size handle listing so_far entries are = absurd are
 
+list_has : (s : Store) (size : ℕ) (handle : Option OpenDirectory) (listing : Option Listing) (so_far : List PlainDirent) (o : Outcome (List PlainDirent))
+    → (list_said s size handle listing so_far o).listing → HaveFiles (nodes_of_list o) (list_said s size handle listing so_far o).files
+list_has s size handle listing so_far (Fails error) are = tt
+list_has s size handle listing so_far (Succeeds entries) are = on_open_have s size handle listing so_far entries are
+list_has s size handle listing so_far Unanswered are = tt
+
 -- the nodes of any success
-success_has : (s : Store) (x : Resolved) (q : Question) (so_far : List PlainDirent) (reply : PlainReply) → AttributesFit s x q.body reply → ListingFits s x q so_far reply
-    → HaveFiles (nodes_given q.body reply) (files_given s x q.body reply)
-success_has s x q so_far (Entry entry) fits lists = entry_has s x q.body entry fits
-success_has s x q so_far (Created entry out) fits lists = created_has s x q.body entry out fits
-success_has s x q so_far (Listed entries) fits lists =
-    on_open_have s (size_asked q.body) x.handle q.listing so_far entries lists
-success_has s x q so_far other fits lists = tt
+success_has : (g : Setting) (o : PlainOperation) → (said g o).attributes → (said g o).listing → HaveFiles (gives o) (said g o).files
+success_has g (Lists l) fits lists = list_has g.after l.size g.files.handle g.listing g.so_far l.outcome lists
+success_has g (Acts (Lookup name (Succeeds entry))) fits lists = by (entry.nodeid == 0) refl
+  where
+    by : (b : Bool) → (entry.nodeid == 0) ≡ b → HaveFiles (if b then [] else entry.nodeid ∷ []) (get g.after.names (g.files.node, name) ∷ [])
+    by true test = tt
+    by false test =
+        let found = fits (λ none. grind (arith, nat_tests, test, none)) in
+        one_has entry.nodeid (get g.after.names (g.files.node, name)) found.0 found.1
+success_has g (Acts (Symlink name target (Succeeds entry))) fits lists = one_has entry.nodeid (get g.after.names (g.files.node, name)) fits.0 fits.1
+success_has g (Acts (Mknod mode umask name (Succeeds entry))) fits lists = one_has entry.nodeid (get g.after.names (g.files.node, name)) fits.0 fits.1
+success_has g (Acts (Mkdir mode umask name (Succeeds entry))) fits lists = one_has entry.nodeid (get g.after.names (g.files.node, name)) fits.0 fits.1
+success_has g (Acts (Link new_name (Succeeds entry))) fits lists = one_has entry.nodeid (get g.after.names (g.files.node, new_name)) fits.0 fits.1
+success_has g (Acts (Create flags mode umask name (Succeeds made))) fits lists = one_has made.0.nodeid (get g.after.names (g.files.node, name)) fits.0 fits.1
+success_has g other fits lists = tt
 
 -- ---- so their names are known
 
@@ -224,39 +246,61 @@ name_bound name_of (n ∷ nodes) (m ∷ names) (Some file ∷ files) node name h
     ]
 
 -- the step of a success knows the names of the nodes that its answer gives
-pub step_gives : (old new : TreeState) (call : PlainCall) (wrote : Option ℕ) (so_far : List PlainDirent) (answer : PlainAnswer) (name_of : ℕ → Option NodeName) (node id by : ℕ)
-    → Steps old new call wrote so_far → outcome call ≡ Succeeds answer → map name_of (nodes_given call.request.body answer.reply) ≡ map (λ n. Some n) answer.given
-    → Contains (nodes_given call.request.body answer.reply) node → name_of node ≡ Some (Given id by) → IsKnownIn (Given id by) new
-step_gives old new call wrote so_far answer name_of node id by s success named there is =
-    let count : ℕ = count_written call wrote in
-    let hold : AllHold (checks_of_files old call count so_far (Some s.files)) = subst (λ files. AllHold (checks_of_files old call count so_far files)) s.named s.allowed in
-    let checks : AllHold (outcome_checks old.nodes (setting old.store s.files (question call) count so_far) (Succeeds answer)) =
-    subst (λ o. AllHold (outcome_checks old.nodes (setting old.store s.files (question call) count so_far) o)) success hold.1 in
-    let after : Store = changed old.store s.files (question call) count in
-    let have = success_has after s.files (question call) so_far answer.reply checks.1.1.0 checks.1.1.1.1.1.0 in
-    let found = name_bound name_of (nodes_given call.request.body answer.reply) answer.given (files_given after s.files call.request.body answer.reply) node (Given id by) have named there is in
-    let known : IsKnownIn (Given id by) (tree_after old s.files call count (Succeeds answer)) =
-    nodes_have (given_in after s.files call.request.body answer) old.nodes (Given id by) found.0 found.1 in
-    subst (IsKnownIn (Given id by)) (sym (s.after ∙ ap (tree_after old s.files call count) success)) known
+pub step_gives : (old new : TreeState) (call : PlainCall) (wrote : Option ℕ) (so_far : List PlainDirent) (name_of : ℕ → Option NodeName) (node id by : ℕ)
+    → (s : Steps old new call wrote so_far) → map name_of (gives s.asks) ≡ map (λ n. Some n) (names_given call)
+    → Contains (gives s.asks) node → name_of node ≡ Some (Given id by) → IsKnownIn (Given id by) new
+step_gives old new call wrote so_far name_of node id by s named there is =
+    subst (IsKnownIn (Given id by)) (sym s.after) (after s.asks refl (ended s.asks) refl)
+  where
+    count : ℕ
+    count = count_written s.asks wrote
+
+    g : Setting
+    g = setting old.store s.files call s.asks count so_far
+
+    done : IsKnownIn (Given id by) (tree_done old s.files call s.asks count)
+    done =
+        let hold = checks_hold old new call wrote so_far s in
+        let have = success_has g s.asks hold.1.1.0 hold.1.1.1.1.1.0 in
+        let found = name_bound name_of (gives s.asks) (names_given call) (said g s.asks).files node (Given id by) have named there is in
+        nodes_have (given_in (setting old.store s.files call s.asks count []) call s.asks) old.nodes (Given id by) found.0
+        (subst (λ (given : List (NodeName × ℕ)). Contains given (Given id by, found.0)) (given_whatever old.store s.files call s.asks count so_far) found.1)
+
+    after : (o : PlainOperation) → s.asks ≡ o → (e : Outcome (Unit {0})) → ended o ≡ e → IsKnownIn (Given id by) (tree_by old (tree_done old s.files call s.asks count) e)
+    after o asks (Fails error) fails =
+        let none : gives o ≡ [] = errors_give_no_node o error fails in
+        let nowhere : Contains [] node = subst (λ (nodes : List ℕ). Contains nodes node) (ap gives asks ∙ none) there in
+        absurd (omega (arith, nowhere.1))
+    after o asks (Succeeds success) ends = done
+    after o asks Unanswered ends = done
 
 -- that of an OPENDIR that opens a handle anew knows the directory
-opened_there : (s : Store) (x : Resolved) (body : PlainBody) (o : OpenIn) (asked : ℕ) (opens : Bool) (handles : FinMap nat_cmp OpenDirectory) → body ≡ Opendir o → opens ≡ true
-    → (h : OpenDirectory) × (get (with_opened s x body asked opens handles) asked ≡ Some h)
-opened_there s x body o asked opens handles is does = (
-  opened s.names x.node,
-  ap (λ b. get (with_opened s x b asked opens handles) asked) is
-      ∙ ap (λ b. get (with_opened s x (Opendir o) asked b handles) asked) does
-      ∙ insert_there nat_cmp_total handles asked (opened s.names x.node),
+opened_there : (names : FinMap place_cmp ℕ) (directory : Option ℕ) (asked number : ℕ) (opens : Bool) (handles : FinMap nat_cmp OpenDirectory) → directory ≡ Some number → opens ≡ true
+    → (h : OpenDirectory) × (get (with_opened names directory asked opens handles) asked ≡ Some h)
+opened_there names directory asked number opens handles is does = (
+  opened names number,
+  ap (λ (d : Option ℕ). get (with_opened names d asked opens handles) asked) is
+      ∙ ap (λ (b : Bool). get (with_opened names (Some number) asked b handles) asked) does
+      ∙ insert_there nat_cmp_total handles asked (opened names number),
 )
 
-pub step_opens : (old new : TreeState) (call : PlainCall) (wrote : Option ℕ) (so_far : List PlainDirent) (answer : PlainAnswer) (o : OpenIn) → Steps old new call wrote so_far
-    → outcome call ≡ Succeeds answer → call.request.body ≡ Opendir o → answer.opens ≡ true → IsOpenedIn call.asked new
-step_opens old new call wrote so_far answer o s success is does =
-    let count : ℕ = count_written call wrote in
-    let known : IsOpenedIn call.asked (tree_after old s.files call count (Succeeds answer)) =
-    opened_there (changed old.store s.files (question call) count) s.files call.request.body o call.asked answer.opens
-    (handles_after (edits old.store s.files call.request.body) old.handles) is does in
-    subst (IsOpenedIn call.asked) (sym (s.after ∙ ap (tree_after old s.files call count) success)) known
+pub step_opens : (old new : TreeState) (call : PlainCall) (wrote : Option ℕ) (so_far : List PlainDirent) (o : Outcome OpenOut) → (s : Steps old new call wrote so_far)
+    → s.asks ≡ Acts (Opendir o) → ((error : ℤ) → ended s.asks ≡ Fails error → ⊥) → opens_anew call ≡ true → IsOpenedIn call.asked new
+step_opens old new call wrote so_far o s is not does =
+    subst (IsOpenedIn call.asked) (sym s.after) (after (ended s.asks) refl)
+  where
+    count : ℕ
+    count = count_written s.asks wrote
+
+    done : IsOpenedIn call.asked (tree_done old s.files call s.asks count)
+    done =
+        opened_there (changed old.store s.files call.truncates s.asks count).names (directory_opened s.files s.asks) call.asked s.files.node (opens_anew call)
+        (handles_after (rule old.store s.files s.asks).edits old.handles) (ap (directory_opened s.files) is) does
+
+    after : (e : Outcome (Unit {0})) → ended s.asks ≡ e → IsOpenedIn call.asked (tree_by old (tree_done old s.files call s.asks count) e)
+    after (Fails error) fails = absurd (not error fails)
+    after (Succeeds success) ends = done
+    after Unanswered ends = done
 
 -- ---- a call of which all is known
 
@@ -289,18 +333,29 @@ all_known t call node others handles none =
 
 -- ---- the code that is told where something is not known
 
--- it is told of a call that names something which the tree does not know
-pub told_unknown : (t : TreeState) (call : PlainCall) (wrote : Option ℕ) (so_far : List PlainDirent) → FirstFailure (step_checks t call wrote so_far) UNKNOWN_HERE → resolved t call ≡ None
-told_unknown t call wrote so_far fails = by (resolved t call) refl fails
+-- a call that names what the tree does not know fails with it
+pub unknown_fails : (t : TreeState) (call : PlainCall) (wrote : Option ℕ) (so_far : List PlainDirent) → resolved t call ≡ None → FirstFailure (step_checks t call wrote so_far) UNKNOWN_HERE
+unknown_fails t call wrote so_far is = by (operation call)
+  where
+    by : (found : Option PlainOperation) → FirstFailure (checks_of t call wrote so_far found) UNKNOWN_HERE
+    by None = inl ((λ none. none), refl)
+    by (Some o) =
+        subst (λ (files : Option Resolved). FirstFailure (checks_of_files t call o (count_written o wrote) so_far files) UNKNOWN_HERE) (sym is) (inl ((λ none. none), refl))
+
+-- it is told of a call with an operation that names something which the tree does not know
+pub told_unknown : (t : TreeState) (call : PlainCall) (wrote : Option ℕ) (so_far : List PlainDirent) (o : PlainOperation) → operation call ≡ Some o
+    → FirstFailure (step_checks t call wrote so_far) UNKNOWN_HERE → resolved t call ≡ None
+told_unknown t call wrote so_far o asks fails =
+    by (resolved t call) refl (subst (λ (w : Option PlainOperation). FirstFailure (checks_of t call wrote so_far w) UNKNOWN_HERE) asks fails)
   where
     count : ℕ
-    count = count_written call wrote
+    count = count_written o wrote
 
-    by : (files : Option Resolved) → resolved t call ≡ files → FirstFailure (checks_of_files t call count so_far files) UNKNOWN_HERE → resolved t call ≡ None
+    by : (files : Option Resolved) → resolved t call ≡ files → FirstFailure (checks_of_files t call o count so_far files) UNKNOWN_HERE → resolved t call ≡ None
     by None is told = is
     by (Some x) is told =
         elim told [
           | inl here ↦ absurd (here.0 tt)
-          | inr later ↦ absurd (not_told UNKNOWN_HERE (outcome_checks t.nodes (setting t.store x (question call) count so_far) (outcome call))
+          | inr later ↦ absurd (not_told UNKNOWN_HERE (operation_checks t.nodes (setting t.store x call o count so_far) call o)
               ((λ e. omega (arith, e)), ((λ e. omega (arith, e)), ((λ e. omega (arith, e)), ((λ e. omega (arith, e)), ((λ e. omega (arith, e)), ((λ e. omega (arith, e)), tt)))))) later.1)
         ]

@@ -14,7 +14,7 @@ use Rattle.fa_ledger.specs.Counts.{is_dots, nodes_of_entry}
 use Rattle.fa_ledger.specs.declared.name.NodeName.{NodeName}
 use Rattle.fa_tree.specs.State.{File, Store}
 use Rattle.fa_tree.specs.Directories.{judged}
-use Rattle.fa_tree.specs.Judging.{file_if, files_listed}
+use Rattle.fa_tree.specs.Directories.{file_if, files_listed}
 use Rattle.fa_tree.specs.Bindings.{bound}
 use Rattle.fa_tree.proofs.BindingLemmas.{bound_to_none}
 

@@ -1,103 +1,116 @@
--- What was judged of a listing in the store is judged of it in the tree; and the checks of entries are those of the outcome.
-use Rattle.std.proofs.Common.{◌≡◌, ◌==◌, ℕ, Bool, true, false, List, [], ◌∷◌, length, Option, None, Some, Result, arith, eqb-true, refl, sym, subst, ap, ◌∙◌, inl, inr}
+-- What was judged of a listing in the store is judged of it in the tree; and the checks of entries are those of the call.
+use Rattle.std.proofs.Common.{◌≡◌, ◌==◌, ℕ, ℤ, Bool, false, true, List, [], ◌∷◌, length, Option, None, Some, Result, Ok, Err, arith, eqb-true, refl, sym, subst, ap, ◌∙◌, inl, inr}
 use Rattle.std.specs.Prelude.{◌↔◌, All, IsTrue, IfOk}
 use Rattle.std.specs.FinMap.{FinMap}
 use Rattle.fa_capture.specs.Checks.{AllHold, FirstFailure}
+use Rattle.fa_capture.specs.declared.codes.TheConstants.{UNKNOWN_HERE, SUCCESS_NOT_ALLOWED, ERROR_WITHOUT_CAUSE}
 use Rattle.fa_bodies.specs.Dirents.{PlainDirent}
-use Rattle.fa_bodies.specs.Replies.{PlainReply}
-use Rattle.fa_bodies.specs.Replies.PlainReply.{Listed}
-use Rattle.fa_bodies.specs.Requests.{PlainBody}
-use Rattle.fa_bodies.specs.Requests.PlainBody.{Readdir, Readdirplus}
 use Rattle.fa_ledger.specs.declared.call.Listing.{Listing}
 use Rattle.fa_ledger.specs.declared.name.NodeName.{NodeName}
-use Rattle.fa_ledger.specs.Calls.{PlainAnswer, PlainCall}
-use Rattle.fa_ledger.specs.Kinds.{IsReadingRequest}
-use Rattle.fa_ledger.specs.Listings.{offset_asked}
-use Rattle.fa_tree.specs.State.{Store, OpenDirectory, TreeState, node_cmp}
-use Rattle.fa_tree.specs.Resolved.{Question, Resolved, question, resolved}
-use Rattle.fa_tree.specs.Directories.{judged, IsTypedIfLookedUp, IsListed}
-use Rattle.fa_tree.specs.Answers.{IsAnswerTo}
-use Rattle.fa_tree.specs.Judging.{EntriesAre}
-use Rattle.fa_tree.specs.Bindings.{given_in, nodes_after}
-use Rattle.fa_tree.specs.Outcomes.{Outcome, outcome, count_written}
-use Rattle.fa_tree.specs.Outcomes.Outcome.{Fails, Succeeds, Unanswered}
-use Rattle.fa_tree.specs.Conditions.{MayBeDone}
+use Rattle.fa_ledger.specs.declared.operation.Outcome.{Outcome}
+use Rattle.fa_ledger.specs.declared.operation.Outcome.TheVariants.{Fails, Succeeds, Unanswered}
+use Rattle.fa_ledger.specs.Calls.{PlainCall, operation}
+use Rattle.fa_ledger.specs.Operations.{PlainList, PlainOperation, bare}
+use Rattle.fa_ledger.specs.Operations.PlainOperation.{Lists}
+use Rattle.fa_tree.specs.State.{Store, OpenDirectory, TreeState, IsDirectory, node_cmp}
+use Rattle.fa_tree.specs.Resolved.{Resolved, resolved}
+use Rattle.fa_tree.specs.Rules.{HasCause}
+use Rattle.fa_tree.specs.Opening.{directory_rule}
+use Rattle.fa_tree.specs.Directories.{judged, IsTypedIfLookedUp, IsListed, EntriesAre}
+use Rattle.fa_tree.specs.Bindings.{AreBound, nodes_after}
+use Rattle.fa_tree.specs.Operations.{count_written}
 use Rattle.fa_tree.specs.declared.error.StepError.{StepError}
 use Rattle.fa_tree.specs.declared.error.StepError.TheVariants.{Refused, Memory}
-use Rattle.fa_capture.specs.declared.codes.TheConstants.{UNKNOWN_HERE, SUCCESS_NOT_ALLOWED}
-use Rattle.fa_tree.specs.Steps.{Setting, setting, outcome_checks, checks_of_files, step_checks, tree_changed, noted, tree_after, Steps}
-use Rattle.fa_tree.specs.Refusals.{MayGrow, MayTakeMemory, TellsOf}
-use Rattle.fa_tree.proofs.ChangeLemmas.{reading_changes_nothing}
+use Rattle.fa_tree.specs.Steps.{names_given, setting, given_in, operation_checks, checks_of_files, checks_of, step_checks, tree_after, Steps}
+use Rattle.fa_tree.specs.Refusals.{DoneAnd, TellsBy, TellsOf}
 use Rattle.fa_tree.proofs.ChangedLemmas.{stays_open}
+use Rattle.fa_tree.proofs.BindingLemmas.{bound_to_none}
+use Rattle.fa_tree.proofs.OutcomeLemmas.{none_bound}
 use Rattle.fa_tree.specs.parts.StoredParts.{StoredShown}
-use Rattle.fa_tree.specs.parts.ListingParts.{Lists, settled, entries_checks, given_by, TellsSuch}
+use Rattle.fa_tree.specs.parts.ListingParts.{settled, entries_checks, TellsSuch}
 
-pub entries_still : {E : Type 0} (r : Result Bool E) (t u : TreeState) → t ≡ u → (asked : Option ℕ) (size : ℕ) (h : OpenDirectory)
-    (of : Option Listing) (listing : Listing) (so_far entries : List PlainDirent) → asked ≡ Some size → of ≡ Some listing
+pub entries_still : {E : Type 0} (r : Result Bool E) (t u : TreeState) → t ≡ u → (size : ℕ) (h : OpenDirectory)
+    (of : Option Listing) (listing : Listing) (so_far entries : List PlainDirent) → of ≡ Some listing
     → IfOk r (λ is. IsTrue is ↔ IsListed t.store h listing size so_far entries)
-    → IfOk r (λ is. IsTrue is ↔ EntriesAre u.store asked (Some h) of so_far entries)
-entries_still r t u same asked size h of listing so_far entries is also told =
-    rw (is, also) (subst (λ (v : TreeState). IfOk r (λ b. IsTrue b ↔ IsListed v.store h listing size so_far entries)) same told)
+    → IfOk r (λ is. IsTrue is ↔ EntriesAre u.store size (Some h) of so_far entries)
+entries_still r t u same size h of listing so_far entries also told =
+    rw (also) (subst (λ (v : TreeState). IfOk r (λ b. IsTrue b ↔ IsListed v.store h listing size so_far entries)) same told)
 
 pub types_still : (t u : TreeState) → t ≡ u → (directory : ℕ) (entries : List PlainDirent) (b : Bool)
     → IsTrue b ↔ All (IsTypedIfLookedUp t.store directory) (judged entries) → IsTrue b ↔ All (IsTypedIfLookedUp u.store directory) (judged entries)
 types_still t u same directory entries b told =
     subst (λ (v : TreeState). IsTrue b ↔ All (IsTypedIfLookedUp v.store directory) (judged entries)) same told
 
--- a request that lists is answered by a listing, and by no other success
-pub listing_answers : (body : PlainBody) (entries : List PlainDirent) → Lists body → IsAnswerTo body (Listed entries)
-listing_answers (Readdir r) entries lists = tt
-listing_answers (Readdirplus r) entries lists = tt
-listing_answers other entries lists = absurd lists
+-- ---- the checks of a call that lists, by what came of it
 
--- the question of a body
-abbrev asked_of : Question → PlainBody → Question
-asked_of q body = record { body = body; direct = q.direct; truncates = q.truncates; listing = q.listing }
+module _ (nodes : FinMap node_cmp ℕ) (s : Store) (x : Resolved) (call : PlainCall) (so_far : List PlainDirent) where
+  -- the checks of a list with this size, of which this came
+  abbrev checks : (size : ℕ) → Outcome (List PlainDirent) → List (ℕ × Type 0)
+  checks size o = operation_checks nodes (settled s x call.listing so_far) call (Lists (record { size = size; outcome = o }))
 
--- an answer with another reply
-abbrev replied : PlainAnswer → PlainReply → PlainAnswer
-replied answer reply = record { at = answer.at; reply = reply; given = answer.given; opens = answer.opens }
+  -- the names that come with it
+  abbrev names : (size : ℕ) → Outcome (List PlainDirent) → List (NodeName × ℕ)
+  names size o = given_in (settled s x call.listing so_far) call (Lists (record { size = size; outcome = o }))
 
-module _ (nodes : FinMap node_cmp ℕ) (s : Store) (x : Resolved) (so_far : List PlainDirent) (entries : List PlainDirent) where
-  hold_by : (q : Question) (answer : PlainAnswer) (body : PlainBody) → Lists body → AllHold (entries_checks nodes s x (asked_of q body) so_far answer.given entries)
-      → AllHold (outcome_checks nodes (settled s x (asked_of q body) so_far) (Succeeds (replied answer (Listed entries))))
-  hold_by q answer (Readdir r) lists hold = ((hold.0, tt, tt), (tt, (hold.1.0, (hold.1.1.0, (tt, (hold.1.1.1.0, tt))))))
-  hold_by q answer (Readdirplus r) lists hold = ((hold.0, tt, tt), (tt, (hold.1.0, (hold.1.1.0, (tt, (hold.1.1.1.0, tt))))))
-  hold_by q answer other lists hold = absurd lists
+  module _ (size : ℕ) (o : Outcome (List PlainDirent)) where
+    module _ (entries : List PlainDirent) (is : o ≡ Succeeds entries) where
+      -- entries hold where their checks do
+      pub entries_hold : AllHold (entries_checks nodes s x call.listing size so_far (names_given call) entries) → AllHold (checks size o)
+      entries_hold hold =
+          subst (λ (w : Outcome (List PlainDirent)). AllHold (checks size w)) (sym is)
+          ((hold.0, tt), (tt, (hold.1.0, (hold.1.1.0, (tt, (hold.1.1.1.0, tt))))))
 
-  fail_by : (q : Question) (answer : PlainAnswer) (body : PlainBody) (code : ℕ) → Lists body → FirstFailure (entries_checks nodes s x (asked_of q body) so_far answer.given entries) code
-      → FirstFailure (outcome_checks nodes (settled s x (asked_of q body) so_far) (Succeeds (replied answer (Listed entries)))) code
-  fail_by q answer (Readdir r) code lists (inl (not, is)) = inl ((λ all. not all.0), is)
-  fail_by q answer (Readdir r) code lists (inr (done, inl (not, is))) = inr ((done, tt, tt), inr (tt, inl (not, is)))
-  fail_by q answer (Readdir r) code lists (inr (done, inr (typed, inl (not, is)))) = inr ((done, tt, tt), inr (tt, inr (typed, inl (not, is))))
-  fail_by q answer (Readdir r) code lists (inr (done, inr (typed, inr (may, inl (not, is))))) = inr ((done, tt, tt), inr (tt, inr (typed, inr (may, inr (tt, inl (not, is))))))
-  fail_by q answer (Readdir r) code lists (inr (done, inr (typed, inr (may, inr (listed, none))))) = absurd none
-  fail_by q answer (Readdirplus r) code lists (inl (not, is)) = inl ((λ all. not all.0), is)
-  fail_by q answer (Readdirplus r) code lists (inr (done, inl (not, is))) = inr ((done, tt, tt), inr (tt, inl (not, is)))
-  fail_by q answer (Readdirplus r) code lists (inr (done, inr (typed, inl (not, is)))) = inr ((done, tt, tt), inr (tt, inr (typed, inl (not, is))))
-  fail_by q answer (Readdirplus r) code lists (inr (done, inr (typed, inr (may, inl (not, is))))) = inr ((done, tt, tt), inr (tt, inr (typed, inr (may, inr (tt, inl (not, is))))))
-  fail_by q answer (Readdirplus r) code lists (inr (done, inr (typed, inr (may, inr (listed, none))))) = absurd none
-  fail_by q answer other code lists failure = absurd lists
+      entries_fail_by : (code : ℕ) → FirstFailure (entries_checks nodes s x call.listing size so_far (names_given call) entries) code → FirstFailure (checks size (Succeeds entries)) code
+      entries_fail_by code (inl (not, told)) = inl ((λ all. not all.0), told)
+      entries_fail_by code (inr (done, inl first)) = inr ((done, tt), inr (tt, inl first))
+      entries_fail_by code (inr (done, inr (typed, inl first))) = inr ((done, tt), inr (tt, inr (typed, inl first)))
+      entries_fail_by code (inr (done, inr (typed, inr (may, inl first)))) = inr ((done, tt), inr (tt, inr (typed, inr (may, inr (tt, inl first)))))
+      entries_fail_by code (inr (done, inr (typed, inr (may, inr (listed, none))))) = absurd none
 
-  -- the checks of an outcome that is a listing hold where those of its entries do
-  pub entries_hold : (q : Question) (answer : PlainAnswer) → Lists q.body → answer.reply ≡ Listed entries → AllHold (entries_checks nodes s x q so_far answer.given entries)
-      → AllHold (outcome_checks nodes (settled s x q so_far) (Succeeds answer))
-  entries_hold q answer lists is hold =
-      subst (λ reply. AllHold (outcome_checks nodes (settled s x q so_far) (Succeeds (replied answer reply)))) (sym is) (hold_by q answer q.body lists hold)
+      -- and fail where one of these does
+      pub entries_fail : (code : ℕ) → FirstFailure (entries_checks nodes s x call.listing size so_far (names_given call) entries) code → FirstFailure (checks size o) code
+      entries_fail code failure =
+          subst (λ (w : Outcome (List PlainDirent)). FirstFailure (checks size w) code) (sym is) (entries_fail_by code failure)
 
-  -- and where one of these fails first, that one does
-  pub entries_fail : (q : Question) (answer : PlainAnswer) (code : ℕ) → Lists q.body → answer.reply ≡ Listed entries
-      → FirstFailure (entries_checks nodes s x q so_far answer.given entries) code → FirstFailure (outcome_checks nodes (settled s x q so_far) (Succeeds answer)) code
-  entries_fail q answer code lists is failure =
-      subst (λ reply. FirstFailure (outcome_checks nodes (settled s x q so_far) (Succeeds (replied answer reply))) code) (sym is) (fail_by q answer q.body code lists failure)
+      pub entries_grow : DoneAnd (bare o) (Unit {0})
+      entries_grow = subst (λ (w : Outcome (List PlainDirent)). DoneAnd (bare w) (Unit {0})) (sym is) tt
 
--- a success that is no listing answers no request that lists
-pub no_listing : (body : PlainBody) (reply : PlainReply) → Lists body → ((entries : List PlainDirent) → reply ≡ Listed entries → ⊥) → IsAnswerTo body reply → ⊥
-no_listing (Readdir r) (Listed entries) lists not answers = not entries refl
-no_listing (Readdir r) other lists not answers = answers
-no_listing (Readdirplus r) (Listed entries) lists not answers = not entries refl
-no_listing (Readdirplus r) other lists not answers = answers
-no_listing other reply lists not answers = lists
+    -- an error
+    module _ (error : ℤ) (is : o ≡ Fails error) where
+      pub error_holds : HasCause (directory_rule s x.node) error → AllHold (checks size o)
+      error_holds caused =
+          subst (λ (w : Outcome (List PlainDirent)). AllHold (checks size w)) (sym is)
+          (tt, (caused, (tt, (subst (AreBound nodes) (sym (bound_to_none (names_given call))) (none_bound nodes), (tt, (tt, tt))))))
+
+      pub error_fails : (HasCause (directory_rule s x.node) error → ⊥) → FirstFailure (checks size o) ERROR_WITHOUT_CAUSE
+      error_fails not =
+          subst (λ (w : Outcome (List PlainDirent)). FirstFailure (checks size w) ERROR_WITHOUT_CAUSE) (sym is) (inr (tt, inl (not, refl)))
+
+      pub error_gives : names size o ≡ []
+      error_gives = ap (names size) is ∙ bound_to_none (names_given call)
+
+    -- no answer
+    module _ (is : o ≡ Unanswered) where
+      pub unanswered_holds : IsDirectory s x.node → AllHold (checks size o)
+      unanswered_holds may =
+          subst (λ (w : Outcome (List PlainDirent)). AllHold (checks size w)) (sym is)
+          ((may, tt), (tt, (tt, (subst (AreBound nodes) (sym (bound_to_none (names_given call))) (none_bound nodes), (tt, (tt, tt))))))
+
+      pub unanswered_fails : (IsDirectory s x.node → ⊥) → FirstFailure (checks size o) SUCCESS_NOT_ALLOWED
+      unanswered_fails not =
+          subst (λ (w : Outcome (List PlainDirent)). FirstFailure (checks size w) SUCCESS_NOT_ALLOWED) (sym is) (inl ((λ all. not all.0), refl))
+
+      pub unanswered_gives : names size o ≡ []
+      unanswered_gives = ap (names size) is ∙ bound_to_none (names_given call)
+
+    -- what gives names may take memory
+    pub giving_may_grow : (items : List (NodeName × ℕ)) → items ≡ names size o → (items ≡ [] → ⊥) → DoneAnd (bare o) (Unit {0})
+    giving_may_grow items are some = by o refl
+      where
+        by : (w : Outcome (List PlainDirent)) → o ≡ w → DoneAnd (bare w) (Unit {0})
+        by (Fails error) fails = absurd (some (are ∙ error_gives error fails))
+        by (Succeeds entries) succeeds = tt
+        by Unanswered none = tt
 
 -- ---- refusals
 
@@ -110,97 +123,60 @@ pub such_also : (e : StepError) (P Q : ℕ → Type 0) (may_come may : Type 0) �
 such_also (Refused code) P Q may_come may so grows holds = so code holds
 such_also Memory P Q may_come may so grows holds = grows holds
 
--- a success of a request that lists may take memory, and so may its step unanswered
-lists_grow : (body : PlainBody) → Lists body → MayGrow body
-lists_grow (Readdir r) lists = tt
-lists_grow (Readdirplus r) lists = tt
-lists_grow other lists = absurd lists
-
-pub listing_grows : (o : Outcome) (answer : PlainAnswer) (body : PlainBody) → o ≡ Succeeds answer → Lists body → MayTakeMemory o body
-listing_grows o answer body is lists = subst (λ w. MayTakeMemory w body) (sym is) (lists_grow body lists)
-
--- an unanswered request that may not be done
-pub unanswered_fails : (nodes : FinMap node_cmp ℕ) (s : Store) (x : Resolved) (q : Question) (so_far : List PlainDirent) (o : Outcome) → o ≡ Unanswered
-    → (MayBeDone s x q.body → ⊥) → FirstFailure (outcome_checks nodes (settled s x q so_far) o) SUCCESS_NOT_ALLOWED
-unanswered_fails nodes s x q so_far o is not =
-    subst (λ w. FirstFailure (outcome_checks nodes (settled s x q so_far) w) SUCCESS_NOT_ALLOWED) (sym is) (inl (not, refl))
-
--- the checks of an outcome that is this success
-pub success_fails : (nodes : FinMap node_cmp ℕ) (s : Store) (x : Resolved) (q : Question) (so_far : List PlainDirent) (o : Outcome) (answer : PlainAnswer) (code : ℕ)
-    → o ≡ Succeeds answer → FirstFailure (outcome_checks nodes (settled s x q so_far) (Succeeds answer)) code
-    → FirstFailure (outcome_checks nodes (settled s x q so_far) o) code
-success_fails nodes s x q so_far o answer code is failure =
-    subst (λ w. FirstFailure (outcome_checks nodes (settled s x q so_far) w) code) (sym is) failure
-
 -- ---- the step
-
--- a request that lists reads
-lists_reading : (body : PlainBody) → Lists body → IsReadingRequest body
-lists_reading (Readdir r) lists = tt
-lists_reading (Readdirplus r) lists = tt
-lists_reading other lists = absurd lists
-
--- and tells where it begins
-pub lists_offset : (body : PlainBody) → Lists body → offset_asked body ≡ None → ⊥
-lists_offset (Readdir r) lists none = cc
-lists_offset (Readdirplus r) lists none = cc
-lists_offset other lists none = lists
-
--- so the store is judged as it is
-pub settles : (s : Store) (x : Resolved) (q : Question) (count : ℕ) (so_far : List PlainDirent) → Lists q.body → settled s x q so_far ≡ setting s x q count so_far
-settles s x q count so_far lists =
-    let judged_by : Store → Setting = λ after. record { before = s; after = after; files = x; question = q; so_far = so_far } in
-    ap judged_by (sym (reading_changes_nothing s x q count (lists_reading q.body lists)))
-
--- a refusal by the checks of an outcome is one by those of the call
-pub refused_by : (e : StepError) (t : TreeState) (call : PlainCall) (wrote : Option ℕ) (so_far : List PlainDirent) (x : Resolved) → Lists call.request.body
-    → resolved t call ≡ Some x
-    → TellsSuch e (FirstFailure (outcome_checks t.nodes (settled t.store x (question call) so_far) (outcome call))) (MayTakeMemory (outcome call) call.request.body)
-    → TellsOf e call (step_checks t call wrote so_far)
-refused_by (Refused code) t call wrote so_far x lists is failure =
-    subst (λ files. FirstFailure (checks_of_files t call (count_written call wrote) so_far files) code) (sym is)
-    (inr (tt, subst (λ g. FirstFailure (outcome_checks t.nodes g (outcome call)) code) (settles t.store x (question call) (count_written call wrote) so_far lists) failure))
-refused_by Memory t call wrote so_far x lists is may = (may, λ none. absurd (lists_offset call.request.body lists none))
-
--- a call that names what the tree does not know
-pub unknown_by : (t : TreeState) (call : PlainCall) (wrote : Option ℕ) (so_far : List PlainDirent) → resolved t call ≡ None
-    → FirstFailure (step_checks t call wrote so_far) UNKNOWN_HERE
-unknown_by t call wrote so_far is =
-    subst (λ files. FirstFailure (checks_of_files t call (count_written call wrote) so_far files) UNKNOWN_HERE) (sym is) (inl ((λ none. none), refl))
 
 -- the tree after a call that lists, with the names of nodes that come with it
 abbrev pub listed_after : TreeState → List (NodeName × ℕ) → TreeState
 listed_after t given = record { store = t.store; nodes = nodes_after given t.nodes; handles = t.handles }
 
-listed_by : (t : TreeState) (x : Resolved) (q : Question) (count : ℕ) (asked : ℕ) (answer : PlainAnswer) (body : PlainBody) → Lists body
-    → noted (tree_changed t x (asked_of q body) count) x body asked answer ≡ listed_after t (given_in t.store x body answer)
-listed_by t x q count asked answer (Readdir r) lists = let kept = stays_open t.handles in λ i. record { store = t.store; nodes = nodes_after (given_in t.store x (Readdir r) answer) t.nodes; handles = kept i }
-listed_by t x q count asked answer (Readdirplus r) lists = let kept = stays_open t.handles in λ i. record { store = t.store; nodes = nodes_after (given_in t.store x (Readdirplus r) answer) t.nodes; handles = kept i }
-listed_by t x q count asked answer other lists = absurd lists
+after_by : (t : TreeState) (x : Resolved) (call : PlainCall) (l : PlainList) (count : ℕ) (so_far : List PlainDirent)
+    → tree_after t x call (Lists l) count ≡ listed_after t (given_in (settled t.store x call.listing so_far) call (Lists l))
+after_by t x call l count so_far = by l.outcome
+  where
+    of : Outcome (List PlainDirent) → PlainOperation
+    of o = Lists (record { size = l.size; outcome = o })
 
-placed_by : (t : TreeState) (x : Resolved) (q : Question) (count : ℕ) (body : PlainBody) → Lists body → tree_changed t x (asked_of q body) count ≡ t
-placed_by t x q count (Readdir r) lists = let kept = stays_open t.handles in λ i. record { store = t.store; nodes = t.nodes; handles = kept i }
-placed_by t x q count (Readdirplus r) lists = let kept = stays_open t.handles in λ i. record { store = t.store; nodes = t.nodes; handles = kept i }
-placed_by t x q count other lists = absurd lists
+    by : (o : Outcome (List PlainDirent)) → tree_after t x call (of o) count ≡ listed_after t (given_in (settled t.store x call.listing so_far) call (of o))
+    by (Fails error) = ap (listed_after t) (sym (bound_to_none (names_given call)))
+    by (Succeeds entries) = λ i. record { store = t.store; nodes = nodes_after (given_in (settled t.store x call.listing so_far) call (of (Succeeds entries))) t.nodes; handles = stays_open t.handles i }
+    by Unanswered = λ i. record { store = t.store; nodes = nodes_after (given_in (settled t.store x call.listing so_far) call (of Unanswered)) t.nodes; handles = stays_open t.handles i }
 
-after_by : (t : TreeState) (x : Resolved) (call : PlainCall) (count : ℕ) (o : Outcome) → Lists call.request.body
-    → tree_after t x call count o ≡ listed_after t (given_by t.store x call.request.body o)
-after_by t x call count (Fails error) lists = refl
-after_by t x call count (Succeeds answer) lists = listed_by t x (question call) count call.asked answer call.request.body lists
-after_by t x call count Unanswered lists = placed_by t x (question call) count call.request.body lists
+module _ (t : TreeState) (call : PlainCall) (l : PlainList) (asks : operation call ≡ Some (Lists l)) (wrote : Option ℕ) (so_far : List PlainDirent) where
+  -- a call that lists leaves the store, so it is judged as it is
+  judged_so : (x : Resolved) → AllHold (operation_checks t.nodes (settled t.store x call.listing so_far) call (Lists l))
+      → AllHold (operation_checks t.nodes (setting t.store x call (Lists l) (count_written (Lists l) wrote) so_far) call (Lists l))
+  judged_so x hold = hold
 
--- a call that lists leads from one tree to another
-pub lists_to : (old new : TreeState) (call : PlainCall) (wrote : Option ℕ) (so_far : List PlainDirent) (x : Resolved) (given : List (NodeName × ℕ)) → Lists call.request.body
-    → resolved old call ≡ Some x → AllHold (outcome_checks old.nodes (settled old.store x (question call) so_far) (outcome call))
-    → given ≡ given_by old.store x call.request.body (outcome call) → new ≡ listed_after old given → Steps old new call wrote so_far
-lists_to old new call wrote so_far x given lists is hold comes left = record {
-  allowed =
-      subst (λ files. AllHold (checks_of_files old call (count_written call wrote) so_far files)) (sym is)
-      (tt, subst (λ g. AllHold (outcome_checks old.nodes g (outcome call))) (settles old.store x (question call) (count_written call wrote) so_far lists) hold);
-  files = x;
-  named = is;
-  after = left ∙ ap (listed_after old) comes ∙ sym (after_by old x call (count_written call wrote) (outcome call) lists);
-}
+  -- a refusal by the checks of what it lists is one by those of the call
+  pub refused_by : (e : StepError) (x : Resolved) → resolved t call ≡ Some x
+      → TellsSuch e (FirstFailure (operation_checks t.nodes (settled t.store x call.listing so_far) call (Lists l))) (DoneAnd (bare l.outcome) (Unit {0}))
+      → TellsOf e call (step_checks t call wrote so_far)
+  refused_by (Refused code) x is failure =
+      subst (λ (o : Option PlainOperation). FirstFailure (checks_of t call wrote so_far o) code) (sym asks)
+      (subst (λ (files : Option Resolved). FirstFailure (checks_of_files t call (Lists l) (count_written (Lists l) wrote) so_far files) code) (sym is) (inr (tt, failure)))
+  refused_by Memory x is may =
+      subst (λ (o : Option PlainOperation). TellsBy Memory o (step_checks t call wrote so_far)) (sym asks) may
+
+  -- a call that names what the tree does not know
+  pub unknown_by : resolved t call ≡ None → FirstFailure (step_checks t call wrote so_far) UNKNOWN_HERE
+  unknown_by is =
+      subst (λ (o : Option PlainOperation). FirstFailure (checks_of t call wrote so_far o) UNKNOWN_HERE) (sym asks)
+      (subst (λ (files : Option Resolved). FirstFailure (checks_of_files t call (Lists l) (count_written (Lists l) wrote) so_far files) UNKNOWN_HERE) (sym is) (inl ((λ none. none), refl)))
+
+  -- a call that lists leads from one tree to another
+  pub lists_to : (new : TreeState) (x : Resolved) (given : List (NodeName × ℕ)) → resolved t call ≡ Some x
+      → AllHold (operation_checks t.nodes (settled t.store x call.listing so_far) call (Lists l))
+      → given ≡ given_in (settled t.store x call.listing so_far) call (Lists l) → new ≡ listed_after t given → Steps t new call wrote so_far
+  lists_to new x given is hold comes left = record {
+    allowed =
+        subst (λ (o : Option PlainOperation). AllHold (checks_of t call wrote so_far o)) (sym asks)
+        (subst (λ (files : Option Resolved). AllHold (checks_of_files t call (Lists l) (count_written (Lists l) wrote) so_far files)) (sym is) (tt, judged_so x hold));
+    asks = Lists l;
+    is = asks;
+    files = x;
+    named = is;
+    after = left ∙ ap (listed_after t) comes ∙ sym (after_by t x call l (count_written (Lists l) wrote) so_far);
+  }
 
 -- names of nodes that are bound in the tree's fields are bound in the tree
 pub bound_tree : (old : TreeState) (stored : StoredShown) (before between nodes : FinMap node_cmp ℕ) (given items : List (NodeName × ℕ))
@@ -209,13 +185,6 @@ pub bound_tree : (old : TreeState) (stored : StoredShown) (before between nodes 
 bound_tree old stored before between nodes given items same kept all now =
     subst (λ (v : TreeState). ◌≡◌ {A = TreeState} (record { store = stored.store; nodes = nodes; handles = stored.handles }) (listed_after v items)) same
     (rw (now, kept, all) refl)
-
--- what gives names of nodes may take memory
-pub giving_may_grow : (s : Store) (x : Resolved) (body : PlainBody) (o : Outcome) (items : List (NodeName × ℕ)) → Lists body → items ≡ given_by s x body o → (items ≡ [] → ⊥)
-    → MayTakeMemory o body
-giving_may_grow s x body (Fails error) items lists is some = absurd (some is)
-giving_may_grow s x body (Succeeds answer) items lists is some = lists_grow body lists
-giving_may_grow s x body Unanswered items lists is some = lists_grow body lists
 
 -- a list of some length
 pub some_of : {X : Type 0} (xs : List X) (n : ℕ) → n ≡ length xs → (n == 0) ≡ false → xs ≡ [] → ⊥
@@ -226,3 +195,8 @@ some_of (x ∷ xs) n all is none = absurd cc
 pub none_of : {X : Type 0} (xs : List X) (n : ℕ) → n ≡ length xs → (n == 0) ≡ true → xs ≡ []
 none_of [] n all is = refl
 none_of (x ∷ xs) n all is = let zero_is : n ≡ 0 = eqb-true n 0 is in absurd (omega (arith, all, zero_is))
+
+-- what holds of what was answered
+pub each_ok : {A E : Type 0} (r : Result A E) (P Q : A → Type 0) → ((a : A) → P a → Q a) → IfOk r P → IfOk r Q
+each_ok (Ok a) P Q so holds = so a holds
+each_ok (Err e) P Q so holds = tt

@@ -8,21 +8,22 @@ use Rattle.std.proofs.lemmas.Option.{same_Some}
 use Rattle.fa_capture.specs.Checks.{AllHold}
 use Rattle.fa_capture.proofs.CallerLemmas.{contains_first, contains_behind}
 use Rattle.fa_bodies.specs.Dirents.{PlainDirent}
-use Rattle.fa_bodies.specs.Requests.PlainBody.{Lookup, Getattr, Readlink, Read, Opendir, Readdir, Readdirplus}
 use Rattle.fa_ledger.specs.declared.name.NodeName.{NodeName}
-use Rattle.fa_ledger.specs.Calls.{PlainAnswer, PlainCall}
+use Rattle.fa_ledger.specs.declared.operation.Outcome.{Outcome}
+use Rattle.fa_ledger.specs.declared.operation.Outcome.TheVariants.{Fails, Succeeds, Unanswered}
+use Rattle.fa_ledger.specs.Calls.{PlainCall}
+use Rattle.fa_ledger.specs.Operations.{PlainOperation, ended}
 use Rattle.fa_tree.specs.State.{TreeState, node_cmp}
-use Rattle.fa_tree.specs.Resolved.{Resolved, question}
+use Rattle.fa_tree.specs.Resolved.{Resolved}
+use Rattle.fa_tree.specs.Operations.{count_written}
 use Rattle.fa_tree.specs.Edits.{open_after}
-use Rattle.fa_tree.specs.Changes.{edits, changed}
-use Rattle.fa_tree.specs.Bindings.{AreBound, nodes_after, given_in}
-use Rattle.fa_tree.specs.Outcomes.{Outcome, outcome, count_written}
-use Rattle.fa_tree.specs.Outcomes.Outcome.{Fails, Succeeds, Unanswered}
-use Rattle.fa_tree.specs.Steps.{tree_after, setting, outcome_checks, checks_of_files, Steps}
-use Rattle.fa_tree.specs.Laws.{ReadingEditsNothing, WithoutEditsOpenStays, EachOpenByItself, NamesKeepFiles, GivenNamesStand}
+use Rattle.fa_tree.specs.Bindings.{AreBound, nodes_after}
+use Rattle.fa_tree.specs.Steps.{setting, given_in, operation_checks, checks_of_files, checks_of, tree_done, tree_by, Steps}
+use Rattle.fa_tree.specs.Laws.{WithoutEditsOpenStays, EachOpenByItself, NamesKeepFiles, GivenNamesStand}
 use Rattle.fa_tree.proofs.NodeLemmas.{node_total, name_same}
 use Rattle.fa_tree.proofs.NameLemmas.{get-each_open}
 use Rattle.fa_tree.proofs.ChangedLemmas.{stays_open}
+use Rattle.fa_tree.proofs.OutcomeLemmas.{errors_give_nothing, given_whatever}
 
 -- ---- names of nodes
 
@@ -78,52 +79,57 @@ given_stands (one ∷ given) nodes may name file (suc k, within, is) =
 -- ---- over a step
 
 module _ (old new : TreeState) (call : PlainCall) (wrote : Option ℕ) (so_far : List PlainDirent) (s : Steps old new call wrote so_far) where
-  -- the checks of its outcome hold
-  pub outcome_holds : AllHold (outcome_checks old.nodes (setting old.store s.files (question call) (count_written call wrote) so_far) (outcome call))
-  outcome_holds =
-      (let both : AllHold (checks_of_files old call (count_written call wrote) so_far (Some s.files)) =
-      subst (λ (files : Option Resolved). AllHold (checks_of_files old call (count_written call wrote) so_far files)) s.named s.allowed in both.1)
+  -- the checks of its operation hold
+  pub checks_hold : AllHold (operation_checks old.nodes (setting old.store s.files call s.asks (count_written s.asks wrote) so_far) call s.asks)
+  checks_hold =
+      let of_files : AllHold (checks_of_files old call s.asks (count_written s.asks wrote) so_far (Some s.files)) =
+      subst (λ (files : Option Resolved). AllHold (checks_of_files old call s.asks (count_written s.asks wrote) so_far files)) s.named
+      (subst (λ (o : Option PlainOperation). AllHold (checks_of old call wrote so_far o)) s.is s.allowed) in of_files.1
+
+  -- the names that it gives, each with its file
+  abbrev pub given : List (NodeName × ℕ)
+  given = given_in (setting old.store s.files call s.asks (count_written s.asks wrote) []) call s.asks
+
+  -- they may be given
+  pub may_be_given : AreBound old.nodes given
+  may_be_given = subst (AreBound old.nodes) (given_whatever old.store s.files call s.asks (count_written s.asks wrote) so_far) checks_hold.1.1.1.0
 
   -- what was known stays so
-  keeps : (o : Outcome) → AllHold (outcome_checks old.nodes (setting old.store s.files (question call) (count_written call wrote) so_far) o)
-      → NodesWithin old.nodes (tree_after old s.files call (count_written call wrote) o).nodes
-  keeps (Fails error) hold = λ name file is. is
-  keeps (Succeeds answer) hold =
-      nodes_grown (given_in (changed old.store s.files (question call) (count_written call wrote)) s.files call.request.body answer) old.nodes hold.1.1.1.0
-  keeps Unanswered hold = λ name file is. is
+  keeps : (e : Outcome (Unit {0})) → NodesWithin old.nodes (tree_by old (tree_done old s.files call s.asks (count_written s.asks wrote)) e).nodes
+  keeps (Fails error) = λ name file is. is
+  keeps (Succeeds success) =
+      nodes_grown given old.nodes may_be_given
+  keeps Unanswered =
+      nodes_grown given old.nodes may_be_given
 
   step_keeps : NodesWithin old.nodes new.nodes
-  step_keeps = subst (λ (t : TreeState). NodesWithin old.nodes t.nodes) (sym s.after) (keeps (outcome call) outcome_holds)
-
-  -- and what a success gives stands
-  step_gives : (answer : PlainAnswer) → outcome call ≡ Succeeds answer → (name : NodeName) (file : ℕ) → Contains (given_in new.store s.files call.request.body answer) (name, file)
-      → get new.nodes name ≡ Some file
-  step_gives answer success name file has =
-      let after : new ≡ tree_after old s.files call (count_written call wrote) (Succeeds answer) = s.after ∙ ap (tree_after old s.files call (count_written call wrote)) success in
-      let hold : AllHold (outcome_checks old.nodes (setting old.store s.files (question call) (count_written call wrote) so_far) (Succeeds answer)) =
-      subst (λ (o : Outcome). AllHold (outcome_checks old.nodes (setting old.store s.files (question call) (count_written call wrote) so_far) o)) success outcome_holds in
-      let there : Contains (given_in (changed old.store s.files (question call) (count_written call wrote)) s.files call.request.body answer) (name, file) =
-      subst (λ (t : TreeState). Contains (given_in t.store s.files call.request.body answer) (name, file)) after has in
-      subst (λ (t : TreeState). get t.nodes name ≡ Some file) (sym after)
-      (given_stands (given_in (changed old.store s.files (question call) (count_written call wrote)) s.files call.request.body answer) old.nodes hold.1.1.1.0 name file there)
+  step_keeps = subst (λ (t : TreeState). NodesWithin old.nodes t.nodes) (sym s.after) (keeps (ended s.asks))
 
 pub names_keep_files : NamesKeepFiles
 names_keep_files old new call wrote so_far name file s is = step_keeps old new call wrote so_far s name file is
 
+-- where it did not fail, each name that is given stands for its file; an error gives none
 pub given_names_stand : GivenNamesStand
-given_names_stand old new call wrote so_far answer s success name file has = step_gives old new call wrote so_far s answer success name file has
+given_names_stand old new call wrote so_far s name file has =
+    subst (λ (t : TreeState). get t.nodes name ≡ Some file) (sym s.after) (by (ended s.asks) refl)
+  where
+    count : ℕ
+    count = count_written s.asks wrote
+
+    stands : get (tree_done old s.files call s.asks count).nodes name ≡ Some file
+    stands =
+        given_stands (given old new call wrote so_far s) old.nodes (may_be_given old new call wrote so_far s) name file
+        (subst (λ (these : List (NodeName × ℕ)). Contains these (name, file)) (given_whatever old.store s.files call s.asks count so_far) has)
+
+    by : (e : Outcome (Unit {0})) → ended s.asks ≡ e → get (tree_by old (tree_done old s.files call s.asks count) e).nodes name ≡ Some file
+    by (Fails error) fails =
+        let none = errors_give_nothing (setting old.store s.files call s.asks count so_far) call s.asks error fails in
+        let nowhere : Contains [] (name, file) = subst (λ (given : List (NodeName × ℕ)). Contains given (name, file)) none has in
+        absurd (omega (arith, nowhere.1))
+    by (Succeeds success) is = stands
+    by Unanswered is = stands
 
 -- ---- open directories
-
-pub reading_edits_nothing : ReadingEditsNothing
-reading_edits_nothing s x (Lookup name) reads = refl
-reading_edits_nothing s x (Getattr g) reads = refl
-reading_edits_nothing s x Readlink reads = refl
-reading_edits_nothing s x (Read r) reads = refl
-reading_edits_nothing s x (Opendir o) reads = refl
-reading_edits_nothing s x (Readdir r) reads = refl
-reading_edits_nothing s x (Readdirplus r) reads = refl
-reading_edits_nothing s x other reads = absurd reads
 
 pub without_edits_open_stays : WithoutEditsOpenStays
 without_edits_open_stays handles = stays_open handles

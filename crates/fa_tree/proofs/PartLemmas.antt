@@ -1,6 +1,6 @@
 -- Two trees of which one is a part of the other: the same store; no name of a node but what the whole has; and of the handles that are
 -- kept the same state. A step of the whole is one of the part, and so is it without its answer where the change stays.
-use Rattle.std.proofs.Common.{◌≡◌, ℕ, Bool, true, false, cond, List, [], ◌∷◌, Option, None, Some, refl, sym, ap, subst, ◌∙◌}
+use Rattle.std.proofs.Common.{◌≡◌, ℕ, ℤ, Bool, true, false, cond, List, [], ◌∷◌, Option, None, Some, refl, sym, ap, subst, ◌∙◌}
 use Rattle.std.specs.Prelude.{option_map, option_and_then}
 use Rattle.std.specs.Cmp.{nat_cmp_total}
 use Rattle.std.specs.Ordering.{nat_cmp, eq_by_cmp, is_eq}
@@ -10,29 +10,29 @@ use Rattle.std.specs.FinMap.{FinMap, get, insert, get-insert, nat_cmp-IsAntisymm
 use Rattle.std.proofs.lemmas.Option.{same_Some}
 use Rattle.fa_capture.specs.Checks.{AllHold}
 use Rattle.fa_bodies.specs.Dirents.{PlainDirent}
-use Rattle.fa_bodies.specs.Requests.{PlainBody}
-use Rattle.fa_bodies.specs.Requests.PlainBody.{Opendir}
 use Rattle.fa_ledger.specs.declared.call.Listing.{Listing}
 use Rattle.fa_ledger.specs.declared.name.NodeName.{NodeName}
 use Rattle.fa_ledger.specs.declared.name.NodeName.TheVariants.{Root, Given}
-use Rattle.fa_ledger.specs.Calls.{PlainAnswer, PlainCall}
-use Rattle.fa_ledger.specs.Kinds.{IsReadingRequest}
+use Rattle.fa_ledger.specs.declared.operation.Outcome.{Outcome}
+use Rattle.fa_ledger.specs.declared.operation.Outcome.TheVariants.{Fails, Succeeds, Unanswered}
+use Rattle.fa_ledger.specs.Calls.{PlainCall, operation}
+use Rattle.fa_ledger.specs.Operations.{PlainOperation, ended, OnlyReads}
 use Rattle.fa_ledger.proofs.CallerLemmas.{unanswered}
-use Rattle.fa_tree.specs.State.{OpenDirectory, Store, TreeState, node_cmp, file_of}
-use Rattle.fa_tree.specs.Resolved.{Question, Resolved, question, other_of, handle_of, resolved_with, resolved_on, resolved}
-use Rattle.fa_tree.specs.Edits.{Edit, open_after, handles_after}
+use Rattle.fa_tree.specs.State.{OpenDirectory, Store, TreeState, place_cmp, node_cmp, file_of}
+use Rattle.fa_tree.specs.Resolved.{Resolved, other_of, handle_of, resolved_with, resolved_on, resolved}
+use Rattle.fa_tree.specs.Edits.{Edit, names_after, open_after, handles_after}
 use Rattle.fa_tree.specs.Opening.{opened, with_opened}
-use Rattle.fa_tree.specs.Changes.{edits, changed}
-use Rattle.fa_tree.specs.Bindings.{AreBound, nodes_after, given_in}
-use Rattle.fa_tree.specs.Outcomes.{Outcome, outcome, count_written}
-use Rattle.fa_tree.specs.Outcomes.Outcome.{Fails, Succeeds, Unanswered}
-use Rattle.fa_tree.specs.Answers.{IsAnswerTo}
-use Rattle.fa_tree.specs.Steps.{tree_changed, noted, tree_after, setting, outcome_checks, checks_of_files, Steps}
+use Rattle.fa_tree.specs.Operations.{rule, changed, said, directory_opened, count_written}
+use Rattle.fa_tree.specs.Bindings.{AreBound, bound, nodes_after}
+use Rattle.fa_tree.specs.Rules.{Rule, Said, HasCause}
+use Rattle.fa_tree.specs.Steps.{UnlessFailed, IfFailed, names_given, opens_anew, setting, given_in, tree_done, tree_by, tree_after, operation_checks, checks_of_files, checks_of, Steps}
 use Rattle.fa_tree.proofs.NodeLemmas.{node_total}
 use Rattle.fa_tree.proofs.NameLemmas.{get-each_open}
-use Rattle.fa_tree.proofs.ChangeLemmas.{reading_changes_nothing}
+use Rattle.fa_tree.proofs.ChangeLemmas.{reading_changes_nothing, reading_edits_nothing}
 use Rattle.fa_tree.proofs.ChangedLemmas.{stays_open}
-use Rattle.fa_tree.proofs.NamedLemmas.{NodesWithin, nodes_grown, outcome_holds, reading_edits_nothing}
+use Rattle.fa_tree.proofs.NamedLemmas.{NodesWithin, nodes_grown, checks_hold, may_be_given}
+use Rattle.fa_tree.proofs.BindingLemmas.{bound_to_none}
+use Rattle.fa_tree.proofs.OutcomeLemmas.{none_bound, unanswered_says_nothing}
 
 -- ---- a part of a tree
 
@@ -129,29 +129,17 @@ module _ (Kept : ℕ → Type 0) (whole part : TreeState) (p : IsPartOf Kept who
           let same : y ≡ x = same_Some y x (sym (resolved_within call kept y has) ∙ is) in
           has ∙ ap (λ (z : Resolved). Some z) same
 
-  -- ---- what a request makes of both
-
-  -- the same change keeps a part a part
-  changed_part : (x : Resolved) (q : Question) (count : ℕ) → IsPartOf Kept (tree_changed whole x q count) (tree_changed part x q count)
-  changed_part x q count = record {
-    store = ap (λ (s : Store). changed s x q count) p.store;
-    nodes = p.nodes;
-    handles = λ asked kept.
-        get-each_open (open_after (edits part.store x q.body)) part.handles asked
-        ∙ ap (λ (s : Store). option_map (open_after (edits s x q.body)) (get part.handles asked)) p.store
-        ∙ ap (option_map (open_after (edits whole.store x q.body))) (p.handles asked kept)
-        ∙ sym (get-each_open (open_after (edits whole.store x q.body)) whole.handles asked);
-  }
+-- ---- open directories
 
 -- an open directory that is noted in both stays the same in both
-opened_both : (s : Store) (x : Resolved) (body : PlainBody) (asked : ℕ) (opens : Bool) (one two : FinMap nat_cmp OpenDirectory) (q : ℕ) → get one q ≡ get two q
-    → get (with_opened s x body asked opens one) q ≡ get (with_opened s x body asked opens two) q
-opened_both s x (Opendir o) asked true one two q same =
-    get-insert nat_cmp_total one asked (opened s.names x.node) q
-    ∙ ap (cond (eq_by_cmp nat_cmp q asked) (Some (opened s.names x.node))) same
-    ∙ sym (get-insert nat_cmp_total two asked (opened s.names x.node) q)
-opened_both s x (Opendir o) asked false one two q same = same
-opened_both s x other asked opens one two q same = same
+opened_both : (names : FinMap place_cmp ℕ) (directory : Option ℕ) (asked : ℕ) (opens : Bool) (one two : FinMap nat_cmp OpenDirectory) (q : ℕ) → get one q ≡ get two q
+    → get (with_opened names directory asked opens one) q ≡ get (with_opened names directory asked opens two) q
+opened_both names (Some directory) asked true one two q same =
+    get-insert nat_cmp_total one asked (opened names directory) q
+    ∙ ap (cond (eq_by_cmp nat_cmp q asked) (Some (opened names directory))) same
+    ∙ sym (get-insert nat_cmp_total two asked (opened names directory) q)
+opened_both names (Some directory) asked false one two q same = same
+opened_both names None asked opens one two q same = same
 
 tied_numbers : (m n : ℕ) → eq_by_cmp nat_cmp m n ≡ true → m ≡ n
 tied_numbers m n tie = by (nat_cmp m n) refl tie
@@ -162,67 +150,117 @@ tied_numbers m n tie = by (nat_cmp m n) refl tie
     by Greater is tie = absurd cc
 
 -- one that is noted leaves the others
-opened_apart : (s : Store) (x : Resolved) (body : PlainBody) (asked : ℕ) (opens : Bool) (handles : FinMap nat_cmp OpenDirectory) (q : ℕ) → (opens ≡ true → q ≡ asked → ⊥)
-    → get (with_opened s x body asked opens handles) q ≡ get handles q
-opened_apart s x (Opendir o) asked true handles q apart = by (eq_by_cmp nat_cmp q asked) refl (get-insert nat_cmp_total handles asked (opened s.names x.node) q)
+opened_apart : (names : FinMap place_cmp ℕ) (directory : Option ℕ) (asked : ℕ) (opens : Bool) (handles : FinMap nat_cmp OpenDirectory) (q : ℕ) → (opens ≡ true → q ≡ asked → ⊥)
+    → get (with_opened names directory asked opens handles) q ≡ get handles q
+opened_apart names (Some directory) asked true handles q apart = by (eq_by_cmp nat_cmp q asked) refl (get-insert nat_cmp_total handles asked (opened names directory) q)
   where
-    by : (b : Bool) → eq_by_cmp nat_cmp q asked ≡ b → get (insert handles asked (opened s.names x.node)) q ≡ cond b (Some (opened s.names x.node)) (get handles q)
-        → get (insert handles asked (opened s.names x.node)) q ≡ get handles q
+    by : (b : Bool) → eq_by_cmp nat_cmp q asked ≡ b → get (insert handles asked (opened names directory)) q ≡ cond b (Some (opened names directory)) (get handles q)
+        → get (insert handles asked (opened names directory)) q ≡ get handles q
     by true tie has = absurd (apart refl (tied_numbers q asked tie))
     by false other has = has
-opened_apart s x (Opendir o) asked false handles q apart = refl
-opened_apart s x other asked opens handles q apart = refl
+opened_apart names (Some directory) asked false handles q apart = refl
+opened_apart names None asked opens handles q apart = refl
+
+-- nothing is noted where none is opened
+none_opened : (names : FinMap place_cmp ℕ) (directory : Option ℕ) (asked : ℕ) (handles : FinMap nat_cmp OpenDirectory) → with_opened names directory asked false handles ≡ handles
+none_opened names (Some directory) asked handles = refl
+none_opened names None asked handles = refl
 
 -- the answer opens no directory that is kept
-abbrev pub OpensNone : (ℕ → Type 0) → (asked : ℕ) → PlainAnswer → Type 0
-OpensNone Kept asked answer = answer.opens ≡ true → Kept asked → ⊥
+abbrev pub OpensNone : (ℕ → Type 0) → PlainCall → Type 0
+OpensNone Kept call = opens_anew call ≡ true → Kept call.asked → ⊥
 
-module _ (Kept : ℕ → Type 0) (whole part : TreeState) (p : IsPartOf Kept whole part) (x : Resolved) (body : PlainBody) where
-  -- the same answer noted in both keeps a part a part
-  noted_part : (asked : ℕ) (answer : PlainAnswer) → IsPartOf Kept (noted whole x body asked answer) (noted part x body asked answer)
-  noted_part asked answer = record {
-    store = p.store;
-    nodes = subst (λ (s : Store). NodesWithin (nodes_after (given_in s x body answer) part.nodes) (nodes_after (given_in whole.store x body answer) whole.nodes)) (sym p.store)
-        (after_within (given_in whole.store x body answer) part.nodes whole.nodes p.nodes);
+-- ---- what an operation makes of both
+
+module _ (Kept : ℕ → Type 0) (whole part : TreeState) (p : IsPartOf Kept whole part) (x : Resolved) (call : PlainCall) (o : PlainOperation) (count : ℕ) where
+  abbrev given : List (NodeName × ℕ)
+  given = given_in (setting whole.store x call o count []) call o
+
+  abbrev edited : List Edit
+  edited = (rule whole.store x o).edits
+
+  abbrev names_left : FinMap place_cmp ℕ
+  names_left = (changed whole.store x call.truncates o count).names
+
+  each_kept : (q : ℕ) → Kept q → get (handles_after edited part.handles) q ≡ get (handles_after edited whole.handles) q
+  each_kept q kept =
+      get-each_open (open_after edited) part.handles q ∙ ap (option_map (open_after edited)) (p.handles q kept) ∙ sym (get-each_open (open_after edited) whole.handles q)
+
+  -- the same operation keeps a part a part
+  done_part : IsPartOf Kept (tree_done whole x call o count) (tree_done part x call o count)
+  done_part = record {
+    store = ap (λ (s : Store). changed s x call.truncates o count) p.store;
+    nodes = subst (λ (s : Store). NodesWithin (nodes_after (given_in (setting s x call o count []) call o) part.nodes) (nodes_after given whole.nodes)) (sym p.store)
+        (after_within given part.nodes whole.nodes p.nodes);
     handles = λ q kept.
-        ap (λ (s : Store). get (with_opened s x body asked answer.opens part.handles) q) p.store
-        ∙ opened_both whole.store x body asked answer.opens part.handles whole.handles q (p.handles q kept);
+        ap (λ (s : Store). get (with_opened (changed s x call.truncates o count).names (directory_opened x o) call.asked (opens_anew call) (handles_after (rule s x o).edits part.handles)) q) p.store
+        ∙ opened_both names_left (directory_opened x o) call.asked (opens_anew call) (handles_after edited part.handles) (handles_after edited whole.handles) q (each_kept q kept);
   }
 
-  -- an answer noted in the whole alone keeps a part a part, where it opens no directory that is kept
-  noted_whole : (asked : ℕ) (answer : PlainAnswer) → AreBound whole.nodes (given_in whole.store x body answer) → OpensNone Kept asked answer
-      → IsPartOf Kept (noted whole x body asked answer) part
-  noted_whole asked answer may none = record {
-    store = p.store;
-    nodes = λ name file is. nodes_grown (given_in whole.store x body answer) whole.nodes may name file (p.nodes name file is);
-    handles = λ q kept.
-        p.handles q kept
-        ∙ sym (opened_apart whole.store x body asked answer.opens whole.handles q (λ opens same. none opens (subst Kept same kept)));
-  }
+  module _ (may : AreBound whole.nodes given) (none : OpensNone Kept call) where
+    handles_left : (q : ℕ) → Kept q → get (with_opened names_left (directory_opened x o) call.asked (opens_anew call) (handles_after edited whole.handles)) q ≡ get (handles_after edited whole.handles) q
+    handles_left q kept =
+        opened_apart names_left (directory_opened x o) call.asked (opens_anew call) (handles_after edited whole.handles) q (λ opens same. none opens (subst Kept same kept))
 
--- the change of a reading request in the whole alone keeps a part a part
-still_part : (Kept : ℕ → Type 0) (whole part : TreeState) → IsPartOf Kept whole part → (x : Resolved) (q : Question) (count : ℕ) → IsReadingRequest q.body
-    → IsPartOf Kept (tree_changed whole x q count) part
-still_part Kept whole part p x q count reads = record {
-  store = p.store ∙ sym (reading_changes_nothing whole.store x q count reads);
-  nodes = p.nodes;
-  handles = λ asked kept.
-      p.handles asked kept
-      ∙ ap (λ (hs : FinMap nat_cmp OpenDirectory). get hs asked) (sym (ap (λ (es : List Edit). handles_after es whole.handles) (reading_edits_nothing whole.store x q.body reads) ∙ stays_open whole.handles));
-}
+    grown : NodesWithin part.nodes (nodes_after given whole.nodes)
+    grown = λ name file is. nodes_grown given whole.nodes may name file (p.nodes name file is)
 
--- ---- how an outcome is judged in both
+    -- one that only reads, in the whole alone, keeps a part a part, where it opens no directory that is kept
+    read_part : OnlyReads o → IsPartOf Kept (tree_done whole x call o count) part
+    read_part reads = record {
+      store = p.store ∙ sym (reading_changes_nothing whole.store x call.truncates o count reads);
+      nodes = grown;
+      handles = λ q kept.
+          p.handles q kept
+          ∙ ap (λ (hs : FinMap nat_cmp OpenDirectory). get hs q) (sym (ap (λ (es : List Edit). handles_after es whole.handles) (reading_edits_nothing whole.store x o reads) ∙ stays_open whole.handles))
+          ∙ sym (handles_left q kept);
+    }
 
-module _ (Kept : ℕ → Type 0) (whole part : TreeState) (p : IsPartOf Kept whole part) (x : Resolved) (q : Question) (count : ℕ) (so_far : List PlainDirent) where
-  within_checks : (o : Outcome) → AllHold (outcome_checks whole.nodes (setting whole.store x q count so_far) o) → AllHold (outcome_checks part.nodes (setting whole.store x q count so_far) o)
-  within_checks (Fails error) hold = hold
-  within_checks Unanswered hold = hold
-  within_checks (Succeeds answer) hold =
-      (hold.0, (hold.1.0, (hold.1.1.0, (bound_within (given_in (changed whole.store x q count) x q.body answer) part.nodes whole.nodes p.nodes hold.1.1.1.0, hold.1.1.1.1))))
+    -- and so does a change that is made in both, but answered in the whole alone
+    lost_part : (u : PlainOperation) → ((s : Store) → ◌≡◌ {A = Rule} (rule s x u) (rule s x o)) → IsPartOf Kept (tree_done whole x call o count) (tree_done part x (unanswered call) u count)
+    lost_part u alike = record {
+      store = changed_alike part.store ∙ ap (λ (s : Store). changed s x call.truncates o count) p.store;
+      nodes = grown;
+      handles = λ q kept.
+          ap (λ (hs : FinMap nat_cmp OpenDirectory). get hs q) (none_opened (changed part.store x call.truncates u count).names (directory_opened x u) call.asked (handles_after (rule part.store x u).edits part.handles))
+          ∙ ap (λ (r : Rule). get (handles_after r.edits part.handles) q) (alike part.store)
+          ∙ ap (λ (s : Store). get (handles_after (rule s x o).edits part.handles) q) p.store
+          ∙ each_kept q kept
+          ∙ sym (handles_left q kept);
+    }
+      where
+        record_of : Store → Rule → Store
+        record_of s r = record { names = names_after r.edits s.names; files = r.files call.truncates count }
 
-  part_checks : (o : Outcome) → AllHold (outcome_checks whole.nodes (setting whole.store x q count so_far) o) → AllHold (outcome_checks part.nodes (setting part.store x q count so_far) o)
-  part_checks o hold =
-      subst (λ (s : Store). AllHold (outcome_checks part.nodes (setting s x q count so_far) o)) (sym p.store) (within_checks o hold)
+        changed_alike : (s : Store) → changed s x call.truncates u count ≡ changed s x call.truncates o count
+        changed_alike s = ap (λ (r : Rule). record_of s r) (alike s)
+
+-- ---- how an operation is judged in both
+
+module _ (Kept : ℕ → Type 0) (whole part : TreeState) (p : IsPartOf Kept whole part) (x : Resolved) (call : PlainCall) (o : PlainOperation) (count : ℕ) (so_far : List PlainDirent) where
+  part_checks : AllHold (operation_checks whole.nodes (setting whole.store x call o count so_far) call o) → AllHold (operation_checks part.nodes (setting part.store x call o count so_far) call o)
+  part_checks hold =
+      subst (λ (s : Store). AllHold (operation_checks part.nodes (setting s x call o count so_far) call o)) (sym p.store)
+      (hold.0, (hold.1.0, (hold.1.1.0, (bound_within (given_in (setting whole.store x call o count so_far) call o) part.nodes whole.nodes p.nodes hold.1.1.1.0, hold.1.1.1.1))))
+
+-- a request that was not answered holds where its success is allowed
+lost_checks : (t : TreeState) (call : PlainCall) (u : PlainOperation) (count : ℕ) (so_far : List PlainDirent) (x : Resolved) → ended u ≡ Unanswered → (rule t.store x u).needs
+    → AllHold (operation_checks t.nodes (setting t.store x call u count so_far) call u)
+lost_checks t call u count so_far x lost may =
+    let g = setting t.store x call u count so_far in
+    let nothing = unanswered_says_nothing g u lost in (
+      subst (λ (e : Outcome (Unit {0})). UnlessFailed e ((rule t.store x u).needs × (said g u).found)) (sym lost) (may, subst (λ (d : Said). d.found) (sym nothing) tt),
+      (
+        subst (λ (e : Outcome (Unit {0})). IfFailed e (HasCause (rule t.store x u))) (sym lost) tt,
+        (
+          subst (λ (d : Said). d.attributes) (sym nothing) tt,
+          (
+            subst (AreBound t.nodes) (sym (ap (λ (d : Said). bound (names_given call) d.files) nothing ∙ bound_to_none (names_given call))) (none_bound t.nodes),
+            (subst (λ (d : Said). d.bytes) (sym nothing) tt, (subst (λ (d : Said). d.listing) (sym nothing) tt, tt)),
+          ),
+        ),
+      ),
+    )
 
 -- ---- steps
 
@@ -232,74 +270,78 @@ IsFollowed Kept new part call wrote so_far = (after : TreeState) × Steps part a
 
 module _ (Kept : ℕ → Type 0) (whole part new : TreeState) (call : PlainCall) (wrote : Option ℕ) (so_far : List PlainDirent)
     (p : IsPartOf Kept whole part) (s : Steps whole new call wrote so_far) where
-  abbrev count : ℕ
-  count = count_written call wrote
+  abbrev written_count : ℕ
+  written_count = count_written s.asks wrote
 
-  hold : AllHold (outcome_checks whole.nodes (setting whole.store s.files (question call) count so_far) (outcome call))
-  hold = outcome_holds whole new call wrote so_far s
-
-  after_part : (o : Outcome) → IsPartOf Kept (tree_after whole s.files call count o) (tree_after part s.files call count o)
+  after_part : (e : Outcome (Unit {0})) → IsPartOf Kept (tree_by whole (tree_done whole s.files call s.asks written_count) e) (tree_by part (tree_done part s.files call s.asks written_count) e)
   after_part (Fails error) = p
-  after_part (Succeeds answer) =
-      noted_part Kept (tree_changed whole s.files (question call) count) (tree_changed part s.files (question call) count) (changed_part Kept whole part p s.files (question call) count)
-      s.files call.request.body call.asked answer
-  after_part Unanswered = changed_part Kept whole part p s.files (question call) count
+  after_part (Succeeds success) = done_part Kept whole part p s.files call s.asks written_count
+  after_part Unanswered = done_part Kept whole part p s.files call s.asks written_count
 
   -- the same call makes the same step
   pub step_same : (resolved part call ≡ None → ⊥) → UsesKept Kept call → IsFollowed Kept new part call wrote so_far
   step_same known kept =
       let named : resolved part call ≡ Some s.files = resolved_part Kept whole part p call kept s.files s.named known in
-      let there : AllHold (checks_of_files part call count so_far (Some s.files)) = (tt, part_checks Kept whole part p s.files (question call) count so_far (outcome call) hold) in (
-        tree_after part s.files call count (outcome call),
+      let there : AllHold (checks_of_files part call s.asks written_count so_far (Some s.files)) =
+      (tt, part_checks Kept whole part p s.files call s.asks written_count so_far (checks_hold whole new call wrote so_far s)) in (
+        tree_after part s.files call s.asks written_count,
         record {
-          allowed = subst (λ (files : Option Resolved). AllHold (checks_of_files part call count so_far files)) (sym named) there;
+          allowed = subst (λ (o : Option PlainOperation). AllHold (checks_of part call wrote so_far o)) (sym s.is)
+              (subst (λ (files : Option Resolved). AllHold (checks_of_files part call s.asks written_count so_far files)) (sym named) there);
+          asks = s.asks;
+          is = s.is;
           files = s.files;
           named = named;
           after = refl;
         },
-        subst (λ (t : TreeState). IsPartOf Kept t (tree_after part s.files call count (outcome call))) (sym s.after) (after_part (outcome call)),
+        subst (λ (t : TreeState). IsPartOf Kept t (tree_after part s.files call s.asks written_count)) (sym s.after) (after_part (ended s.asks)),
       )
 
   -- an error leaves the part a part
-  pub step_failed : (error : _) → outcome call ≡ Fails error → IsPartOf Kept new part
+  pub step_failed : (error : ℤ) → ended s.asks ≡ Fails error → IsPartOf Kept new part
   step_failed error fails =
-      subst (λ (t : TreeState). IsPartOf Kept t part) (sym (s.after ∙ ap (tree_after whole s.files call count) fails)) p
+      subst (λ (t : TreeState). IsPartOf Kept t part) (sym (s.after ∙ ap (tree_by whole (tree_done whole s.files call s.asks written_count)) fails)) p
 
-  module _ (answer : PlainAnswer) (success : outcome call ≡ Succeeds answer) (none : OpensNone Kept call.asked answer) where
-    checks : AllHold (outcome_checks whole.nodes (setting whole.store s.files (question call) count so_far) (Succeeds answer))
-    checks = subst (λ (o : Outcome). AllHold (outcome_checks whole.nodes (setting whole.store s.files (question call) count so_far) o)) success hold
+  module _ (success : ended s.asks ≡ Succeeds tt) (none : OpensNone Kept call) where
+    is : new ≡ tree_done whole s.files call s.asks written_count
+    is = s.after ∙ ap (tree_by whole (tree_done whole s.files call s.asks written_count)) success
 
-    is : new ≡ tree_after whole s.files call count (Succeeds answer)
-    is = s.after ∙ ap (tree_after whole s.files call count) success
-
-    -- the answer answers the request
-    pub step_answers : IsAnswerTo call.request.body answer.reply
-    step_answers = checks.0.1
-
-    -- so does a reading request
-    pub step_read : IsReadingRequest call.request.body → IsPartOf Kept new part
+    -- so does one that only reads
+    pub step_read : OnlyReads s.asks → IsPartOf Kept new part
     step_read reads =
         subst (λ (t : TreeState). IsPartOf Kept t part) (sym is)
-        (noted_whole Kept (tree_changed whole s.files (question call) count) part (still_part Kept whole part p s.files (question call) count reads)
-        s.files call.request.body call.asked answer checks.1.1.1.0 none)
+        (read_part Kept whole part p s.files call s.asks written_count (may_be_given whole new call wrote so_far s) none reads)
 
     -- a change whose answer is lost makes the same step unanswered
-    pub step_lost : (other : Option ℕ) → count_written (unanswered call) other ≡ count → (resolved part call ≡ None → ⊥) → UsesKept Kept call
+    pub step_lost : (u : PlainOperation) → operation (unanswered call) ≡ Some u → ended u ≡ Unanswered → ((t : Store) → ◌≡◌ {A = Rule} (rule t s.files u) (rule t s.files s.asks))
+        → (other : Option ℕ) → count_written u other ≡ written_count → (resolved part call ≡ None → ⊥) → UsesKept Kept call
         → IsFollowed Kept new part (unanswered call) other so_far
-    step_lost other same known kept =
+    step_lost u asks lost alike other same known kept =
         let named : resolved part call ≡ Some s.files = resolved_part Kept whole part p call kept s.files s.named known in
-        let may : AllHold (outcome_checks whole.nodes (setting whole.store s.files (question call) count so_far) Unanswered) = (checks.0.0, (tt, (tt, (tt, (tt, (tt, tt)))))) in
-        let there : AllHold (checks_of_files part (unanswered call) count so_far (Some s.files)) = (tt, part_checks Kept whole part p s.files (question call) count so_far Unanswered may) in
-        let changed_whole : TreeState = tree_changed whole s.files (question call) count in
-        let changed_both = changed_part Kept whole part p s.files (question call) count in (
-          tree_changed part s.files (question call) count,
+        let may : (rule part.store s.files u).needs = needs in
+        let there : AllHold (checks_of_files part (unanswered call) u (count_written u other) so_far (Some s.files)) =
+        (tt, lost_checks part (unanswered call) u (count_written u other) so_far s.files lost may) in (
+          tree_after part s.files (unanswered call) u (count_written u other),
           record {
-            allowed = subst (λ (n : ℕ). AllHold (checks_of_files part (unanswered call) n so_far (resolved part call))) (sym same)
-                (subst (λ (files : Option Resolved). AllHold (checks_of_files part (unanswered call) count so_far files)) (sym named) there);
+            allowed = subst (λ (o : Option PlainOperation). AllHold (checks_of part (unanswered call) other so_far o)) (sym asks)
+                (subst (λ (files : Option Resolved). AllHold (checks_of_files part (unanswered call) u (count_written u other) so_far files)) (sym named) there);
+            asks = u;
+            is = asks;
             files = s.files;
             named = named;
-            after = ap (λ (n : ℕ). tree_changed part s.files (question call) n) (sym same);
+            after = refl;
           },
-          subst (λ (t : TreeState). IsPartOf Kept t (tree_changed part s.files (question call) count)) (sym is)
-              (noted_whole Kept changed_whole (tree_changed part s.files (question call) count) changed_both s.files call.request.body call.asked answer checks.1.1.1.0 none),
+          subst (λ (t : TreeState). IsPartOf Kept t (tree_after part s.files (unanswered call) u (count_written u other))) (sym is)
+              (subst (λ (t : TreeState). IsPartOf Kept (tree_done whole s.files call s.asks written_count) t)
+              (sym (ap (tree_by part (tree_done part s.files (unanswered call) u (count_written u other))) lost))
+              (subst (λ (n : ℕ). IsPartOf Kept (tree_done whole s.files call s.asks written_count) (tree_done part s.files (unanswered call) u n)) (sym same)
+              (lost_part Kept whole part p s.files call s.asks written_count (may_be_given whole new call wrote so_far s) none u alike))),
         )
+      where
+        -- what the whole asked for, the part has too
+        needs : (rule part.store s.files u).needs
+        needs =
+            let whole_needs : (rule whole.store s.files s.asks).needs =
+            (subst (λ (e : Outcome (Unit {0})). UnlessFailed e ((rule whole.store s.files s.asks).needs × (said (setting whole.store s.files call s.asks written_count so_far) s.asks).found)) success
+            (checks_hold whole new call wrote so_far s).0).0 in
+            subst (λ (r : Rule). r.needs) (sym (alike part.store)) (subst (λ (t : Store). (rule t s.files s.asks).needs) (sym p.store) whole_needs)

@@ -6,19 +6,21 @@ use Rattle.std.proofs.lemmas.Bool.{eqb-false}
 use Rattle.std.proofs.lemmas.Option.{slice_get_within, slice_get-get_or}
 use Rattle.fa_bodies.specs.declared.mode.Kind.{Kind}
 use Rattle.fa_bodies.specs.declared.mode.Kind.TheVariants.{Directory}
-use Rattle.fa_bodies.specs.Requests.{PlainBody}
-use Rattle.fa_bodies.specs.Requests.PlainBody.{Setattr, Symlink, Mknod, Mkdir, Unlink, Rmdir, Rename, Link, Open, Write, Create}
+use Rattle.fa_ledger.specs.Operations.{PlainOperation}
+use Rattle.fa_ledger.specs.Operations.PlainAction.{Setattr, Symlink, Mknod, Mkdir, Unlink, Rmdir, Rename, Link, Open, Write, Create}
+use Rattle.fa_ledger.specs.Operations.PlainOperation.{Acts}
 use Rattle.fa_tree.specs.State.{File, Store, Place, place_cmp, root, HasName, IsOfKind, IsDirectory, IsLinked, IsParent, IsBelow}
 use Rattle.fa_tree.specs.State.IsBelow.{child, further}
 use Rattle.fa_tree.specs.Resolved.{Resolved, OfOther}
 use Rattle.fa_tree.specs.Edits.{names_after}
 use Rattle.fa_tree.specs.Edits.Edit.{Added, Removed}
 use Rattle.fa_tree.specs.Lookups.{file_set}
-use Rattle.fa_tree.specs.Making.{emptied, new_symlink, new_node, new_directory as made_directory, new_regular}
+use Rattle.fa_tree.specs.Contents.{file_written}
+use Rattle.fa_tree.specs.Making.{emptied, new_symlink, new_node, new_directory as made_directory, new_regular, files_created}
 use Rattle.fa_tree.specs.Renaming.{MayBeRenamed, moved, moved_if_any, rename_edits}
 use Rattle.fa_tree.specs.Linking.{MayBeLinked}
-use Rattle.fa_tree.specs.Conditions.{MayBeDone}
-use Rattle.fa_tree.specs.Changes.{edits, with_file, file_written, files_created, files_after}
+use Rattle.fa_tree.specs.Rules.{with_file}
+use Rattle.fa_tree.specs.Operations.{rule}
 use Rattle.fa_tree.specs.Shape.{IsRooted, IsTree}
 use Rattle.fa_tree.specs.Shape.IsRooted.{rooted}
 use Rattle.fa_tree.specs.Building.{empty_tree}
@@ -95,22 +97,21 @@ opened_stay : (files : List File) (truncates : Bool) (number : ℕ) → Stay fil
 opened_stay files true number = with_stay files number emptied (λ file. refl)
 opened_stay files false number = all_stay files
 
--- what a request leaves
-files_stay_after : (s : Store) (x : Resolved) (truncates : Bool) (count : ℕ) (body : PlainBody) → Stay s.files (files_after s x truncates body count)
-files_stay_after s x truncates count (Setattr a) = with_stay s.files x.node (file_set a) (λ file. refl)
-files_stay_after s x truncates count (Symlink name target) = more_stay s.files (new_symlink target)
-files_stay_after s x truncates count (Mknod mode rdev umask name) = more_stay s.files (new_node mode umask)
-files_stay_after s x truncates count (Mkdir mode umask name) = more_stay s.files (made_directory mode umask)
-files_stay_after s x truncates count (Open o) = opened_stay s.files truncates x.node
-files_stay_after s x truncates count (Write fh offset size write_flags lock_owner flags payload) =
-    with_stay s.files x.node (file_written offset payload count) (λ file. refl)
-files_stay_after s x truncates count (Create flags mode umask name) =
+-- what an operation leaves
+files_stay_after : (s : Store) (x : Resolved) (truncates : Bool) (count : ℕ) (o : PlainOperation) → Stay s.files ((rule s x o).files truncates count)
+files_stay_after s x truncates count (Acts (Setattr a o)) = with_stay s.files x.node (file_set a) (λ file. refl)
+files_stay_after s x truncates count (Acts (Symlink name target o)) = more_stay s.files (new_symlink target)
+files_stay_after s x truncates count (Acts (Mknod mode umask name o)) = more_stay s.files (new_node mode umask)
+files_stay_after s x truncates count (Acts (Mkdir mode umask name o)) = more_stay s.files (made_directory mode umask)
+files_stay_after s x truncates count (Acts (Open o)) = opened_stay s.files truncates x.node
+files_stay_after s x truncates count (Acts (Write offset size payload o)) = with_stay s.files x.node (file_written offset payload count) (λ file. refl)
+files_stay_after s x truncates count (Acts (Create flags mode umask name o)) =
     created_stay s.files truncates (new_regular mode umask) (get s.names (x.node, name))
 files_stay_after s x truncates count other = all_stay s.files
 
 -- each file keeps its number and its kind
 pub files_stay : FilesStay
-files_stay s x q count number kind has = (files_stay_after s x q.truncates count q.body).kinds number kind has
+files_stay s x truncates o count number kind has = (files_stay_after s x truncates count o).kinds number kind has
 
 -- among files that stay, one that was there is of the kind that it has now
 was_of_kind : (old new : List File) → Stay old new → (number : ℕ) (kind : Kind) → number < length old → HasKind new number kind → HasKind old number kind
@@ -389,23 +390,19 @@ created_tree s directory name truncates new (Some file) tree is =
 
 -- ---- a request
 
--- each request, by its body
-changes_tree : (s : Store) (x : Resolved) (truncates : Bool) (count : ℕ) (body : PlainBody) → IsTree s → MayBeDone s x body
-    → IsTree (record { names = names_after (edits s x body) s.names; files = files_after s x truncates body count })
-changes_tree s x truncates count (Symlink name target) tree may = making_keeps_tree s x.node name (new_symlink target) tree may.0.0
-changes_tree s x truncates count (Mknod mode rdev umask name) tree may = making_keeps_tree s x.node name (new_node mode umask) tree may.0.0
-changes_tree s x truncates count (Mkdir mode umask name) tree may = making_keeps_tree s x.node name (made_directory mode umask) tree may.0.0
-changes_tree s x truncates count (Unlink name) tree may = removal_keeps_tree s (x.node, name) tree
-changes_tree s x truncates count (Rmdir name) tree may = removal_keeps_tree s (x.node, name) tree
-changes_tree s x truncates count (Rename newdir old_name new_name) tree may = renamed_tree s x.node old_name new_name x.other tree may
-changes_tree s x truncates count (Link oldnodeid new_name) tree may = linked_tree s x.node new_name x.other tree may
-changes_tree s x truncates count (Create flags mode umask name) tree may =
-    created_tree s x.node name truncates (new_regular mode umask) (get s.names (x.node, name)) tree may.0.0
-changes_tree s x truncates count other tree may = files_keep_tree s (files_after s x truncates other count) (files_stay_after s x truncates count other) tree
-
--- a request leaves a tree where there was one
+-- each operation leaves a tree where there was one
 pub changes_keep_trees : ChangesKeepTrees
-changes_keep_trees s x q count tree may = changes_tree s x q.truncates count q.body tree may
+changes_keep_trees s x truncates (Acts (Symlink name target o)) count tree may = making_keeps_tree s x.node name (new_symlink target) tree may.0.0
+changes_keep_trees s x truncates (Acts (Mknod mode umask name o)) count tree may = making_keeps_tree s x.node name (new_node mode umask) tree may.0.0
+changes_keep_trees s x truncates (Acts (Mkdir mode umask name o)) count tree may = making_keeps_tree s x.node name (made_directory mode umask) tree may.0.0
+changes_keep_trees s x truncates (Acts (Unlink name o)) count tree may = removal_keeps_tree s (x.node, name) tree
+changes_keep_trees s x truncates (Acts (Rmdir name o)) count tree may = removal_keeps_tree s (x.node, name) tree
+changes_keep_trees s x truncates (Acts (Rename old_name new_name o)) count tree may = renamed_tree s x.node old_name new_name x.other tree may
+changes_keep_trees s x truncates (Acts (Link new_name o)) count tree may = linked_tree s x.node new_name x.other tree may
+changes_keep_trees s x truncates (Acts (Create flags mode umask name o)) count tree may =
+    created_tree s x.node name truncates (new_regular mode umask) (get s.names (x.node, name)) tree may.0.0
+changes_keep_trees s x truncates other count tree may =
+    files_keep_tree s ((rule s x other).files truncates count) (files_stay_after s x truncates count other) tree
 
 -- ---- trees that are put together
 

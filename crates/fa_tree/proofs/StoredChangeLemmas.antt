@@ -12,7 +12,7 @@ use Rattle.fa_bodies.specs.FlagBits.{fattr_mode, fattr_size}
 use Rattle.fa_bodies.specs.Flags.{has_flag, fattr_bits}
 use Rattle.fa_tree.specs.State.{File, IsSymlink}
 use Rattle.fa_tree.specs.Contents.{resized}
-use Rattle.fa_tree.specs.Changes.{with_file}
+use Rattle.fa_tree.specs.Rules.{with_file}
 use Rattle.fa_tree.specs.Edits.{names_after, open_after}
 use Rattle.fa_tree.specs.Edits.Edit.{Added, Removed}
 use Rattle.fa_tree.specs.Lookups.{bits_set, file_set}

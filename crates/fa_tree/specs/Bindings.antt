@@ -1,12 +1,8 @@
 -- For which file an answer gives a name to a node.
 use Rattle.std.specs.Prelude.{◌≡◌, ℕ, List, [], ◌∷◌, Contains, Option, Some, None}
 use Rattle.std.specs.FinMap.{FinMap, get, insert}
-use Rattle.fa_bodies.specs.Requests.{PlainBody}
 use Rattle.fa_ledger.specs.declared.name.NodeName.{NodeName}
-use Rattle.fa_ledger.specs.Calls.{PlainAnswer}
-use Rattle.fa_tree.specs.State.{Store, node_cmp}
-use Rattle.fa_tree.specs.Resolved.{Resolved}
-use Rattle.fa_tree.specs.Judging.{files_given}
+use Rattle.fa_tree.specs.State.{node_cmp}
 
 -- names of nodes, each with the file for which it is given; the node of an entry whose name is not there is for none
 abbrev pub bound : List NodeName → List (Option ℕ) → List (NodeName × ℕ)
@@ -24,7 +20,3 @@ pub record AreBound (nodes : FinMap node_cmp ℕ) (given : List (NodeName × ℕ
 abbrev pub nodes_after : List (NodeName × ℕ) → FinMap node_cmp ℕ → FinMap node_cmp ℕ
 nodes_after [] nodes = nodes
 nodes_after (one ∷ given) nodes = nodes_after given (insert nodes one.0 one.1)
-
--- the names that an answer gives, each with its file in the store that it left
-abbrev pub given_in : Store → Resolved → PlainBody → PlainAnswer → List (NodeName × ℕ)
-given_in s x body answer = bound answer.given (files_given s x body answer.reply)

@@ -1,6 +1,8 @@
 -- READ and WRITE (POSIX pread and pwrite), and the bytes of a file.
-use Rattle.std.specs.Prelude.{◌≡◌, ℕ, ◌+◌, ◌-◌, ◌==◌, if◌then◌else◌, Bool, true, false, List, ◌++◌, length, replicate, take, drop, slice_get, Some}
-use Rattle.fa_tree.specs.State.{File, Store}
+use Rattle.std.specs.Prelude.{◌≡◌, ℕ, ◌+◌, ◌-◌, ◌==◌, if◌then◌else◌, Bool, true, false, List, [], ◌++◌, length, replicate, take, drop, slice_get, Some}
+use Rattle.fa_ledger.specs.declared.operation.Outcome.{Outcome}
+use Rattle.fa_tree.specs.State.{File, Store, IsDirectory, IsLinked, IsRegular}
+use Rattle.fa_tree.specs.Rules.{Rule, Said, bytes_said, if_done, with_file}
 
 -- the bytes, with zeros behind them up to this length, if they are fewer
 abbrev pub filled : List ℕ → ℕ → List ℕ
@@ -30,3 +32,39 @@ IsReadAs false asked given = given ≡ asked
 abbrev pub IsReadFrom : Store → ℕ → (direct : Bool) → (offset size : ℕ) → (given : List ℕ) → Type 0
 IsReadFrom s number direct offset size given =
     (file : File) × (slice_get s.files number ≡ Some file) × IsReadAs direct (readable file.bytes offset size) given
+
+-- the file after so many bytes were written from the front of a payload
+abbrev pub file_written : (offset : ℕ) → (payload : List ℕ) → (count : ℕ) → File → File
+file_written offset payload count file = record {
+  kind = file.kind;
+  bits = file.bits;
+  bytes = written file.bytes offset (take count payload);
+}
+
+abbrev pub read_rule : Store → (file : ℕ) → Rule
+read_rule s file = record {
+  needs = IsRegular s file;
+  edits = [];
+  files = λ truncates count. s.files;
+  missing = IsLinked s file → ⊥;
+  taken = ⊥;
+  no_directory = ⊥;
+  a_directory = IsDirectory s file;
+  not_empty = ⊥;
+}
+
+abbrev pub read_said : Store → (file : ℕ) → (direct : Bool) → (offset size : ℕ) → Outcome (List ℕ) → Said
+read_said s file direct offset size o = if_done o (λ bytes. bytes_said (IsReadFrom s file direct offset size bytes))
+
+-- its answer says how many bytes were written, and so what became of the file
+abbrev pub write_rule : Store → (file : ℕ) → (offset : ℕ) → (payload : List ℕ) → Rule
+write_rule s file offset payload = record {
+  needs = IsRegular s file;
+  edits = [];
+  files = λ truncates count. with_file s.files file (file_written offset payload count);
+  missing = IsLinked s file → ⊥;
+  taken = ⊥;
+  no_directory = ⊥;
+  a_directory = IsDirectory s file;
+  not_empty = ⊥;
+}

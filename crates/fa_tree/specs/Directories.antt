@@ -1,5 +1,5 @@
 -- READDIR and READDIRPLUS (POSIX readdir: what is added or removed after opendir may be given or not; what stayed is given).
-use Rattle.std.specs.Prelude.{◌≡◌, ◌≢◌, ◌+◌, ◌*◌, ◌^◌, ◌⊎◌, ◌≤◌, ℕ, false, List, [], ◌++◌, All, Contains, count_by, filter, not, slice_get, Some, IsTrue}
+use Rattle.std.specs.Prelude.{◌≡◌, ◌≢◌, ◌+◌, ◌*◌, ◌^◌, ◌⊎◌, ◌≤◌, ℕ, false, List, [], ◌∷◌, ◌++◌, All, Contains, count_by, filter, not, slice_get, Option, Some, None, IsTrue}
 use Rattle.std.specs.FinMap.{get}
 use Rattle.std.specs.FinSet.{contains}
 use Rattle.std.specs.Str.{bytes_eq}
@@ -8,8 +8,10 @@ use Rattle.fa_bodies.specs.declared.names.TheConstants.{MAX_NAME}
 use Rattle.fa_bodies.specs.Dirents.{PlainDirent}
 use Rattle.fa_bodies.specs.Modes.{mode_bits, type_number, HasFileType}
 use Rattle.fa_ledger.specs.declared.call.Listing.{Listing}
-use Rattle.fa_ledger.specs.Counts.{is_dots}
+use Rattle.fa_ledger.specs.Counts.{is_dots, nodes_of_entry}
+use Rattle.fa_ledger.specs.declared.operation.Outcome.{Outcome}
 use Rattle.fa_tree.specs.State.{File, Store, OpenDirectory, HasName, IsThere}
+use Rattle.fa_tree.specs.Rules.{Said, if_done}
 
 -- the entries that are judged: all but `.` and `..`
 abbrev pub judged : List PlainDirent → List PlainDirent
@@ -66,3 +68,45 @@ pub record IsListed (s : Store) (h : OpenDirectory) (listing : Listing) (size : 
   pub typed : All (IsTypedAsStayed s h) (judged entries)
   pub orderly : listing.adrift ≡ false → listing.shared ≡ false → IsOrderly h so_far entries size
   pub now : All (IsThereIfLookedUp s h.directory) (judged entries)
+
+-- ---- what an answer says of the directory that is open
+
+-- The types in the attributes of entries fit, by the names of the directory that is open.
+abbrev pub TypesFit : Store → Option OpenDirectory → List PlainDirent → Type 0
+TypesFit s None entries = ⊥
+TypesFit s (Some h) entries = All (IsTypedIfLookedUp s h.directory) (judged entries)
+
+-- the file for the node of an entry, if the entry gives one
+abbrev pub file_if : (nodes : List ℕ) → Option ℕ → List (Option ℕ)
+file_if [] file = []
+file_if (node ∷ nodes) file = file ∷ []
+
+-- the files of the entries that give a name to a node, in their order
+abbrev pub files_listed : Store → (directory : ℕ) → List PlainDirent → List (Option ℕ)
+files_listed s directory [] = []
+files_listed s directory (d ∷ ds) =
+    file_if (nodes_of_entry d.entry d.name) (get s.names (directory, d.name)) ++ files_listed s directory ds
+
+-- those of the names in the directory that is open
+abbrev pub files_on : Store → Option OpenDirectory → List PlainDirent → List (Option ℕ)
+files_on s None entries = []
+files_on s (Some h) entries = files_listed s h.directory entries
+
+-- The entries that an answer gives, in so many bytes, are what the rule of listings allows.
+abbrev pub EntriesAre : Store → (size : ℕ) → Option OpenDirectory → Option Listing → (so_far entries : List PlainDirent) → Type 0
+EntriesAre s size (Some h) (Some listing) so_far entries = IsListed s h listing size so_far entries
+EntriesAre s size h listing so_far entries = ⊥
+
+-- entries: types in their attributes, nodes, and the listing
+abbrev pub entries_said : Store → (size : ℕ) → Option OpenDirectory → Option Listing → (so_far entries : List PlainDirent) → Said
+entries_said s size h listing so_far entries = record {
+  found = Unit {0};
+  attributes = TypesFit s h entries;
+  files = files_on s h entries;
+  bytes = Unit {0};
+  listing = EntriesAre s size h listing so_far entries;
+}
+
+-- READDIR and READDIRPLUS; what their success needs, and when their errors have their cause, is with OPENDIR
+abbrev pub list_said : Store → (size : ℕ) → Option OpenDirectory → Option Listing → (so_far : List PlainDirent) → Outcome (List PlainDirent) → Said
+list_said s size h listing so_far o = if_done o (entries_said s size h listing so_far)

@@ -1,23 +1,21 @@
 -- What holds of steps.
-use Rattle.std.specs.Prelude.{◌≡◌, ◌↔◌, ℕ, List, [], Contains, Option, Some, option_map}
+use Rattle.std.specs.Prelude.{◌≡◌, ◌↔◌, ℕ, ℤ, Bool, List, [], Contains, Option, Some, option_map}
 use Rattle.std.specs.Ordering.{nat_cmp}
 use Rattle.std.specs.FinMap.{FinMap, get}
 use Rattle.fa_capture.specs.Checks.{AllHold, FirstFailure}
 use Rattle.fa_bodies.specs.declared.mode.Kind.{Kind}
 use Rattle.fa_bodies.specs.Dirents.{PlainDirent}
-use Rattle.fa_bodies.specs.Requests.{PlainBody}
 use Rattle.fa_ledger.specs.declared.name.NodeName.{NodeName}
-use Rattle.fa_ledger.specs.Calls.{PlainAnswer, PlainCall}
-use Rattle.fa_ledger.specs.Kinds.{IsReadingRequest}
+use Rattle.fa_ledger.specs.Calls.{PlainCall}
+use Rattle.fa_bodies.specs.Requests.{PlainBody}
+use Rattle.fa_bodies.specs.Replies.{PlainReply}
+use Rattle.fa_ledger.specs.Operations.{PlainOperation, OnlyReads, operation_of}
+use Rattle.fa_tree.specs.Rules.{HasCause}
 use Rattle.fa_tree.specs.State.{OpenDirectory, Store, TreeState, IsOfKind}
-use Rattle.fa_tree.specs.Resolved.{Question, Resolved}
-use Rattle.fa_tree.specs.Conditions.{MayBeDone}
+use Rattle.fa_tree.specs.Resolved.{Resolved}
+use Rattle.fa_tree.specs.Operations.{rule, changed, count_written}
 use Rattle.fa_tree.specs.Edits.{Edit, open_after, handles_after}
-use Rattle.fa_tree.specs.Changes.{edits, changed}
-use Rattle.fa_tree.specs.Bindings.{given_in}
-use Rattle.fa_tree.specs.Outcomes.{outcome}
-use Rattle.fa_tree.specs.Outcomes.Outcome.{Succeeds}
-use Rattle.fa_tree.specs.Steps.{step_checks, Steps}
+use Rattle.fa_tree.specs.Steps.{setting, given_in, step_checks, Steps}
 use Rattle.fa_tree.specs.Building.{empty_tree, file_of_kind, MayBeAdded, tree_added, MayBeLinkedTo, tree_linked}
 use Rattle.fa_tree.specs.Shape.{IsTree}
 
@@ -39,13 +37,22 @@ NoStepWhereOneFails =
     (old new : TreeState) (call : PlainCall) (wrote : Option ℕ) (so_far : List PlainDirent) (code : ℕ)
     → FirstFailure (step_checks old call wrote so_far) code → Steps old new call wrote so_far → ⊥
 
+-- What an operation needs and makes of the store, and the causes of its errors, are those of its request, whatever came of it.
+abbrev pub OutcomeChangesNothing : Type 0
+OutcomeChangesNothing =
+    (s : Store) (x : Resolved) (body : PlainBody) (one two : Option PlainReply) (o p : PlainOperation) → operation_of body one ≡ Some o
+    → operation_of body two ≡ Some p → (truncates : Bool) (count : ℕ)
+    → (changed s x truncates p count ≡ changed s x truncates o count) × ((rule s x p).needs ↔ (rule s x o).needs)
+    × ((error : ℤ) → HasCause (rule s x p) error ↔ HasCause (rule s x o) error)
+
 -- A reading request leaves what is stored.
 abbrev pub ReadingChangesNothing : Type 0
-ReadingChangesNothing = (s : Store) (x : Resolved) (q : Question) (count : ℕ) → IsReadingRequest q.body → changed s x q count ≡ s
+ReadingChangesNothing =
+    (s : Store) (x : Resolved) (truncates : Bool) (o : PlainOperation) (count : ℕ) → OnlyReads o → changed s x truncates o count ≡ s
 
 -- A reading request edits no names.
 abbrev pub ReadingEditsNothing : Type 0
-ReadingEditsNothing = (s : Store) (x : Resolved) (body : PlainBody) → IsReadingRequest body → edits s x body ≡ []
+ReadingEditsNothing = (s : Store) (x : Resolved) (o : PlainOperation) → OnlyReads o → (rule s x o).edits ≡ []
 
 -- Where nothing is edited, the open directories stay as they are.
 abbrev pub WithoutEditsOpenStays : Type 0
@@ -66,9 +73,10 @@ NamesKeepFiles =
 -- After a success each name that its answer gives stands for the file of the reply.
 abbrev pub GivenNamesStand : Type 0
 GivenNamesStand =
-    (old new : TreeState) (call : PlainCall) (wrote : Option ℕ) (so_far : List PlainDirent) (answer : PlainAnswer)
-    → (s : Steps old new call wrote so_far) → outcome call ≡ Succeeds answer → (name : NodeName) (file : ℕ)
-    → Contains (given_in new.store s.files call.request.body answer) (name, file) → get new.nodes name ≡ Some file
+    (old new : TreeState) (call : PlainCall) (wrote : Option ℕ) (so_far : List PlainDirent) (s : Steps old new call wrote so_far)
+    → (name : NodeName) (file : ℕ)
+    → Contains (given_in (setting old.store s.files call s.asks (count_written s.asks wrote) so_far) call s.asks) (name, file)
+    → get new.nodes name ≡ Some file
 
 -- The empty tree is a tree, and what may be added to one leaves one.
 pub record BuildingKeepsTrees : Type 0 where
@@ -80,10 +88,12 @@ pub record BuildingKeepsTrees : Type 0 where
 
 -- A success of a request leaves a tree where there was one.
 abbrev pub ChangesKeepTrees : Type 0
-ChangesKeepTrees = (s : Store) (x : Resolved) (q : Question) (count : ℕ) → IsTree s → MayBeDone s x q.body → IsTree (changed s x q count)
+ChangesKeepTrees =
+    (s : Store) (x : Resolved) (truncates : Bool) (o : PlainOperation) (count : ℕ) → IsTree s → (rule s x o).needs
+    → IsTree (changed s x truncates o count)
 
 -- Each file keeps its number and its kind.
 abbrev pub FilesStay : Type 0
 FilesStay =
-    (s : Store) (x : Resolved) (q : Question) (count number : ℕ) (kind : Kind)
-    → IsOfKind s number kind → IsOfKind (changed s x q count) number kind
+    (s : Store) (x : Resolved) (truncates : Bool) (o : PlainOperation) (count number : ℕ) (kind : Kind)
+    → IsOfKind s number kind → IsOfKind (changed s x truncates o count) number kind

@@ -8,12 +8,15 @@ pub mod Resolved
 pub mod Attributes
 -- what a request does to names, and to open directories with them
 pub mod Edits
--- The words of the operations, family by family. What their successes ask for stands together in Conditions, what they change
--- in Changes, and what their answers say in Answers and Judging.
+-- what is said of each operation
+pub mod Rules
+-- what the causes of errors speak of
+pub mod Causes
+-- The operations, family by family: what each needs, what it changes, when its errors have their cause, and what its answer says.
 
 -- READ and WRITE
 pub mod Contents
--- LOOKUP, SETATTR and READLINK
+-- LOOKUP, GETATTR, SETATTR and READLINK
 pub mod Lookups
 -- SYMLINK, MKNOD, MKDIR and CREATE
 pub mod Making
@@ -23,26 +26,14 @@ pub mod Removing
 pub mod Renaming
 -- LINK
 pub mod Linking
--- OPENDIR
+-- OPEN and OPENDIR
 pub mod Opening
 -- READDIR and READDIRPLUS
 pub mod Directories
--- The operations together.
-
--- the causes of errors
-pub mod Causes
--- what a success asks of the tree
-pub mod Conditions
--- what it changes
-pub mod Changes
--- which replies answer which requests
-pub mod Answers
--- what an answer says of the tree that it left
-pub mod Judging
--- for which files it gives nodes
+-- and together
+pub mod Operations
+-- for which files answers give nodes
 pub mod Bindings
--- what came of a call
-pub mod Outcomes
 -- a step, with its checks in the order of their codes
 pub mod Steps
 -- what a refusal says

@@ -1,14 +1,19 @@
--- LOOKUP, SETATTR and READLINK (POSIX: pathname resolution, chmod and truncate, readlink). GETATTR may always succeed.
-use Rattle.std.specs.Prelude.{◌≡◌, ◌≢◌, ℕ, if◌then◌else◌, List, slice_get, Some}
+-- LOOKUP, GETATTR, SETATTR and READLINK (POSIX: pathname resolution, fstatat, chmod and truncate, readlink).
+use Rattle.std.specs.Prelude.{◌≡◌, ◌≢◌, ℕ, if◌then◌else◌, List, [], ◌∷◌, slice_get, Some}
 use Rattle.fa_bodies.specs.declared.mode.Kind.{Kind}
 use Rattle.fa_bodies.specs.declared.mode.Kind.TheVariants.{Fifo, CharDevice, Directory, BlockDevice, Regular, Symlink, Socket}
 use Rattle.fa_bodies.specs.declared.setattr.SetattrIn.{SetattrIn}
 use Rattle.fa_bodies.specs.FlagBits.{fattr_mode, fattr_size}
 use Rattle.fa_bodies.specs.Flags.{HasFlag, has_flag, fattr_bits}
 use Rattle.fa_bodies.specs.Modes.{mode_bits}
-use Rattle.fa_tree.specs.State.{File, Store, IsFree, IsThere, IsRegular}
+use Rattle.std.specs.FinMap.{get}
+use Rattle.fa_bodies.specs.declared.attributes.AttrOut.{AttrOut}
+use Rattle.fa_bodies.specs.declared.entry.EntryOut.{EntryOut}
+use Rattle.fa_ledger.specs.declared.operation.Outcome.{Outcome}
+use Rattle.fa_tree.specs.State.{File, Store, IsFree, IsThere, IsDirectory, IsLinked, IsRegular, IsSymlink}
 use Rattle.fa_tree.specs.Attributes.{permission_bits}
 use Rattle.fa_tree.specs.Contents.{resized}
+use Rattle.fa_tree.specs.Rules.{Rule, Said, FitsNamed, attributes_said, bytes_said, if_done, with_file}
 
 -- LOOKUP answers node id 0 where the name is not in the directory, and another where it is.
 abbrev pub IsFoundAs : Store → (directory : ℕ) → (name : List ℕ) → (nodeid : ℕ) → Type 0
@@ -40,3 +45,74 @@ file_set a file = record {
 -- READLINK gives the target.
 abbrev pub IsTargetOf : Store → ℕ → List ℕ → Type 0
 IsTargetOf s number target = (file : File) × (slice_get s.files number ≡ Some file) × (target ≡ file.bytes)
+
+-- ---- the operations
+
+abbrev pub lookup_rule : Store → (directory : ℕ) → (name : List ℕ) → Rule
+lookup_rule s directory name = record {
+  needs = IsDirectory s directory;
+  edits = [];
+  files = λ truncates count. s.files;
+  missing = IsFree s directory name;
+  taken = ⊥;
+  no_directory = IsDirectory s directory → ⊥;
+  a_directory = ⊥;
+  not_empty = ⊥;
+}
+
+-- where the entry says that the name is not there, no attributes are judged
+abbrev pub found_said : (before after : Store) → (directory : ℕ) → (name : List ℕ) → EntryOut → Said
+found_said before after directory name entry = record {
+  found = IsFoundAs before directory name entry.nodeid;
+  attributes = entry.nodeid ≢ 0 → FitsNamed after directory name entry.attr;
+  files = get after.names (directory, name) ∷ [];
+  bytes = Unit {0};
+  listing = Unit {0};
+}
+
+abbrev pub lookup_said : (before after : Store) → (directory : ℕ) → (name : List ℕ) → Outcome EntryOut → Said
+lookup_said before after directory name o = if_done o (found_said before after directory name)
+
+-- it may always succeed
+abbrev pub getattr_rule : Store → (file : ℕ) → Rule
+getattr_rule s file = record {
+  needs = Unit {0};
+  edits = [];
+  files = λ truncates count. s.files;
+  missing = IsLinked s file → ⊥;
+  taken = ⊥;
+  no_directory = ⊥;
+  a_directory = ⊥;
+  not_empty = ⊥;
+}
+
+-- GETATTR and SETATTR
+abbrev pub file_said : Store → (file : ℕ) → Outcome AttrOut → Said
+file_said s file o = if_done o (λ out. attributes_said s file out.attr)
+
+abbrev pub setattr_rule : Store → (file : ℕ) → SetattrIn → Rule
+setattr_rule s file a = record {
+  needs = MayBeSet s file a;
+  edits = [];
+  files = λ truncates count. with_file s.files file (file_set a);
+  missing = IsLinked s file → ⊥;
+  taken = ⊥;
+  no_directory = ⊥;
+  a_directory = HasFlag (fattr_bits a.valid) fattr_size × IsDirectory s file;
+  not_empty = ⊥;
+}
+
+abbrev pub readlink_rule : Store → (file : ℕ) → Rule
+readlink_rule s file = record {
+  needs = IsSymlink s file;
+  edits = [];
+  files = λ truncates count. s.files;
+  missing = IsLinked s file → ⊥;
+  taken = ⊥;
+  no_directory = ⊥;
+  a_directory = ⊥;
+  not_empty = ⊥;
+}
+
+abbrev pub readlink_said : Store → (file : ℕ) → Outcome (List ℕ) → Said
+readlink_said s file o = if_done o (λ target. bytes_said (IsTargetOf s file target))

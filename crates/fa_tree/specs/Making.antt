@@ -1,15 +1,23 @@
 -- SYMLINK, MKNOD, MKDIR and CREATE (POSIX symlink, mknod, mkdir, open with O_CREAT).
-use Rattle.std.specs.Prelude.{◌⊎◌, ◌-◌, ◌==◌, if◌then◌else◌, ℕ, List, []}
+use Rattle.std.specs.Prelude.{◌⊎◌, ◌-◌, ◌==◌, if◌then◌else◌, ℕ, Bool, true, false, List, [], ◌∷◌, ◌++◌, length, Option, Some, None}
+use Rattle.std.specs.Option.{option_map_or}
+use Rattle.std.specs.FinMap.{get}
 use Rattle.std.specs.Int.RustNames.{bit_and}
+use Rattle.fa_bodies.specs.declared.entry.EntryOut.{EntryOut}
 use Rattle.fa_bodies.specs.declared.flags.OpenFlags.{OpenFlags}
+use Rattle.fa_bodies.specs.declared.handles.OpenOut.{OpenOut}
 use Rattle.fa_bodies.specs.declared.mode.Kind.{Kind}
 use Rattle.fa_bodies.specs.declared.mode.Kind.TheVariants.{Fifo, CharDevice, Directory, BlockDevice, Regular, Symlink, Socket}
 use Rattle.fa_bodies.specs.declared.mode.Mode.{Mode}
 use Rattle.fa_bodies.specs.FlagBits.{o_excl}
 use Rattle.fa_bodies.specs.Flags.{HasFlag, open_bits}
 use Rattle.fa_bodies.specs.Modes.{mode_bits, type_bits, type_number}
-use Rattle.fa_tree.specs.State.{File, Store, HasName, IsFree, IsRegular, IsLinkedDirectory}
+use Rattle.fa_ledger.specs.declared.operation.Outcome.{Outcome}
+use Rattle.fa_tree.specs.State.{File, Store, HasName, IsFree, IsThere, IsDirectory, IsLinked, IsRegular, IsLinkedDirectory}
 use Rattle.fa_tree.specs.Attributes.{all_bits, permission_bits}
+use Rattle.fa_tree.specs.Edits.Edit.{Added}
+use Rattle.fa_tree.specs.Causes.{IsDirectoryThere}
+use Rattle.fa_tree.specs.Rules.{Rule, Said, entry_said, if_done, with_file}
 
 -- A file is made in a linked directory under a name that is not in it.
 abbrev pub MayBeMade : Store → (directory : ℕ) → (name : List ℕ) → Type 0
@@ -53,3 +61,43 @@ new_regular mode umask = record { kind = Regular; bits = new_bits mode umask; by
 -- a file that is emptied
 abbrev pub emptied : File → File
 emptied file = record { kind = file.kind; bits = file.bits; bytes = [] }
+
+-- what CREATE makes of the files: a further one, or the one that is there, emptied where the request empties it
+abbrev pub files_created : List File → (truncates : Bool) → File → Option ℕ → List File
+files_created files truncates new None = files ++ new ∷ []
+files_created files true new (Some number) = with_file files number emptied
+files_created files false new (Some number) = files
+
+-- ---- the operations. A new file takes the next number.
+
+-- SYMLINK, MKNOD and MKDIR, each of its new file
+abbrev pub making_rule : Store → (directory : ℕ) → (name : List ℕ) → File → Rule
+making_rule s directory name new = record {
+  needs = MayBeMade s directory name;
+  edits = Added directory name (length s.files) ∷ [];
+  files = λ truncates count. s.files ++ new ∷ [];
+  missing = IsLinked s directory → ⊥;
+  taken = IsThere s directory name;
+  no_directory = IsDirectory s directory → ⊥;
+  a_directory = ⊥;
+  not_empty = ⊥;
+}
+
+-- the answer of these and of LINK: the file that the name has then
+abbrev pub made_said : Store → (directory : ℕ) → (name : List ℕ) → Outcome EntryOut → Said
+made_said s directory name o = if_done o (entry_said s directory name)
+
+abbrev pub create_rule : Store → (directory : ℕ) → (name : List ℕ) → OpenFlags → File → Rule
+create_rule s directory name flags new = record {
+  needs = MayBeCreated s directory name flags;
+  edits = option_map_or (λ file. []) (get s.names (directory, name)) (Added directory name (length s.files) ∷ []);
+  files = λ truncates count. files_created s.files truncates new (get s.names (directory, name));
+  missing = IsLinked s directory → ⊥;
+  taken = IsThere s directory name;
+  no_directory = IsDirectory s directory → ⊥;
+  a_directory = IsDirectoryThere s directory name;
+  not_empty = ⊥;
+}
+
+abbrev pub create_said : Store → (directory : ℕ) → (name : List ℕ) → Outcome (EntryOut × OpenOut) → Said
+create_said s directory name o = if_done o (λ made. entry_said s directory name made.0)

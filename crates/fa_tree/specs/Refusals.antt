@@ -1,14 +1,14 @@
 -- What a refusal says.
-use Rattle.std.specs.Prelude.{◌≡◌, ◌⊎◌, ℕ, List, None}
+use Rattle.std.specs.Prelude.{◌≡◌, ◌⊎◌, ℕ, List, Option, Some, None}
 use Rattle.fa_capture.specs.Checks.{FirstFailure, AllHold}
 use Rattle.fa_bodies.specs.FlagBits.{fattr_size}
 use Rattle.fa_bodies.specs.Flags.{HasFlag, fattr_bits}
-use Rattle.fa_bodies.specs.Requests.{PlainBody}
-use Rattle.fa_bodies.specs.Requests.PlainBody.{Lookup, Forget, Getattr, Setattr, Readlink, Symlink, Mknod, Mkdir, Unlink, Rmdir, Rename, Link, Open, Read, Write, Release, Flush, Init, Opendir, Readdir, Releasedir, Create, BatchForget, Readdirplus, Passed}
-use Rattle.fa_ledger.specs.Calls.{PlainCall}
-use Rattle.fa_ledger.specs.Listings.{offset_asked}
-use Rattle.fa_tree.specs.Outcomes.{Outcome, outcome}
-use Rattle.fa_tree.specs.Outcomes.Outcome.{Fails, Succeeds, Unanswered}
+use Rattle.fa_ledger.specs.Calls.{PlainCall, operation}
+use Rattle.fa_ledger.specs.declared.operation.Outcome.{Outcome}
+use Rattle.fa_ledger.specs.declared.operation.Outcome.TheVariants.{Fails, Succeeds, Unanswered}
+use Rattle.fa_ledger.specs.Operations.{PlainAction, PlainOperation, bare, action_ended}
+use Rattle.fa_ledger.specs.Operations.PlainAction.{Getattr, Setattr, Readlink, Unlink, Rmdir, Open, Read}
+use Rattle.fa_ledger.specs.Operations.PlainOperation.{Lists, Acts}
 use Rattle.fa_tree.specs.declared.error.StepError.{StepError}
 use Rattle.fa_tree.specs.declared.error.StepError.TheVariants.{Refused, Memory}
 
@@ -16,43 +16,32 @@ use Rattle.fa_tree.specs.declared.error.StepError.TheVariants.{Refused, Memory}
 abbrev pub IsRefusal : StepError → (code : ℕ) → Type 0 → Type 0
 IsRefusal e code Allowed = ((e ≡ Refused code) × (Allowed → ⊥)) ⊎ ((e ≡ Memory) × Allowed)
 
--- A success of the request may take memory: where names, files, nodes, bytes or open directories come. GETATTR, READLINK, READ
--- and OPEN take none, nor what takes names away, nor SETATTR without a size.
-abbrev pub MayGrow : PlainBody → Type 0
-MayGrow (Lookup name) = Unit {0}
-MayGrow (Forget nlookup) = ⊥
-MayGrow (Getattr g) = ⊥
-MayGrow (Setattr a) = HasFlag (fattr_bits a.valid) fattr_size
-MayGrow Readlink = ⊥
-MayGrow (Symlink name target) = Unit {0}
-MayGrow (Mknod mode rdev umask name) = Unit {0}
-MayGrow (Mkdir mode umask name) = Unit {0}
-MayGrow (Unlink name) = ⊥
-MayGrow (Rmdir name) = ⊥
-MayGrow (Rename newdir old_name new_name) = Unit {0}
-MayGrow (Link oldnodeid new_name) = Unit {0}
+-- A success may take memory: where names, files, nodes, bytes or open directories come. GETATTR, READLINK, READ and OPEN take none, nor
+-- what takes names away, nor SETATTR without a size.
+abbrev pub MayGrow : PlainAction → Type 0
+MayGrow (Getattr o) = ⊥
+MayGrow (Setattr a o) = HasFlag (fattr_bits a.valid) fattr_size
+MayGrow (Readlink o) = ⊥
+MayGrow (Unlink name o) = ⊥
+MayGrow (Rmdir name o) = ⊥
 MayGrow (Open o) = ⊥
-MayGrow (Read r) = ⊥
-MayGrow (Write fh offset size write_flags lock_owner flags payload) = Unit {0}
-MayGrow (Release r) = ⊥
-MayGrow (Flush f) = ⊥
-MayGrow (Init i) = ⊥
-MayGrow (Opendir o) = Unit {0}
-MayGrow (Readdir r) = Unit {0}
-MayGrow (Releasedir r) = ⊥
-MayGrow (Create flags mode umask name) = Unit {0}
-MayGrow (BatchForget count items) = ⊥
-MayGrow (Readdirplus r) = Unit {0}
-MayGrow Passed = ⊥
+MayGrow (Read offset size o) = ⊥
+MayGrow other = Unit {0}
 
--- the step of a request of which this came may take memory: not that of an error
-abbrev pub MayTakeMemory : Outcome → PlainBody → Type 0
-MayTakeMemory (Fails error) body = ⊥
-MayTakeMemory (Succeeds answer) body = MayGrow body
-MayTakeMemory Unanswered body = MayGrow body
+-- no error came of it, and this is so
+abbrev pub DoneAnd : Outcome (Unit {0}) → Type 0 → Type 0
+DoneAnd (Fails error) Such = ⊥
+DoneAnd (Succeeds success) Such = Such
+DoneAnd Unanswered Such = Such
 
--- It tells the code of the first of these checks of a call that fails; or it tells want of memory, the step may take memory, and
--- all of them hold, unless the call lists: what was listed so far is looked through with memory.
+-- It tells the code of the first of these checks that fails. Or it tells want of memory: then no error was answered, a success may take
+-- memory, and all checks hold. Of a request that lists they need not hold, as what was listed so far is looked through with memory.
+abbrev pub TellsBy : StepError → Option PlainOperation → List (ℕ × Type 0) → Type 0
+TellsBy (Refused code) o checks = FirstFailure checks code
+TellsBy Memory (Some (Lists l)) checks = DoneAnd (bare l.outcome) (Unit {0})
+TellsBy Memory (Some (Acts a)) checks = DoneAnd (action_ended a) (MayGrow a) × AllHold checks
+TellsBy Memory None checks = ⊥
+
+-- the same of a call
 abbrev pub TellsOf : StepError → PlainCall → List (ℕ × Type 0) → Type 0
-TellsOf (Refused code) call checks = FirstFailure checks code
-TellsOf Memory call checks = MayTakeMemory (outcome call) call.request.body × (offset_asked call.request.body ≡ None → AllHold checks)
+TellsOf e call checks = TellsBy e (operation call) checks

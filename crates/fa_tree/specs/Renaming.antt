@@ -1,7 +1,11 @@
 -- RENAME (POSIX rename).
 use Rattle.std.specs.Prelude.{◌≡◌, ◌≢◌, ◌⊎◌, ℕ, ◌==◌, if◌then◌else◌, List, [], ◌∷◌, Option, Some, None}
+use Rattle.std.specs.Option.{option_map_or}
 use Rattle.std.specs.FinMap.{get}
-use Rattle.fa_tree.specs.State.{Store, HasName, IsDirectory, IsLinkedDirectory, IsEmptyDirectory, IsBelow}
+use Rattle.fa_tree.specs.State.{Store, HasName, IsFree, IsDirectory, IsLinked, IsLinkedDirectory, IsEmptyDirectory, IsBelow}
+use Rattle.fa_tree.specs.Resolved.{OfOther}
+use Rattle.fa_tree.specs.Causes.{IsDirectoryThere, IsFullDirectoryThere, IsNonDirectoryThere}
+use Rattle.fa_tree.specs.Rules.{Rule}
 use Rattle.fa_tree.specs.Edits.{Edit}
 use Rattle.fa_tree.specs.Edits.Edit.{Added, Removed}
 
@@ -41,3 +45,22 @@ moved_if_any s old_directory old_name new_directory new_name (Some file) =
 abbrev pub rename_edits : Store → (old_directory : ℕ) → (old_name : List ℕ) → (new_directory : ℕ) → (new_name : List ℕ) → List Edit
 rename_edits s old_directory old_name new_directory new_name =
     moved_if_any s old_directory old_name new_directory new_name (get s.names (old_directory, old_name))
+
+-- ---- the operation
+
+-- RENAME, to the second directory that is named. Of a new name that is a directory's which is not empty POSIX lets a server answer
+-- ENOTEMPTY or EEXIST.
+abbrev pub rename_rule : Store → (old_directory : ℕ) → (old_name : List ℕ) → (other : Option ℕ) → (new_name : List ℕ) → Rule
+rename_rule s old_directory old_name other new_name = record {
+  needs = OfOther other (λ new_directory. MayBeRenamed s old_directory old_name new_directory new_name);
+  edits = option_map_or (λ new_directory. rename_edits s old_directory old_name new_directory new_name) other [];
+  files = λ truncates count. s.files;
+  missing = IsFree s old_directory old_name ⊎ ((IsLinked s old_directory → ⊥) ⊎ OfOther other (λ directory. IsLinked s directory → ⊥));
+  taken = OfOther other (λ directory. IsFullDirectoryThere s directory new_name);
+  no_directory =
+      (IsDirectory s old_directory → ⊥)
+      ⊎ (OfOther other (λ directory. IsDirectory s directory → ⊥)
+      ⊎ (IsDirectoryThere s old_directory old_name × OfOther other (λ directory. IsNonDirectoryThere s directory new_name)));
+  a_directory = IsNonDirectoryThere s old_directory old_name × OfOther other (λ directory. IsDirectoryThere s directory new_name);
+  not_empty = OfOther other (λ directory. IsFullDirectoryThere s directory new_name);
+}

@@ -1,28 +1,10 @@
 -- What a call names, as files of the tree.
-use Rattle.std.specs.Prelude.{ℕ, Bool, Option, Some, None, option_map, option_and_then}
+use Rattle.std.specs.Prelude.{ℕ, Option, Some, None, option_map, option_and_then}
 use Rattle.std.specs.FinMap.{get}
-use Rattle.fa_bodies.specs.Requests.{PlainBody}
 use Rattle.fa_ledger.specs.declared.call.Listing.{Listing}
 use Rattle.fa_ledger.specs.declared.name.NodeName.{NodeName}
 use Rattle.fa_ledger.specs.Calls.{PlainCall}
 use Rattle.fa_tree.specs.State.{OpenDirectory, TreeState, file_of}
-
--- What a request asks for, as the tree sees it: its body; whether its file handle is direct; whether its success empties a
--- file that is there; and what it goes on from, if it lists.
-pub record Question : Type 0 where
-  pub body : PlainBody
-  pub direct : Bool
-  pub truncates : Bool
-  pub listing : Option Listing
-
--- the question of a call
-abbrev pub question : PlainCall → Question
-question call = record {
-  body = call.request.body;
-  direct = call.direct;
-  truncates = call.truncates;
-  listing = call.listing;
-}
 
 -- The files that a request names: of its header's node, and the new directory of a RENAME or the file of a LINK. And the open
 -- directory that it lists, if it lists one.

@@ -18,7 +18,7 @@ pub mod NodeParts
 -- what a call names
 pub mod NamedParts
 -- calls that do not list, and those that do
-pub mod PlainParts
+pub mod StepParts
 pub mod ListingParts
 -- ways up the tree
 pub mod ShapeParts

@@ -1,18 +1,22 @@
 //! Whether an error that a tree determines has its cause.
 
 ghost use Rattle.std.specs.Prelude.{◌↔◌, ◌≡◌, ◌⊎◌, ℕ, Option, IsTrue};
-ghost use Rattle.fa_bodies.specs.Requests.{body_shown};
+ghost use Rattle.fa_ledger.specs.Operations.{action_shown};
 ghost use Rattle.fa_tree.specs.State.{OpenDirectory, IsFree, IsDirectory, IsLinked, IsThere};
 ghost use Rattle.fa_tree.specs.Resolved.{OfOther};
-ghost use Rattle.fa_tree.specs.Causes.{IsDirectoryThere, IsFullDirectoryThere, IsNonDirectoryThere, IsMissing, IsTaken, IsNoDirectory, IsADirectory, IsNotEmpty, HasCause};
+ghost use Rattle.fa_tree.specs.Causes.{IsDirectoryThere, IsFullDirectoryThere, IsNonDirectoryThere};
+ghost use Rattle.fa_tree.specs.Opening.{directory_rule};
+ghost use Rattle.fa_tree.specs.Operations.{action_rule};
+ghost use Rattle.fa_tree.specs.Rules.{HasCause};
 ghost use Rattle.fa_tree.specs.parts.NamedParts.{named_shown};
 
 use crate::id::FileId;
 use crate::named::Named;
 use crate::stored::Stored;
 use bitflags::Flags;
+use fa_bodies::FattrFlags;
 use fa_bodies::errno::{EEXIST, EISDIR, ENOENT, ENOTDIR, ENOTEMPTY};
-use fa_bodies::{FattrFlags, RequestBody};
+use fa_ledger::Action;
 
 impl Stored {
     /// Whether a directory has a name.
@@ -84,38 +88,29 @@ impl Stored {
     }
 
     /// Whether ENOENT has its cause.
-    fn is_missing(&self, named: &Named, body: &RequestBody<'_>) -> bool
-        ensures { (handle : Option OpenDirectory) → IsTrue result ↔ IsMissing self.now.store (named_shown named.now handle) (body_shown body.now) }
+    fn is_missing(&self, named: &Named, action: &Action<'_>) -> bool
+        ensures { (handle : Option OpenDirectory) → IsTrue result ↔ (action_rule self.now.store (named_shown named.now handle) (action_shown action.now)).missing }
     {
         let node = named.node;
-        match body {
-            RequestBody::Lookup { name }
-            | RequestBody::Unlink { name }
-            | RequestBody::Rmdir { name } => self.is_absent(node, name),
-            RequestBody::Rename { old_name, .. } => {
+        match action {
+            Action::Lookup { name, .. }
+            | Action::Unlink { name, .. }
+            | Action::Rmdir { name, .. } => self.is_absent(node, name),
+            Action::Rename { old_name, .. } => {
                 self.is_absent(node, old_name) || self.is_any_unlinked(named)
             }
-            RequestBody::Link { .. } => self.is_any_unlinked(named),
-            RequestBody::Symlink { .. }
-            | RequestBody::Mknod { .. }
-            | RequestBody::Mkdir { .. }
-            | RequestBody::Create { .. }
-            | RequestBody::Getattr(_)
-            | RequestBody::Setattr(_)
-            | RequestBody::Readlink
-            | RequestBody::Open(_)
-            | RequestBody::Read(_)
-            | RequestBody::Write { .. }
-            | RequestBody::Opendir(_)
-            | RequestBody::Readdir(_)
-            | RequestBody::Readdirplus(_) => self.is_unlinked(node),
-            RequestBody::Forget { .. }
-            | RequestBody::Release(_)
-            | RequestBody::Flush(_)
-            | RequestBody::Init(_)
-            | RequestBody::Releasedir(_)
-            | RequestBody::BatchForget { .. }
-            | RequestBody::Passed => false,
+            Action::Link { .. } => self.is_any_unlinked(named),
+            Action::Symlink { .. }
+            | Action::Mknod { .. }
+            | Action::Mkdir { .. }
+            | Action::Create { .. }
+            | Action::Getattr { .. }
+            | Action::Setattr { .. }
+            | Action::Readlink { .. }
+            | Action::Open { .. }
+            | Action::Read { .. }
+            | Action::Write { .. }
+            | Action::Opendir { .. } => self.is_unlinked(node),
         }
     }
 
@@ -130,33 +125,29 @@ impl Stored {
     }
 
     /// Whether EEXIST has its cause.
-    fn is_taken(&self, named: &Named, body: &RequestBody<'_>) -> bool
-        ensures { (handle : Option OpenDirectory) → IsTrue result ↔ IsTaken self.now.store (named_shown named.now handle) (body_shown body.now) }
+    fn is_taken(&self, named: &Named, action: &Action<'_>) -> bool
+        ensures { (handle : Option OpenDirectory) → IsTrue result ↔ (action_rule self.now.store (named_shown named.now handle) (action_shown action.now)).taken }
     {
         let node = named.node;
-        match body {
-            RequestBody::Symlink { name, .. }
-            | RequestBody::Mknod { name, .. }
-            | RequestBody::Mkdir { name, .. }
-            | RequestBody::Create { name, .. }
-            | RequestBody::Link { new_name: name, .. } => self.is_there(node, name),
-            RequestBody::Rmdir { name } => self.is_full_directory_there(node, name),
-            RequestBody::Rename { new_name, .. } => {
-                self.is_full_directory_in(named.other, new_name)
-            }
+        match action {
+            Action::Symlink { name, .. }
+            | Action::Mknod { name, .. }
+            | Action::Mkdir { name, .. }
+            | Action::Create { name, .. }
+            | Action::Link { new_name: name, .. } => self.is_there(node, name),
+            Action::Rmdir { name, .. } => self.is_full_directory_there(node, name),
+            Action::Rename { new_name, .. } => { self.is_full_directory_in(named.other, new_name) }
             _ => false,
         }
     }
 
     /// Whether ENOTEMPTY has its cause.
-    fn is_not_empty(&self, named: &Named, body: &RequestBody<'_>) -> bool
-        ensures { (handle : Option OpenDirectory) → IsTrue result ↔ IsNotEmpty self.now.store (named_shown named.now handle) (body_shown body.now) }
+    fn is_not_empty(&self, named: &Named, action: &Action<'_>) -> bool
+        ensures { (handle : Option OpenDirectory) → IsTrue result ↔ (action_rule self.now.store (named_shown named.now handle) (action_shown action.now)).not_empty }
     {
-        match body {
-            RequestBody::Rmdir { name } => self.is_full_directory_there(named.node, name),
-            RequestBody::Rename { new_name, .. } => {
-                self.is_full_directory_in(named.other, new_name)
-            }
+        match action {
+            Action::Rmdir { name, .. } => self.is_full_directory_there(named.node, name),
+            Action::Rename { new_name, .. } => { self.is_full_directory_in(named.other, new_name) }
             _ => false,
         }
     }
@@ -192,43 +183,41 @@ impl Stored {
     }
 
     /// Whether ENOTDIR has its cause.
-    fn is_no_directory(&self, named: &Named, body: &RequestBody<'_>) -> bool
-        ensures { (handle : Option OpenDirectory) → IsTrue result ↔ IsNoDirectory self.now.store (named_shown named.now handle) (body_shown body.now) }
+    fn is_no_directory(&self, named: &Named, action: &Action<'_>) -> bool
+        ensures { (handle : Option OpenDirectory) → IsTrue result ↔ (action_rule self.now.store (named_shown named.now handle) (action_shown action.now)).no_directory }
     {
         let node = named.node;
-        match body {
-            RequestBody::Rmdir { name } => {
+        match action {
+            Action::Rmdir { name, .. } => {
                 !self.is_directory(node) || self.is_non_directory_there(node, name)
             }
-            RequestBody::Rename {
+            Action::Rename {
                 old_name,
                 new_name,
                 ..
             } => self.is_no_place(named, old_name, new_name),
-            RequestBody::Lookup { .. }
-            | RequestBody::Symlink { .. }
-            | RequestBody::Mknod { .. }
-            | RequestBody::Mkdir { .. }
-            | RequestBody::Unlink { .. }
-            | RequestBody::Link { .. }
-            | RequestBody::Create { .. }
-            | RequestBody::Opendir(_)
-            | RequestBody::Readdir(_)
-            | RequestBody::Readdirplus(_) => !self.is_directory(node),
+            Action::Lookup { .. }
+            | Action::Symlink { .. }
+            | Action::Mknod { .. }
+            | Action::Mkdir { .. }
+            | Action::Unlink { .. }
+            | Action::Link { .. }
+            | Action::Create { .. }
+            | Action::Opendir { .. } => !self.is_directory(node),
             _ => false,
         }
     }
 
     /// Whether EISDIR has its cause.
-    fn is_a_directory(&self, named: &Named, body: &RequestBody<'_>) -> bool
-        ensures { (handle : Option OpenDirectory) → IsTrue result ↔ IsADirectory self.now.store (named_shown named.now handle) (body_shown body.now) }
+    fn is_a_directory(&self, named: &Named, action: &Action<'_>) -> bool
+        ensures { (handle : Option OpenDirectory) → IsTrue result ↔ (action_rule self.now.store (named_shown named.now handle) (action_shown action.now)).a_directory }
     {
         let node = named.node;
-        match body {
-            RequestBody::Unlink { name } | RequestBody::Create { name, .. } => {
+        match action {
+            Action::Unlink { name, .. } | Action::Create { name, .. } => {
                 self.is_directory_there(node, name)
             }
-            RequestBody::Rename {
+            Action::Rename {
                 old_name,
                 new_name,
                 ..
@@ -239,26 +228,38 @@ impl Stored {
                 }
                 None => false,
             },
-            RequestBody::Open(_) | RequestBody::Read(_) | RequestBody::Write { .. } => {
+            Action::Open { .. } | Action::Read { .. } | Action::Write { .. } => {
                 self.is_directory(node)
             }
-            RequestBody::Setattr(setattr) => {
+            Action::Setattr { setattr, .. } => {
                 setattr.valid.contains(FattrFlags::SIZE) && self.is_directory(node)
             }
             _ => false,
         }
     }
 
-    /// Whether an error of the request has its cause, or is one that may come at any time.
-    pub(crate) fn has_cause(&self, named: &Named, body: &RequestBody<'_>, error: i32) -> bool
-        ensures { (handle : Option OpenDirectory) → IsTrue result ↔ HasCause self.now.store (named_shown named.now handle) (body_shown body.now) error }
+    /// Whether an error of an action has its cause, or is one that may come at any time.
+    pub(crate) fn has_cause(&self, named: &Named, action: &Action<'_>, error: i32) -> bool
+        ensures { (handle : Option OpenDirectory) → IsTrue result ↔ HasCause (action_rule self.now.store (named_shown named.now handle) (action_shown action.now)) error }
     {
         match error {
-            ENOENT => self.is_missing(named, body),
-            EEXIST => self.is_taken(named, body),
-            ENOTDIR => self.is_no_directory(named, body),
-            EISDIR => self.is_a_directory(named, body),
-            ENOTEMPTY => self.is_not_empty(named, body),
+            ENOENT => self.is_missing(named, action),
+            EEXIST => self.is_taken(named, action),
+            ENOTDIR => self.is_no_directory(named, action),
+            EISDIR => self.is_a_directory(named, action),
+            ENOTEMPTY => self.is_not_empty(named, action),
+            _ => true,
+        }
+    }
+
+    /// The same of READDIR and READDIRPLUS on a directory.
+    pub(crate) fn may_refuse_to_list(&self, directory: FileId, error: i32) -> bool
+        ensures { IsTrue result ↔ HasCause (directory_rule self.now.store directory) error }
+    {
+        match error {
+            ENOENT => self.is_unlinked(directory),
+            ENOTDIR => !self.is_directory(directory),
+            EEXIST | EISDIR | ENOTEMPTY => false,
             _ => true,
         }
     }

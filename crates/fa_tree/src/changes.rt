@@ -1,20 +1,19 @@
-//! What requests make of what a tree stores.
+//! What actions make of what a tree stores.
 
 ghost use Rattle.std.specs.Prelude.{◌≡◌, ◌≢◌, ◌∷◌, [], ℕ, if◌then◌else◌, Option, None, Some, OnOk, OnErr};
 ghost use Rattle.std.specs.FinMap.{get};
 ghost use Rattle.fa_bodies.specs.FlagBits.{fattr_size};
 ghost use Rattle.fa_bodies.specs.Flags.{HasFlag, fattr_bits};
-ghost use Rattle.fa_bodies.specs.Requests.{body_shown};
+ghost use Rattle.fa_ledger.specs.Operations.{action_shown};
 ghost use Rattle.fa_tree.specs.State.{OpenDirectory};
 ghost use Rattle.fa_tree.specs.Edits.Edit.{Removed};
 ghost use Rattle.fa_tree.specs.Lookups.{file_set};
 ghost use Rattle.fa_tree.specs.Renaming.{MayBeRenamed, rename_edits};
-ghost use Rattle.fa_tree.specs.Changes.{with_file, file_written};
-ghost use Rattle.fa_tree.specs.Contents.{resized};
+ghost use Rattle.fa_tree.specs.Rules.{with_file};
+ghost use Rattle.fa_tree.specs.Contents.{resized, file_written};
 ghost use Rattle.fa_tree.specs.Making.{MayBeMade, emptied, new_regular};
 ghost use Rattle.fa_tree.specs.parts.FileParts.{with_bytes};
-ghost use Rattle.fa_tree.specs.Conditions.{MayBeDone};
-ghost use Rattle.fa_tree.specs.parts.PlainParts.{DoesNotList};
+ghost use Rattle.fa_tree.specs.Operations.{action_rule};
 ghost use Rattle.fa_tree.specs.Refusals.{MayGrow};
 ghost use Rattle.fa_tree.specs.parts.NamedParts.{named_shown};
 ghost use Rattle.fa_tree.specs.parts.StoredParts.{mode_set, stored_created, stored_changed, stored_edited, stored_with, stored_opened, stored_noted};
@@ -25,7 +24,8 @@ use crate::making::{new_directory, new_node, new_regular, new_symlink};
 use crate::named::Named;
 use crate::stored::Stored;
 use bitflags::Flags;
-use fa_bodies::{FattrFlags, Mode, RequestBody, SetattrIn};
+use fa_bodies::{FattrFlags, Mode, SetattrIn};
+use fa_ledger::Action;
 use std::alloc::AllocError;
 
 impl Stored {
@@ -144,29 +144,29 @@ impl Stored {
         Ok(())
     }
 
-    /// Makes the change of a request that may be done: whether it empties a file that is there, and how many bytes it wrote.
+    /// Makes the change of an action that may be done: whether it empties a file that is there, and how many bytes it wrote.
+    #[tactic(auto, using(crate::proofs::ChangedLemmas::still_changed))]
     pub(crate) fn change(
         &mut self,
         named: &Named,
-        body: &RequestBody<'_>,
+        action: &Action<'_>,
         truncates: bool,
         count: u32,
     ) -> Result<(), AllocError>
-        requires no_listing { DoesNotList (body_shown body.now) }
-        requires done { (handle : Option OpenDirectory) → MayBeDone self.old.store (named_shown named.now handle) (body_shown body.now) }
-        ensures changed { OnOk result ((handle : Option OpenDirectory) → self.new ≡ stored_changed (named_shown named.now handle) truncates (body_shown body.now) count self.old) }
-        ensures memory { OnErr result (MayGrow (body_shown body.now)) }
+        requires { (handle : Option OpenDirectory) → (action_rule self.old.store (named_shown named.now handle) (action_shown action.now)).needs }
+        ensures changed { OnOk result ((handle : Option OpenDirectory) → self.new ≡ stored_changed (named_shown named.now handle) truncates (action_shown action.now) count self.old) }
+        ensures memory { OnErr result (MayGrow (action_shown action.now)) }
         ensures unchanged { OnErr result (self.new ≡ self.old) }
     {
         let alloc = self.alloc;
         let node = named.node;
-        match body {
-            RequestBody::Setattr(setattr) => self.set_attributes(node, setattr)?,
-            RequestBody::Symlink { name, target } => {
+        match action {
+            Action::Setattr { setattr, .. } => self.set_attributes(node, setattr)?,
+            Action::Symlink { name, target, .. } => {
                 let file = new_symlink(alloc, target)?;
                 self.make(node, name, file)?;
             }
-            RequestBody::Mknod {
+            Action::Mknod {
                 mode,
                 umask,
                 name,
@@ -175,19 +175,24 @@ impl Stored {
                 let file = new_node(alloc, *mode, *umask);
                 self.make(node, name, file)?;
             }
-            RequestBody::Mkdir { mode, umask, name } => {
+            Action::Mkdir {
+                mode,
+                umask,
+                name,
+                ..
+            } => {
                 let file = new_directory(alloc, *mode, *umask);
                 self.make(node, name, file)?;
             }
-            RequestBody::Create {
+            Action::Create {
                 mode,
                 umask,
                 name,
                 ..
             } => self.create(node, name, *mode, *umask, truncates)?,
-            RequestBody::Unlink { name } => self.remove(node, name),
-            RequestBody::Rmdir { name } => self.remove(node, name),
-            RequestBody::Rename {
+            Action::Unlink { name, .. } => self.remove(node, name),
+            Action::Rmdir { name, .. } => self.remove(node, name),
+            Action::Rename {
                 old_name,
                 new_name,
                 ..
@@ -196,41 +201,44 @@ impl Stored {
                     self.rename(node, old_name, directory, new_name)?;
                 }
             }
-            RequestBody::Link { new_name, .. } => {
+            Action::Link { new_name, .. } => {
                 if let Some(file) = named.other {
                     self.link(node, new_name, file)?;
                 }
             }
-            RequestBody::Open(_) => self.empty(node, truncates),
-            RequestBody::Write {
+            Action::Open { .. } => self.empty(node, truncates),
+            Action::Write {
                 offset,
                 payload,
                 ..
             } => self.write(node, *offset, payload, count)?,
-            _ => {}
+            Action::Lookup { .. }
+            | Action::Getattr { .. }
+            | Action::Readlink { .. }
+            | Action::Read { .. }
+            | Action::Opendir { .. } => {}
         }
         Ok(())
     }
 
-    /// Makes the change of a request that may be done, and notes the directory that its success opens, if it opens one anew.
+    /// Makes the change of an action that may be done, and notes the directory that its success opens, if it opens one anew.
     pub(crate) fn leave(
         &mut self,
         named: &Named,
-        body: &RequestBody<'_>,
+        action: &Action<'_>,
         truncates: bool,
         count: u32,
         asked: u32,
         opens: bool,
     ) -> Result<(), AllocError>
-        requires no_listing { DoesNotList (body_shown body.now) }
-        requires done { (handle : Option OpenDirectory) → MayBeDone self.old.store (named_shown named.now handle) (body_shown body.now) }
-        ensures left { OnOk result ((handle : Option OpenDirectory) → self.new ≡ stored_noted (named_shown named.now handle) truncates (body_shown body.now) asked opens count self.old) }
-        ensures memory { OnErr result (MayGrow (body_shown body.now)) }
+        requires { (handle : Option OpenDirectory) → (action_rule self.old.store (named_shown named.now handle) (action_shown action.now)).needs }
+        ensures left { OnOk result ((handle : Option OpenDirectory) → self.new ≡ stored_noted (named_shown named.now handle) truncates (action_shown action.now) asked opens count self.old) }
+        ensures memory { OnErr result (MayGrow (action_shown action.now)) }
         ensures unchanged { OnErr result (self.new ≡ self.old) }
     {
-        match body {
-            RequestBody::Opendir(_) if opens => self.open(asked, named.node),
-            _ => self.change(named, body, truncates, count),
+        match action {
+            Action::Opendir { .. } if opens => self.open(asked, named.node),
+            _ => self.change(named, action, truncates, count),
         }
     }
 }

@@ -1,9 +1,9 @@
 //! What a success of a request asks of a tree.
 
 ghost use Rattle.std.specs.Prelude.{◌↔◌, ◌≢◌, ◌≡◌, ℕ, Option, IsTrue};
-ghost use Rattle.fa_bodies.specs.Requests.{body_shown};
+ghost use Rattle.fa_ledger.specs.Operations.{action_shown};
 ghost use Rattle.fa_tree.specs.State.{HasName, IsDirectory, IsBelow, OpenDirectory};
-ghost use Rattle.fa_tree.specs.Conditions.{MayBeDone};
+ghost use Rattle.fa_tree.specs.Operations.{action_rule};
 ghost use Rattle.fa_tree.specs.parts.NamedParts.{named_shown};
 ghost use Rattle.fa_tree.specs.Lookups.{MayBeSet};
 ghost use Rattle.fa_tree.specs.Making.{MayBeMade, MayBeCreated};
@@ -15,7 +15,8 @@ use crate::id::FileId;
 use crate::named::Named;
 use crate::stored::Stored;
 use bitflags::Flags;
-use fa_bodies::{FattrFlags, OpenFlags, RequestBody, SetattrIn};
+use fa_bodies::{FattrFlags, OpenFlags, SetattrIn};
+use fa_ledger::Action;
 
 impl Stored {
     /// Whether SETATTR may succeed on a file.
@@ -129,21 +130,21 @@ impl Stored {
         }
     }
 
-    /// Whether a success of the request is allowed on the files that it names.
-    pub(crate) fn may_be_done(&self, named: &Named, body: &RequestBody<'_>) -> bool
-        ensures { (handle : Option OpenDirectory) → IsTrue result ↔ MayBeDone self.now.store (named_shown named.now handle) (body_shown body.now) }
+    /// Whether a success of an action is allowed on the files that it names.
+    pub(crate) fn may_be_done(&self, named: &Named, action: &Action<'_>) -> bool
+        ensures { (handle : Option OpenDirectory) → IsTrue result ↔ (action_rule self.now.store (named_shown named.now handle) (action_shown action.now)).needs }
     {
         let node = named.node;
-        match body {
-            RequestBody::Getattr(_) => true,
-            RequestBody::Setattr(setattr) => self.may_be_set(node, setattr),
-            RequestBody::Readlink => self.is_symlink(node),
-            RequestBody::Symlink { name, .. }
-            | RequestBody::Mknod { name, .. }
-            | RequestBody::Mkdir { name, .. } => self.may_be_made(node, name),
-            RequestBody::Unlink { name } => self.may_be_unlinked(node, name),
-            RequestBody::Rmdir { name } => self.may_be_removed(node, name),
-            RequestBody::Rename {
+        match action {
+            Action::Getattr { .. } => true,
+            Action::Setattr { setattr, .. } => self.may_be_set(node, setattr),
+            Action::Readlink { .. } => self.is_symlink(node),
+            Action::Symlink { name, .. }
+            | Action::Mknod { name, .. }
+            | Action::Mkdir { name, .. } => self.may_be_made(node, name),
+            Action::Unlink { name, .. } => self.may_be_unlinked(node, name),
+            Action::Rmdir { name, .. } => self.may_be_removed(node, name),
+            Action::Rename {
                 old_name,
                 new_name,
                 ..
@@ -151,25 +152,15 @@ impl Stored {
                 Some(directory) => self.may_be_renamed(node, old_name, directory, new_name),
                 None => false,
             },
-            RequestBody::Link { new_name, .. } => match named.other {
+            Action::Link { new_name, .. } => match named.other {
                 Some(file) => self.may_be_linked(node, new_name, file),
                 None => false,
             },
-            RequestBody::Open(_) | RequestBody::Read(_) | RequestBody::Write { .. } => {
+            Action::Open { .. } | Action::Read { .. } | Action::Write { .. } => {
                 self.is_regular(node)
             }
-            RequestBody::Lookup { .. }
-            | RequestBody::Opendir(_)
-            | RequestBody::Readdir(_)
-            | RequestBody::Readdirplus(_) => self.is_directory(node),
-            RequestBody::Create { flags, name, .. } => self.may_be_created(node, name, *flags),
-            RequestBody::Forget { .. }
-            | RequestBody::Release(_)
-            | RequestBody::Flush(_)
-            | RequestBody::Init(_)
-            | RequestBody::Releasedir(_)
-            | RequestBody::BatchForget { .. }
-            | RequestBody::Passed => false,
+            Action::Lookup { .. } | Action::Opendir { .. } => self.is_directory(node),
+            Action::Create { flags, name, .. } => self.may_be_created(node, name, *flags),
         }
     }
 }

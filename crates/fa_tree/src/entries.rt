@@ -7,7 +7,7 @@ ghost use Rattle.fa_bodies.specs.Modes.{mode_bits, type_number, HasFileType};
 ghost use Rattle.fa_ledger.specs.Counts.{is_dots, nodes_of_entry};
 ghost use Rattle.fa_tree.specs.State.{File};
 ghost use Rattle.fa_tree.specs.Directories.{judged, LooksUp, IsTypeOf, IsThereIfLookedUp, IsTypedIfLookedUp};
-ghost use Rattle.fa_tree.specs.Judging.{files_listed};
+ghost use Rattle.fa_tree.specs.Directories.{files_listed};
 ghost use Rattle.fa_tree.specs.Bindings.{bound};
 
 use crate::id::FileId;

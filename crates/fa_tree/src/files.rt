@@ -3,7 +3,7 @@
 ghost use Rattle.std.specs.Prelude.{◌≡◌, ◌-◌, ◌++◌, ◌∷◌, [], List, length, map, take, slice_get, option_map, IfOk, OnOk, OnErr};
 ghost use Rattle.fa_bodies.specs.declared.mode.Kind.TheVariants.{Directory};
 ghost use Rattle.fa_tree.specs.State as state;
-ghost use Rattle.fa_tree.specs.Changes.{with_file};
+ghost use Rattle.fa_tree.specs.Rules.{with_file};
 ghost use Rattle.fa_tree.specs.Contents.{resized, written};
 ghost use Rattle.fa_tree.specs.Making.{emptied};
 ghost use Rattle.fa_tree.specs.parts.FileParts.{file_shown, with_bits, with_bytes};

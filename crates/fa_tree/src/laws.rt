@@ -1,6 +1,6 @@
 //! What holds of steps. Each function does nothing: its contract is the law.
 
-ghost use Rattle.fa_tree.specs.Laws.{StepIsOne, StepsWhereAllHold, NoStepWhereOneFails, ReadingChangesNothing, ReadingEditsNothing, WithoutEditsOpenStays, EachOpenByItself, NamesKeepFiles, GivenNamesStand, BuildingKeepsTrees, ChangesKeepTrees, FilesStay};
+ghost use Rattle.fa_tree.specs.Laws.{StepIsOne, StepsWhereAllHold, NoStepWhereOneFails, OutcomeChangesNothing, ReadingChangesNothing, ReadingEditsNothing, WithoutEditsOpenStays, EachOpenByItself, NamesKeepFiles, GivenNamesStand, BuildingKeepsTrees, ChangesKeepTrees, FilesStay};
 
 /// From a tree a call leads to one tree at most.
 pub fn step_is_one()
@@ -15,6 +15,11 @@ pub fn steps_where_all_hold()
 /// Where one is the first that fails, the call leads to none.
 pub fn no_step_where_one_fails()
     ensures { NoStepWhereOneFails }
+{}
+
+/// What an operation needs and makes of the store, and the causes of its errors, are those of its request, whatever came of it.
+pub fn outcome_changes_nothing()
+    ensures { OutcomeChangesNothing }
 {}
 
 /// A reading request leaves what is stored.

@@ -1,51 +1,36 @@
 //! One step of a call that lists: READDIR and READDIRPLUS.
 
-ghost use Rattle.std.specs.Prelude.{◌≡◌, ◌≢◌, ◌↔◌, ◌<◌, ℕ, List, Option, None, Some, length, map, [], All, IsTrue, IsFalse, IfOk, IfSome, IfNone, IfErr, OnOk, OnErr};
+ghost use Rattle.std.specs.Prelude.{◌≡◌, ◌≢◌, ◌↔◌, ◌<◌, ℕ, Option, None, Some, length, map, [], All, IsTrue, IsFalse, IfOk, IfSome, IfNone, IfErr, OnOk, OnErr};
 ghost use Rattle.std.specs.FinMap.{get};
 ghost use Rattle.std.specs.Option.{option_map};
 ghost use Rattle.fa_capture.specs.Checks.{AllHold, FirstFailure};
-ghost use Rattle.fa_bodies.specs.Dirents.{PlainDirent};
 ghost use Rattle.fa_bodies.specs.Listing.{entries_left};
-ghost use Rattle.fa_bodies.specs.Replies.{reply_shown};
-ghost use Rattle.fa_bodies.specs.Replies.PlainReply.{Listed};
-ghost use Rattle.fa_bodies.specs.Requests.{body_shown};
-ghost use Rattle.fa_ledger.specs.Calls.{answer_shown, call_shown};
+ghost use Rattle.fa_ledger.specs.Calls.{call_shown, operation};
+ghost use Rattle.fa_ledger.specs.Operations.{bare, list_shown};
+ghost use Rattle.fa_ledger.specs.Operations.PlainOperation.{Lists};
 ghost use Rattle.fa_ledger.specs.SoFar.{listing_so_far};
-ghost use Rattle.fa_tree.specs.State.{file_of};
-ghost use Rattle.fa_tree.specs.Resolved.{Resolved, question, resolved};
-ghost use Rattle.fa_tree.specs.Causes.{HasCause};
-ghost use Rattle.fa_tree.specs.Conditions.{MayBeDone};
-ghost use Rattle.fa_tree.specs.Directories.{judged, IsTypedIfLookedUp};
-ghost use Rattle.fa_tree.specs.Judging.{EntriesAre, size_asked, files_listed};
+ghost use Rattle.fa_tree.specs.State.{IsDirectory};
+ghost use Rattle.fa_tree.specs.Resolved.{Resolved, resolved};
+ghost use Rattle.fa_tree.specs.Directories.{judged, IsTypedIfLookedUp, EntriesAre, files_listed};
+ghost use Rattle.fa_tree.specs.Opening.{directory_rule};
+ghost use Rattle.fa_tree.specs.Rules.{HasCause};
+ghost use Rattle.fa_tree.specs.Bindings.{AreBound, bound};
+ghost use Rattle.fa_tree.specs.Steps.{names_given, given_in, operation_checks, step_checks, Steps};
+ghost use Rattle.fa_tree.specs.Refusals.{DoneAnd, TellsOf};
 ghost use Rattle.fa_tree.specs.declared.error.StepError.TheVariants.{Refused};
-ghost use Rattle.fa_tree.specs.Bindings.{AreBound, bound, given_in};
-ghost use Rattle.fa_tree.specs.Outcomes.{outcome};
-ghost use Rattle.fa_tree.specs.Outcomes.Outcome.{Succeeds};
-ghost use Rattle.fa_tree.specs.Steps.{outcome_checks, step_checks, Steps};
-ghost use Rattle.fa_tree.specs.Refusals.{MayTakeMemory, TellsOf};
 ghost use Rattle.fa_tree.specs.parts.OpenParts.{open_of};
 ghost use Rattle.fa_tree.specs.parts.NamedParts.{named_shown, directory_shown};
-ghost use Rattle.fa_tree.specs.parts.ListingParts.{entries_checks, Lists, settled, given_by, TellsSuch};
+ghost use Rattle.fa_tree.specs.parts.ListingParts.{entries_checks, settled, TellsSuch};
 
 use crate::error::StepError;
 use crate::id::FileId;
 use crate::named::{Named, NamedDirectory};
+use crate::step::names_given;
 use crate::tree::Tree;
-use fa_bodies::{Entries, Reply, RequestBody};
+use fa_bodies::Entries;
 use fa_capture::codes;
-use fa_ledger::{Answer, Call, Calls, NodeName};
+use fa_ledger::{Call, Calls, List, NodeName, Outcome};
 use std::alloc::AllocError;
-
-/// The size that a request to list asks for, if it is one.
-fn size_asked(body: &RequestBody<'_>) -> Option<u32>
-    ensures { result ≡ size_asked (body_shown body.now) }
-{
-    match body {
-        RequestBody::Readdir(read) => Some(read.size),
-        RequestBody::Readdirplus(read) => Some(read.size),
-        _ => None,
-    }
-}
 
 impl Tree {
     /// Files that are named, with the directory that the request of this number opened, if one did.
@@ -77,31 +62,32 @@ impl Tree {
         calls: &Calls<'a>,
         k: usize,
         call: &Call<'a>,
+        size: u32,
         entries: Entries<'a>,
     ) -> Result<bool, AllocError>
         requires { k < length calls.now.list.items }
-        ensures { IfOk result (λ are. IsTrue are ↔ EntriesAre self.now.store (size_asked (body_shown call.now.request.body)) (Some (open_of at.now.names)) call.now.listing (listing_so_far (map call_shown calls.now.list.items) k) (entries_left entries.entry)) }
+        ensures { IfOk result (λ are. IsTrue are ↔ EntriesAre self.now.store size (Some (open_of at.now.names)) call.now.listing (listing_so_far (map call_shown calls.now.list.items) k) (entries_left entries.entry)) }
     {
-        match (size_asked(&call.request.body), &call.listing) {
-            (Some(size), Some(listing)) => self
+        match &call.listing {
+            Some(listing) => self
                 .stored
                 .is_listed(&at.names, calls, k, listing, entries, size),
-            _ => Ok(false),
+            None => Ok(false),
         }
     }
 
     /// Whether a request that lists may succeed.
-    fn may_list(&self, at: &NamedDirectory<'_>, call: &Call<'_>) -> bool
-        ensures { IsTrue result ↔ MayBeDone self.now.store (directory_shown at.now) (body_shown call.now.request.body) }
+    fn may_list(&self, at: &NamedDirectory<'_>) -> bool
+        ensures { IsTrue result ↔ IsDirectory self.now.store (directory_shown at.now).node }
     {
-        self.stored.may_be_done(&at.named, &call.request.body)
+        self.stored.is_directory(at.named.node)
     }
 
     /// Whether a request that lists may be refused so.
-    fn may_refuse(&self, at: &NamedDirectory<'_>, call: &Call<'_>, error: i32) -> bool
-        ensures { IsTrue result ↔ HasCause self.now.store (directory_shown at.now) (body_shown call.now.request.body) error }
+    fn may_refuse(&self, at: &NamedDirectory<'_>, error: i32) -> bool
+        ensures { IsTrue result ↔ HasCause (directory_rule self.now.store (directory_shown at.now).node) error }
     {
-        self.stored.has_cause(&at.named, &call.request.body, error)
+        self.stored.may_refuse_to_list(at.named.node, error)
     }
 
     /// Whether the types in the attributes of entries fit.
@@ -138,24 +124,24 @@ impl Tree {
         calls: &Calls<'a>,
         k: usize,
         call: &Call<'a>,
-        given: &[NodeName],
+        size: u32,
         entries: Entries<'a>,
     ) -> Result<Vec<(NodeName, FileId)>, StepError>
         requires { k < length calls.now.list.items }
-        ensures ok { IfOk result (λ nodes. AllHold (entries_checks self.now.nodes self.now.store (directory_shown at.now) (question (call_shown call.now)) (listing_so_far (map call_shown calls.now.list.items) k) given.now (entries_left entries.entry)) × (nodes.items ≡ bound given.now (files_listed self.now.store (open_of at.now.names).directory (entries_left entries.entry)))) }
-        ensures refused { IfErr result (λ e. TellsSuch e (FirstFailure (entries_checks self.now.nodes self.now.store (directory_shown at.now) (question (call_shown call.now)) (listing_so_far (map call_shown calls.now.list.items) k) given.now (entries_left entries.entry))) (Unit {0})) }
+        ensures ok { IfOk result (λ nodes. AllHold (entries_checks self.now.nodes self.now.store (directory_shown at.now) call.now.listing size (listing_so_far (map call_shown calls.now.list.items) k) (names_given (call_shown call.now)) (entries_left entries.entry)) × (nodes.items ≡ bound (names_given (call_shown call.now)) (files_listed self.now.store (open_of at.now.names).directory (entries_left entries.entry)))) }
+        ensures refused { IfErr result (λ e. TellsSuch e (FirstFailure (entries_checks self.now.nodes self.now.store (directory_shown at.now) call.now.listing size (listing_so_far (map call_shown calls.now.list.items) k) (names_given (call_shown call.now)) (entries_left entries.entry))) (Unit {0})) }
     {
-        if !self.may_list(at, call) {
+        if !self.may_list(at) {
             return Err(StepError::Refused(codes::SUCCESS_NOT_ALLOWED));
         }
         if !self.types_fit(at, entries) {
             return Err(StepError::Refused(codes::ATTRIBUTES));
         }
-        let nodes = self.nodes_listed(at, given, entries)?;
+        let nodes = self.nodes_listed(at, names_given(call), entries)?;
         if !self.may_bind_all(&nodes)? {
             return Err(StepError::Refused(codes::NODE_ID_OF_ANOTHER));
         }
-        if !self.entries_are(at, calls, k, call, entries)? {
+        if !self.entries_are(at, calls, k, call, size, entries)? {
             return Err(StepError::Refused(codes::LISTING));
         }
         Ok(nodes)
@@ -180,24 +166,22 @@ impl Tree {
         calls: &Calls<'a>,
         k: usize,
         call: &Call<'a>,
+        list: &List<'a>,
     ) -> Result<Vec<(NodeName, FileId)>, StepError>
-        requires there { k < length calls.now.list.items }
-        requires lists { Lists (body_shown call.now.request.body) }
-        ensures ok { IfOk result (λ nodes. AllHold (outcome_checks self.now.nodes (settled self.now.store (directory_shown at.now) (question (call_shown call.now)) (listing_so_far (map call_shown calls.now.list.items) k)) (outcome (call_shown call.now))) × (nodes.items ≡ given_by self.now.store (directory_shown at.now) (body_shown call.now.request.body) (outcome (call_shown call.now)))) }
-        ensures refused { IfErr result (λ e. TellsSuch e (FirstFailure (outcome_checks self.now.nodes (settled self.now.store (directory_shown at.now) (question (call_shown call.now)) (listing_so_far (map call_shown calls.now.list.items) k)) (outcome (call_shown call.now)))) (MayTakeMemory (outcome (call_shown call.now)) (body_shown call.now.request.body))) }
+        requires { k < length calls.now.list.items }
+        ensures ok { IfOk result (λ nodes. AllHold (operation_checks self.now.nodes (settled self.now.store (directory_shown at.now) call.now.listing (listing_so_far (map call_shown calls.now.list.items) k)) (call_shown call.now) (Lists (list_shown list.now))) × (nodes.items ≡ given_in (settled self.now.store (directory_shown at.now) call.now.listing (listing_so_far (map call_shown calls.now.list.items) k)) (call_shown call.now) (Lists (list_shown list.now)))) }
+        ensures refused { IfErr result (λ e. TellsSuch e (FirstFailure (operation_checks self.now.nodes (settled self.now.store (directory_shown at.now) call.now.listing (listing_so_far (map call_shown calls.now.list.items) k)) (call_shown call.now) (Lists (list_shown list.now)))) (DoneAnd (bare (list_shown list.now).outcome) (Unit {0}))) }
     {
-        match &call.answer {
-            None => self.nothing_given(self.may_list(at, call), codes::SUCCESS_NOT_ALLOWED),
-            Some(answer) => match answer.reply {
-                Reply::Refused(error) => self.nothing_given(
-                    self.may_refuse(at, call, error),
-                    codes::ERROR_WITHOUT_CAUSE,
-                ),
-                Reply::Listed(entries) => {
-                    self.judge_entries(at, calls, k, call, answer.given.names(), entries)
-                }
-                _ => Err(StepError::Refused(codes::SUCCESS_NOT_ALLOWED)),
-            },
+        match list.outcome {
+            Outcome::Fails(error) => {
+                self.nothing_given(self.may_refuse(at, error), codes::ERROR_WITHOUT_CAUSE)
+            }
+            Outcome::Succeeds(entries) => {
+                self.judge_entries(at, calls, k, call, list.size, entries)
+            }
+            Outcome::Unanswered => {
+                self.nothing_given(self.may_list(at), codes::SUCCESS_NOT_ALLOWED)
+            }
         }
     }
 
@@ -207,16 +191,17 @@ impl Tree {
         calls: &Calls<'a>,
         k: usize,
         call: &Call<'a>,
+        list: &List<'a>,
     ) -> Result<Vec<(NodeName, FileId)>, StepError>
         requires there { k < length calls.now.list.items }
-        requires lists { Lists (body_shown call.now.request.body) }
+        requires asks { operation (call_shown call.now) ≡ Some (Lists (list_shown list.now)) }
         requires listing { call.now.listing ≢ None }
-        ensures ok { IfOk result (λ nodes. (x : Resolved) × (resolved self.now (call_shown call.now) ≡ Some x) × AllHold (outcome_checks self.now.nodes (settled self.now.store x (question (call_shown call.now)) (listing_so_far (map call_shown calls.now.list.items) k)) (outcome (call_shown call.now))) × (nodes.items ≡ given_by self.now.store x (body_shown call.now.request.body) (outcome (call_shown call.now)))) }
+        ensures ok { IfOk result (λ nodes. (x : Resolved) × (resolved self.now (call_shown call.now) ≡ Some x) × AllHold (operation_checks self.now.nodes (settled self.now.store x call.now.listing (listing_so_far (map call_shown calls.now.list.items) k)) (call_shown call.now) (Lists (list_shown list.now))) × (nodes.items ≡ given_in (settled self.now.store x call.now.listing (listing_so_far (map call_shown calls.now.list.items) k)) (call_shown call.now) (Lists (list_shown list.now)))) }
         ensures refused { IfErr result (λ e. (wrote : Option ℕ) → TellsOf e (call_shown call.now) (step_checks self.now (call_shown call.now) wrote (listing_so_far (map call_shown calls.now.list.items) k))) }
     {
         match self.directory_named(call) {
             None => Err(StepError::Refused(codes::UNKNOWN_HERE)),
-            Some(at) => self.judge_listing(&at, calls, k, call),
+            Some(at) => self.judge_listing(&at, calls, k, call, list),
         }
     }
 
@@ -226,15 +211,16 @@ impl Tree {
         calls: &Calls<'a>,
         k: usize,
         call: &Call<'a>,
+        list: &List<'a>,
     ) -> Result<(), StepError>
         requires there { k < length calls.now.list.items }
-        requires lists { Lists (body_shown call.now.request.body) }
+        requires asks { operation (call_shown call.now) ≡ Some (Lists (list_shown list.now)) }
         requires listing { call.now.listing ≢ None }
         ensures steps { OnOk result ((wrote : Option ℕ) → Steps self.old self.new (call_shown call.now) wrote (listing_so_far (map call_shown calls.now.list.items) k)) }
         ensures refused { IfErr result (λ e. (wrote : Option ℕ) → TellsOf e (call_shown call.now) (step_checks self.old (call_shown call.now) wrote (listing_so_far (map call_shown calls.now.list.items) k))) }
         ensures unchanged { OnErr result (self.new ≡ self.old) }
     {
-        let nodes = self.judge_named(calls, k, call)?;
+        let nodes = self.judge_named(calls, k, call, list)?;
         if !nodes.is_empty() {
             self.nodes.reserve_for(nodes.len())?;
             self.nodes.bind_all(&nodes);

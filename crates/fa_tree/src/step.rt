@@ -1,49 +1,62 @@
 //! One step of a tree: a call is judged, and then the tree is what it leaves.
 
-ghost use Rattle.std.specs.Prelude.{◌≡◌, ◌↔◌, ◌<◌, ℕ, List, Option, None, Some, length, slice_get, map, IsTrue, IfSome, IfNone, IfErr, OnOk, OnErr};
+ghost use Rattle.std.specs.Prelude.{◌≡◌, ◌↔◌, ◌<◌, ℕ, Bool, List, Option, None, Some, length, map, IsTrue, IfSome, IfNone, IfErr, OnOk, OnErr};
 ghost use Rattle.std.specs.Option.{option_to_list};
 ghost use Rattle.fa_capture.specs.Checks.{AllHold, FirstFailure};
 ghost use Rattle.fa_bodies.specs.Dirents.{PlainDirent};
-ghost use Rattle.fa_bodies.specs.Replies.{reply_shown};
-ghost use Rattle.fa_bodies.specs.Requests.{body_shown};
-ghost use Rattle.fa_ledger.specs.Calls.{answer_shown, call_shown};
+ghost use Rattle.fa_ledger.specs.Calls.{call_shown, operation};
 ghost use Rattle.fa_ledger.specs.Choices.{Allows};
+ghost use Rattle.fa_ledger.specs.Operations.{action_shown, action_ended};
+ghost use Rattle.fa_ledger.specs.Operations.PlainOperation.{Acts};
 ghost use Rattle.fa_ledger.specs.SoFar.{listing_so_far};
-ghost use Rattle.fa_ledger.specs.declared.call.Call.{Call as TheCall};
-ghost use Rattle.fa_tree.specs.State.{file_of};
-ghost use Rattle.fa_tree.specs.Resolved.{Question, question, resolved, other_of};
-ghost use Rattle.fa_tree.specs.Causes.{HasCause};
-ghost use Rattle.fa_tree.specs.Conditions.{MayBeDone};
-ghost use Rattle.fa_tree.specs.Changes.{changed};
-ghost use Rattle.fa_tree.specs.Answers.{IsAnswerTo};
-ghost use Rattle.fa_tree.specs.Judging.{AttributesFit, BytesFit};
-ghost use Rattle.fa_tree.specs.Bindings.{AreBound, given_in};
-ghost use Rattle.fa_tree.specs.Outcomes.{outcome, count_written};
-ghost use Rattle.fa_tree.specs.Outcomes.Outcome.{Fails, Succeeds, Unanswered};
-ghost use Rattle.fa_tree.specs.Steps.{SuccessAllowed, OfCallAt, setting, outcome_checks, step_checks, tree_changed, noted, tree_after, Steps};
-ghost use Rattle.fa_tree.specs.parts.PlainParts.{AsksNoListing};
-ghost use Rattle.fa_tree.specs.Refusals.{MayGrow, MayTakeMemory, TellsOf};
+ghost use Rattle.fa_tree.specs.State.{Store, file_of};
+ghost use Rattle.fa_tree.specs.Resolved.{resolved, other_of};
+ghost use Rattle.fa_tree.specs.Rules.{HasCause};
+ghost use Rattle.fa_tree.specs.Bindings.{AreBound};
+ghost use Rattle.fa_tree.specs.Operations.{action_rule, action_said, count_written, said};
+ghost use Rattle.fa_tree.specs.Steps.{OfCallAt, names_given, opens_anew, setting, given_in, operation_checks, step_checks, tree_done, tree_after, Steps};
+ghost use Rattle.fa_tree.specs.Refusals.{DoneAnd, MayGrow, TellsOf};
 ghost use Rattle.fa_tree.specs.parts.NamedParts.{named_shown};
+ghost use Rattle.fa_tree.specs.parts.StepParts.{done_checks};
 
 use crate::error::StepError;
 use crate::id::FileId;
 use crate::named::Named;
 use crate::tree::Tree;
-use fa_bodies::{Reply, RequestBody};
 use fa_capture::codes;
-use fa_ledger::{Answer, Call, Calls, NodeName};
+use fa_ledger::{Action, Call, Calls, NodeName, Operation, Outcome};
 use std::alloc::AllocError;
 
-/// How many bytes a call wrote: as its answer says, and as the order says where it has none.
-fn count_written(call: &Call<'_>, wrote: Option<u32>) -> u32
-    ensures { result ≡ count_written (call_shown call.now) wrote }
+/// How many bytes an action wrote: as its answer says, and as the order says where it has none.
+fn count_written(action: &Action<'_>, wrote: Option<u32>) -> u32
+    ensures { result ≡ count_written (Acts (action_shown action.now)) wrote }
+{
+    match action {
+        Action::Write {
+            outcome: Outcome::Succeeds(count),
+            ..
+        } => *count,
+        _ => wrote.unwrap_or(0),
+    }
+}
+
+/// The names of nodes that the answer to a call gives, in their order.
+pub(crate) fn names_given<'c>(call: &'c Call<'_>) -> &'c [NodeName]
+    ensures { result.now ≡ names_given (call_shown call.now) }
 {
     match &call.answer {
-        None => wrote.unwrap_or(0),
-        Some(answer) => match answer.reply {
-            Reply::Written(count) => count,
-            _ => 0,
-        },
+        Some(answer) => answer.given.names(),
+        None => &[],
+    }
+}
+
+/// Whether the answer to a call opens a handle that was not open.
+fn opens_anew(call: &Call<'_>) -> bool
+    ensures { result ≡ opens_anew (call_shown call.now) }
+{
+    match &call.answer {
+        Some(answer) => answer.opens,
+        None => false,
     }
 }
 
@@ -54,7 +67,7 @@ impl Tree {
     /// done as a success without one.
     ///
     /// `Refused` tells the least code that applies:
-    /// [`UNKNOWN_HERE`](fa_capture::codes::UNKNOWN_HERE) that the tree knows no file for a node that the call names, or no open directory for its handle;
+    /// [`UNKNOWN_HERE`](fa_capture::codes::UNKNOWN_HERE) that the tree knows no file for a node that the call names, or no open directory for its handle, or that the call is none of a ledger's, and asks nothing of a tree;
     /// [`SUCCESS_NOT_ALLOWED`](fa_capture::codes::SUCCESS_NOT_ALLOWED) that the request can't succeed here, or not with such an
     /// answer; [`ERROR_WITHOUT_CAUSE`](fa_capture::codes::ERROR_WITHOUT_CAUSE) that an error of POSIX that has one cause is
     /// answered without it; [`ATTRIBUTES`](fa_capture::codes::ATTRIBUTES) that attributes (`struct fuse_attr`) are not those of
@@ -75,10 +88,10 @@ impl Tree {
         ensures unchanged { OnErr result (self.new ≡ self.old) }
     {
         let call = &calls.list[k];
-        match &call.request.body {
-            RequestBody::Readdir(_) => self.list(calls, k, call),
-            RequestBody::Readdirplus(_) => self.list(calls, k, call),
-            _ => self.step_on(call, wrote),
+        match call.operation() {
+            Some(Operation::List(list)) => self.list(calls, k, call, &list),
+            Some(Operation::Act(action)) => self.act(call, &action, wrote),
+            None => Err(StepError::Refused(codes::UNKNOWN_HERE)),
         }
     }
 
@@ -123,20 +136,16 @@ impl Tree {
     fn binding(
         &self,
         named: &Named,
-        body: &RequestBody<'_>,
-        answer: &Answer<'_>,
+        call: &Call<'_>,
+        action: &Action<'_>,
     ) -> Option<(NodeName, FileId)>
-        ensures { (q : Question) (count : ℕ) → q.body ≡ body_shown body.now → AsksNoListing q → MayBeDone self.now.store (named_shown named.now None) q.body → IsAnswerTo q.body (reply_shown answer.now.reply) → given_in (changed self.now.store (named_shown named.now None) q count) (named_shown named.now None) q.body (answer_shown answer.now) ≡ option_to_list result }
+        ensures { (count : ℕ) (so_far : List PlainDirent) → (action_rule self.now.store (named_shown named.now None) (action_shown action.now)).needs
+            → given_in (setting self.now.store (named_shown named.now None) (call_shown call.now) (Acts (action_shown action.now)) count so_far) (call_shown call.now) (Acts (action_shown action.now)) ≡ option_to_list result }
     {
-        match &answer.reply {
-            Reply::Entry(_) | Reply::Created { .. } => {
-                let file = self.stored.file_after(named, body)?;
-                match answer.given.names().first() {
-                    Some(name) => Some((*name, file)),
-                    None => None,
-                }
-            }
-            _ => None,
+        let file = self.stored.file_given(named, action)?;
+        match names_given(call).first() {
+            Some(name) => Some((*name, file)),
+            None => None,
         }
     }
 
@@ -153,183 +162,135 @@ impl Tree {
         }
     }
 
-    /// Whether an answer may be a success.
-    fn success_allowed(&self, named: &Named, call: &Call<'_>, answer: &Answer<'_>) -> bool
-        ensures { (count : ℕ) (so_far : List PlainDirent) → IsTrue result ↔ SuccessAllowed (setting self.now.store (named_shown named.now None) (question (call_shown call.now)) count so_far) (Succeeds (answer_shown answer.now)) }
+    /// Whether an action may succeed, and finds what its answer says.
+    fn may_succeed(&self, named: &Named, action: &Action<'_>) -> bool
+        ensures { (after : Store) (direct : Bool) → IsTrue result ↔ ((action_rule self.now.store (named_shown named.now None) (action_shown action.now)).needs × (action_said self.now.store after (named_shown named.now None) direct (action_shown action.now)).found) }
     {
-        self.stored
-            .may_succeed(named, &call.request.body, &answer.reply)
+        self.stored.may_succeed(named, action)
     }
 
     /// Whether the attributes in an answer fit.
-    fn attributes_fit(&self, named: &Named, call: &Call<'_>, answer: &Answer<'_>) -> bool
-        requires no_listing { AsksNoListing (question (call_shown call.now)) }
-        requires done { MayBeDone self.now.store (named_shown named.now None) (body_shown call.now.request.body) }
-        requires answers { IsAnswerTo (body_shown call.now.request.body) (reply_shown answer.now.reply) }
-        ensures { (count : ℕ) → IsTrue result ↔ AttributesFit (changed self.now.store (named_shown named.now None) (question (call_shown call.now)) count) (named_shown named.now None) (body_shown call.now.request.body) (reply_shown answer.now.reply) }
+    fn attributes_fit(&self, named: &Named, call: &Call<'_>, action: &Action<'_>) -> bool
+        requires { (action_rule self.now.store (named_shown named.now None) (action_shown action.now)).needs }
+        ensures { (count : ℕ) (so_far : List PlainDirent) → IsTrue result ↔ (said (setting self.now.store (named_shown named.now None) (call_shown call.now) (Acts (action_shown action.now)) count so_far) (Acts (action_shown action.now))).attributes }
     {
-        self.stored
-            .attributes_fit(named, &call.request.body, call.truncates, &answer.reply)
+        self.stored.attributes_fit(named, action, call.truncates)
     }
 
     /// Whether the names of nodes in an answer may be given for their files.
-    fn nodes_fit(&self, named: &Named, call: &Call<'_>, answer: &Answer<'_>) -> bool
-        requires no_listing { AsksNoListing (question (call_shown call.now)) }
-        requires done { MayBeDone self.now.store (named_shown named.now None) (body_shown call.now.request.body) }
-        requires answers { IsAnswerTo (body_shown call.now.request.body) (reply_shown answer.now.reply) }
-        ensures { (count : ℕ) → IsTrue result ↔ AreBound self.now.nodes (given_in (changed self.now.store (named_shown named.now None) (question (call_shown call.now)) count) (named_shown named.now None) (body_shown call.now.request.body) (answer_shown answer.now)) }
+    fn nodes_fit(&self, named: &Named, call: &Call<'_>, action: &Action<'_>) -> bool
+        requires { (action_rule self.now.store (named_shown named.now None) (action_shown action.now)).needs }
+        ensures { (count : ℕ) (so_far : List PlainDirent) → IsTrue result ↔ AreBound self.now.nodes (given_in (setting self.now.store (named_shown named.now None) (call_shown call.now) (Acts (action_shown action.now)) count so_far) (call_shown call.now) (Acts (action_shown action.now))) }
     {
-        self.may_bind(&self.binding(named, &call.request.body, answer))
+        self.may_bind(&self.binding(named, call, action))
     }
 
-    /// Whether the bytes in an answer are those that the request asks for.
-    fn bytes_fit(&self, named: &Named, call: &Call<'_>, answer: &Answer<'_>) -> bool
-        requires no_listing { AsksNoListing (question (call_shown call.now)) }
-        requires answers { IsAnswerTo (body_shown call.now.request.body) (reply_shown answer.now.reply) }
-        ensures { (count : ℕ) → IsTrue result ↔ BytesFit (changed self.now.store (named_shown named.now None) (question (call_shown call.now)) count) (named_shown named.now None) (question (call_shown call.now)) (reply_shown answer.now.reply) }
+    /// Whether the bytes in an answer are those that the action asks for.
+    fn bytes_fit(&self, named: &Named, call: &Call<'_>, action: &Action<'_>) -> bool
+        ensures { (count : ℕ) (so_far : List PlainDirent) → IsTrue result ↔ (said (setting self.now.store (named_shown named.now None) (call_shown call.now) (Acts (action_shown action.now)) count so_far) (Acts (action_shown action.now))).bytes }
     {
-        self.stored
-            .bytes_fit(named, &call.request.body, call.direct, &answer.reply)
+        self.stored.bytes_fit(named, action, call.direct)
     }
 
-    /// Judges an answer that is a success.
-    fn judge_success(&self, named: &Named, call: &Call<'_>, answer: &Answer<'_>) -> Result<(), u16>
-        requires no_listing { AsksNoListing (question (call_shown call.now)) }
-        ensures ok { OnOk result ((count : ℕ) (so_far : List PlainDirent) → AllHold (outcome_checks self.now.nodes (setting self.now.store (named_shown named.now None) (question (call_shown call.now)) count so_far) (Succeeds (answer_shown answer.now)))) }
-        ensures fault { IfErr result (λ code. (count : ℕ) (so_far : List PlainDirent) → FirstFailure (outcome_checks self.now.nodes (setting self.now.store (named_shown named.now None) (question (call_shown call.now)) count so_far) (Succeeds (answer_shown answer.now))) code) }
+    /// Judges an action that did not fail: a success, or one that an order takes as done though it was not answered.
+    fn judge_done(&self, named: &Named, call: &Call<'_>, action: &Action<'_>) -> Result<(), u16>
+        ensures ok { OnOk result ((count : ℕ) (so_far : List PlainDirent) → AllHold (done_checks self.now.nodes (setting self.now.store (named_shown named.now None) (call_shown call.now) (Acts (action_shown action.now)) count so_far) (call_shown call.now) (Acts (action_shown action.now)))) }
+        ensures fault { IfErr result (λ code. (count : ℕ) (so_far : List PlainDirent) → FirstFailure (done_checks self.now.nodes (setting self.now.store (named_shown named.now None) (call_shown call.now) (Acts (action_shown action.now)) count so_far) (call_shown call.now) (Acts (action_shown action.now))) code) }
     {
-        if !self.success_allowed(named, call, answer) {
+        if !self.may_succeed(named, action) {
             return Err(codes::SUCCESS_NOT_ALLOWED);
         }
-        if !self.attributes_fit(named, call, answer) {
+        if !self.attributes_fit(named, call, action) {
             return Err(codes::ATTRIBUTES);
         }
-        if !self.nodes_fit(named, call, answer) {
+        if !self.nodes_fit(named, call, action) {
             return Err(codes::NODE_ID_OF_ANOTHER);
         }
-        if !self.bytes_fit(named, call, answer) {
+        if !self.bytes_fit(named, call, action) {
             return Err(codes::BYTES_READ);
         }
         Ok(())
     }
 
-    /// Judges a call that names these files.
-    fn judge(&self, named: &Named, call: &Call<'_>) -> Result<(), u16>
-        requires no_listing { AsksNoListing (question (call_shown call.now)) }
-        ensures ok { OnOk result ((count : ℕ) (so_far : List PlainDirent) → AllHold (outcome_checks self.now.nodes (setting self.now.store (named_shown named.now None) (question (call_shown call.now)) count so_far) (outcome (call_shown call.now)))) }
-        ensures fault { IfErr result (λ code. (count : ℕ) (so_far : List PlainDirent) → FirstFailure (outcome_checks self.now.nodes (setting self.now.store (named_shown named.now None) (question (call_shown call.now)) count so_far) (outcome (call_shown call.now))) code) }
-    {
-        match &call.answer {
-            None => self.judge_unanswered(named, call),
-            Some(answer) => match answer.reply {
-                Reply::Refused(error) => self.judge_error(named, call, error),
-                _ => self.judge_success(named, call, answer),
-            },
-        }
-    }
-
-    /// Judges a request that an order takes as done though it was not answered.
-    fn judge_unanswered(&self, named: &Named, call: &Call<'_>) -> Result<(), u16>
-        ensures ok { OnOk result ((count : ℕ) (so_far : List PlainDirent) → AllHold (outcome_checks self.now.nodes (setting self.now.store (named_shown named.now None) (question (call_shown call.now)) count so_far) Unanswered)) }
-        ensures fault { IfErr result (λ code. (count : ℕ) (so_far : List PlainDirent) → FirstFailure (outcome_checks self.now.nodes (setting self.now.store (named_shown named.now None) (question (call_shown call.now)) count so_far) Unanswered) code) }
-    {
-        if self.may_be_done(named, call) {
-            Ok(())
-        } else {
-            Err(codes::SUCCESS_NOT_ALLOWED)
-        }
-    }
-
-    /// Judges an error.
-    fn judge_error(&self, named: &Named, call: &Call<'_>, error: i32) -> Result<(), u16>
-        ensures ok { OnOk result ((count : ℕ) (so_far : List PlainDirent) → AllHold (outcome_checks self.now.nodes (setting self.now.store (named_shown named.now None) (question (call_shown call.now)) count so_far) (Fails error))) }
-        ensures fault { IfErr result (λ code. (count : ℕ) (so_far : List PlainDirent) → FirstFailure (outcome_checks self.now.nodes (setting self.now.store (named_shown named.now None) (question (call_shown call.now)) count so_far) (Fails error)) code) }
-    {
-        if self.has_cause(named, call, error) {
-            Ok(())
-        } else {
-            Err(codes::ERROR_WITHOUT_CAUSE)
-        }
-    }
-
-    /// Whether a success of the request is allowed.
-    fn may_be_done(&self, named: &Named, call: &Call<'_>) -> bool
-        ensures { IsTrue result ↔ MayBeDone self.now.store (named_shown named.now None) (body_shown call.now.request.body) }
-    {
-        self.stored.may_be_done(named, &call.request.body)
-    }
-
     /// Whether an error has its cause.
-    fn has_cause(&self, named: &Named, call: &Call<'_>, error: i32) -> bool
-        ensures { IsTrue result ↔ HasCause self.now.store (named_shown named.now None) (body_shown call.now.request.body) error }
+    fn has_cause(&self, named: &Named, action: &Action<'_>, error: i32) -> bool
+        ensures { IsTrue result ↔ HasCause (action_rule self.now.store (named_shown named.now None) (action_shown action.now)) error }
     {
-        self.stored.has_cause(named, &call.request.body, error)
+        self.stored.has_cause(named, action, error)
     }
 
-    /// Takes a success over that was judged.
-    fn take_success(
+    /// Judges what came of a call that names these files.
+    fn judge(&self, named: &Named, call: &Call<'_>, action: &Action<'_>) -> Result<(), u16>
+        ensures ok { OnOk result ((count : ℕ) (so_far : List PlainDirent) → AllHold (operation_checks self.now.nodes (setting self.now.store (named_shown named.now None) (call_shown call.now) (Acts (action_shown action.now)) count so_far) (call_shown call.now) (Acts (action_shown action.now)))) }
+        ensures fault { IfErr result (λ code. (count : ℕ) (so_far : List PlainDirent) → FirstFailure (operation_checks self.now.nodes (setting self.now.store (named_shown named.now None) (call_shown call.now) (Acts (action_shown action.now)) count so_far) (call_shown call.now) (Acts (action_shown action.now))) code) }
+    {
+        match action.ended() {
+            Outcome::Fails(error) => {
+                if self.has_cause(named, action, error) {
+                    Ok(())
+                } else {
+                    Err(codes::ERROR_WITHOUT_CAUSE)
+                }
+            }
+            _ => self.judge_done(named, call, action),
+        }
+    }
+
+    /// Takes an action over that was judged and did not fail.
+    fn take_done(
         &mut self,
         named: &Named,
         call: &Call<'_>,
-        answer: &Answer<'_>,
+        action: &Action<'_>,
         count: u32,
     ) -> Result<(), AllocError>
-        requires no_listing { AsksNoListing (question (call_shown call.now)) }
-        requires done { MayBeDone self.old.store (named_shown named.now None) (body_shown call.now.request.body) }
-        requires answers { IsAnswerTo (body_shown call.now.request.body) (reply_shown answer.now.reply) }
-        ensures taken { OnOk result (self.new ≡ noted (tree_changed self.old (named_shown named.now None) (question (call_shown call.now)) count) (named_shown named.now None) (body_shown call.now.request.body) call.now.asked (answer_shown answer.now)) }
-        ensures memory { OnErr result (MayGrow (body_shown call.now.request.body)) }
+        requires { (action_rule self.old.store (named_shown named.now None) (action_shown action.now)).needs }
+        ensures taken { OnOk result (self.new ≡ tree_done self.old (named_shown named.now None) (call_shown call.now) (Acts (action_shown action.now)) count) }
+        ensures memory { OnErr result (MayGrow (action_shown action.now)) }
         ensures unchanged { OnErr result (self.new ≡ self.old) }
     {
-        let body = &call.request.body;
-        match self.binding(named, body, answer) {
-            None => self.stored.leave(named, body, call.truncates, count, call.asked, answer.opens),
+        let opens = opens_anew(call);
+        match self.binding(named, call, action) {
+            None => self
+                .stored
+                .leave(named, action, call.truncates, count, call.asked, opens),
             Some(given) => {
                 self.nodes.reserve()?;
-                self.stored.leave(named, body, call.truncates, count, call.asked, answer.opens)?;
+                self.stored
+                    .leave(named, action, call.truncates, count, call.asked, opens)?;
                 self.nodes.bind(given);
                 Ok(())
             }
         }
     }
 
-    /// Takes a request over that an order takes as done though it was not answered.
-    fn take_unanswered(
+    /// Takes a call over that was judged.
+    fn take(
         &mut self,
         named: &Named,
         call: &Call<'_>,
+        action: &Action<'_>,
         count: u32,
     ) -> Result<(), AllocError>
-        requires no_listing { AsksNoListing (question (call_shown call.now)) }
-        requires done { MayBeDone self.old.store (named_shown named.now None) (body_shown call.now.request.body) }
-        ensures taken { OnOk result (self.new ≡ tree_changed self.old (named_shown named.now None) (question (call_shown call.now)) count) }
-        ensures memory { OnErr result (MayGrow (body_shown call.now.request.body)) }
+        requires { (count : ℕ) (so_far : List PlainDirent) → AllHold (operation_checks self.old.nodes (setting self.old.store (named_shown named.now None) (call_shown call.now) (Acts (action_shown action.now)) count so_far) (call_shown call.now) (Acts (action_shown action.now))) }
+        ensures taken { OnOk result (self.new ≡ tree_after self.old (named_shown named.now None) (call_shown call.now) (Acts (action_shown action.now)) count) }
+        ensures memory { OnErr result (DoneAnd (action_ended (action_shown action.now)) (MayGrow (action_shown action.now))) }
         ensures unchanged { OnErr result (self.new ≡ self.old) }
     {
-        self.stored
-            .change(named, &call.request.body, call.truncates, count)
-    }
-
-    /// Takes a call over that was judged.
-    fn take(&mut self, named: &Named, call: &Call<'_>, count: u32) -> Result<(), AllocError>
-        requires no_listing { AsksNoListing (question (call_shown call.now)) }
-        requires judged { (count : ℕ) (so_far : List PlainDirent) → AllHold (outcome_checks self.old.nodes (setting self.old.store (named_shown named.now None) (question (call_shown call.now)) count so_far) (outcome (call_shown call.now))) }
-        ensures taken { OnOk result (self.new ≡ tree_after self.old (named_shown named.now None) (call_shown call.now) count (outcome (call_shown call.now))) }
-        ensures memory { OnErr result (MayTakeMemory (outcome (call_shown call.now)) (body_shown call.now.request.body)) }
-        ensures unchanged { OnErr result (self.new ≡ self.old) }
-    {
-        match &call.answer {
-            None => self.take_unanswered(named, call, count),
-            Some(answer) => match answer.reply {
-                Reply::Refused(_) => Ok(()),
-                _ => self.take_success(named, call, answer, count),
-            },
+        match action.ended() {
+            Outcome::Fails(_) => Ok(()),
+            _ => self.take_done(named, call, action, count),
         }
     }
 
     /// One step, of a call that does not list.
-    fn step_on(&mut self, call: &Call<'_>, wrote: Option<u32>) -> Result<(), StepError>
-        requires no_listing { AsksNoListing (question (call_shown call.now)) }
+    fn act(
+        &mut self,
+        call: &Call<'_>,
+        action: &Action<'_>,
+        wrote: Option<u32>,
+    ) -> Result<(), StepError>
+        requires asks { operation (call_shown call.now) ≡ Some (Acts (action_shown action.now)) }
         requires plain { call.now.listing ≡ None }
         ensures steps { OnOk result ((so_far : List PlainDirent) → Steps self.old self.new (call_shown call.now) wrote so_far) }
         ensures refused { IfErr result (λ e. (so_far : List PlainDirent) → TellsOf e (call_shown call.now) (step_checks self.old (call_shown call.now) wrote so_far)) }
@@ -338,8 +299,8 @@ impl Tree {
         match self.named(call) {
             None => Err(StepError::Refused(codes::UNKNOWN_HERE)),
             Some(named) => {
-                self.judge(&named, call)?;
-                self.take(&named, call, count_written(call, wrote))?;
+                self.judge(&named, call, action)?;
+                self.take(&named, call, action, count_written(action, wrote))?;
                 Ok(())
             }
         }

@@ -1,5 +1,5 @@
 -- What attributes are judged by.
-use Rattle.std.specs.Prelude.{◌≡◌, ◌≢◌, ℕ, ◌+◌, Bool, true, false, if◌then◌else◌, length, slice_get, Option, Some, None}
+use Rattle.std.specs.Prelude.{◌≡◌, ◌≢◌, ℕ, ◌+◌, Bool, true, false, if◌then◌else◌, List, [], ◌∷◌, length, slice_get, Option, Some, None}
 use Rattle.fa_bodies.specs.declared.attributes.Attributes.{Attributes}
 use Rattle.fa_bodies.specs.declared.mode.Kind.{Kind}
 use Rattle.fa_bodies.specs.declared.mode.Kind.TheVariants.{Directory, Regular, Symlink}
@@ -7,15 +7,9 @@ use Rattle.fa_bodies.specs.declared.setattr.SetattrIn.{SetattrIn}
 use Rattle.fa_bodies.specs.FlagBits.{fattr_size}
 use Rattle.fa_bodies.specs.Flags.{has_flag, fattr_bits}
 use Rattle.fa_bodies.specs.Modes.{mode_bits, HasFileType}
-use Rattle.fa_bodies.specs.Requests.{PlainBody}
-use Rattle.fa_bodies.specs.Requests.PlainBody.{Lookup, Getattr, Setattr}
 use Rattle.fa_tree.specs.declared.facts.Facts.{Facts}
 use Rattle.fa_tree.specs.Attributes.{permission_bits, Fits}
-use Rattle.fa_tree.specs.Changes.{edits, files_after}
-use Rattle.fa_tree.specs.Edits.{names_after}
-use Rattle.fa_tree.specs.Judging.{entry_file}
 use Rattle.fa_tree.specs.Lookups.{bits_set}
-use Rattle.fa_tree.specs.Resolved.{Resolved}
 use Rattle.fa_tree.specs.State.{File, Store, links}
 
 -- they are those of the file of this number
@@ -34,25 +28,10 @@ pub record AreFit (facts : Facts) (attr : Attributes) : Type 0 where
   pub size : facts.kind ≡ Regular → attr.size ≡ facts.size
   pub nlink : facts.kind ≢ Directory → attr.nlink ≡ facts.links + (if facts.further then 1 else 0)
 
--- the file that the attributes in an answer are of
-abbrev pub spoken_of : Store → Resolved → PlainBody → Option ℕ
-spoken_of s x (Getattr g) = Some x.node
-spoken_of s x (Setattr a) = Some x.node
-spoken_of s x body = entry_file s x body
-
--- the store after a request, which empties a file that is there or not
-abbrev pub left_by : Store → Resolved → (truncates : Bool) → PlainBody → (count : ℕ) → Store
-left_by s x truncates body count = record { names = names_after (edits s x body) s.names; files = files_after s x truncates body count }
-
 -- they are those of this file, if there are any; else there is no such file
 abbrev pub AreFactsIfAny : Store → Option ℕ → Option Facts → Type 0
 AreFactsIfAny s found None = (file : ℕ) → found ≡ Some file → slice_get s.files file ≡ None
 AreFactsIfAny s found (Some facts) = (file : ℕ) × (found ≡ Some file) × AreFactsOf s file facts
-
--- they are those of the file that an answer speaks of, after the request
-abbrev pub AreFactsAfter : Store → Resolved → (truncates : Bool) → PlainBody → (count : ℕ) → Option Facts → Type 0
-AreFactsAfter s x truncates body count facts =
-    AreFactsIfAny (left_by s x truncates body count) (spoken_of (left_by s x truncates body count) x body) facts
 
 -- they are those of a file that is made, which takes the next number
 pub record AreNewFacts (s : Store) (kind : Kind) (bits size : ℕ) (facts : Facts) : Type 0 where
@@ -102,7 +81,12 @@ IsFoundOrNext s None file = file ≡ length s.files
 abbrev pub SpokenFit : Store → Option ℕ → Attributes → Type 0
 SpokenFit s found attr = (file : ℕ) × (found ≡ Some file) × Fits s file attr
 
--- a LOOKUP
-abbrev pub IsLookup : PlainBody → Type 0
-IsLookup (Lookup name) = Unit {0}
-IsLookup other = ⊥
+-- attributes fit them, if there are any
+abbrev pub FitIfAny : Option Facts → Attributes → Type 0
+FitIfAny None attr = ⊥
+FitIfAny (Some facts) attr = AreFit facts attr
+
+-- the files for which an answer gives nodes are this one, or none; no file also where the name of an entry is not there
+abbrev pub AreFilesGiven : List (Option ℕ) → Option ℕ → Type 0
+AreFilesGiven [] file = file ≡ None
+AreFilesGiven (one ∷ files) file = (file ≡ one) × (files ≡ [])

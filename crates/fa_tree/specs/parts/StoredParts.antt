@@ -5,11 +5,13 @@ use Rattle.std.specs.Ordering.{nat_cmp}
 use Rattle.std.specs.FinMap as map
 use Rattle.std.specs.FinMap.{FinMap, get}
 use Rattle.fa_bodies.specs.declared.setattr.SetattrIn.{SetattrIn}
-use Rattle.fa_bodies.specs.Requests.{PlainBody}
+use Rattle.fa_ledger.specs.Operations.{PlainAction}
+use Rattle.fa_ledger.specs.Operations.PlainOperation.{Acts}
 use Rattle.fa_tree.specs.State.{File, Store, OpenDirectory, TreeState}
 use Rattle.fa_tree.specs.Resolved.{Resolved}
 use Rattle.fa_tree.specs.Edits.{Edit, names_after, handles_after}
-use Rattle.fa_tree.specs.Changes.{edits, files_after, files_created}
+use Rattle.fa_tree.specs.Making.{files_created}
+use Rattle.fa_tree.specs.Operations.{action_rule, changed, directory_opened}
 use Rattle.fa_tree.specs.Edits.Edit.{Added}
 use Rattle.fa_tree.specs.Opening.{opened, with_opened}
 use Rattle.fa_tree.specs.Lookups.{bits_set}
@@ -27,11 +29,11 @@ as_tree t = record { store = t.store; nodes = map.empty; handles = t.handles }
 abbrev pub stored_of : TreeState → StoredShown
 stored_of t = record { store = t.store; handles = t.handles }
 
--- after the change of a request, which empties a file that is there or not
-abbrev pub stored_changed : Resolved → (truncates : Bool) → PlainBody → (count : ℕ) → StoredShown → StoredShown
-stored_changed x truncates body count t = record {
-  store = record { names = names_after (edits t.store x body) t.store.names; files = files_after t.store x truncates body count };
-  handles = handles_after (edits t.store x body) t.handles;
+-- after the change of an action, which empties a file that is there or not
+abbrev pub stored_changed : Resolved → (truncates : Bool) → PlainAction → (count : ℕ) → StoredShown → StoredShown
+stored_changed x truncates a count t = record {
+  store = changed t.store x truncates (Acts a) count;
+  handles = handles_after (action_rule t.store x a).edits t.handles;
 }
 
 -- after edits of names
@@ -49,11 +51,12 @@ stored_with files t = record { store = record { names = t.store.names; files = f
 abbrev pub stored_opened : (asked directory : ℕ) → StoredShown → StoredShown
 stored_opened asked directory t = record { store = t.store; handles = map.insert t.handles asked (opened t.store.names directory) }
 
--- after a request, with what an answer to the request of this number adds
-abbrev pub stored_noted : Resolved → (truncates : Bool) → PlainBody → (asked : ℕ) → (opens : Bool) → (count : ℕ) → StoredShown → StoredShown
-stored_noted x truncates body asked opens count t = record {
-  store = (stored_changed x truncates body count t).store;
-  handles = with_opened (stored_changed x truncates body count t).store x body asked opens (stored_changed x truncates body count t).handles;
+-- the same, with the directory that its answer opens
+abbrev pub stored_noted : Resolved → (truncates : Bool) → PlainAction → (asked : ℕ) → (opens : Bool) → (count : ℕ) → StoredShown → StoredShown
+stored_noted x truncates a asked opens count t = record {
+  store = changed t.store x truncates (Acts a) count;
+  handles = with_opened (changed t.store x truncates (Acts a) count).names (directory_opened x (Acts a)) asked opens
+      (handles_after (action_rule t.store x a).edits t.handles);
 }
 
 -- a file with the permission bits that SETATTR leaves

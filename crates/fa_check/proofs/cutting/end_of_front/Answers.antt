@@ -1,4 +1,4 @@
-use Rattle.std.proofs.Common.{◌+◌, true, false, sym, subst, arith}
+use Rattle.std.proofs.Common.{◌+◌, sym, subst, arith}
 use Rattle.std.proofs.lemmas.Option.{slice_get-get_or}
 use Rattle.fa_check.proofs.CuttingLemmas.{IsEndSoFar, front_done, front_more}
 use Rattle.fa_check.proofs.cutting.end_of_front.Goals as goal

@@ -1,4 +1,4 @@
-use Rattle.std.proofs.Common.{◌≡◌, ℕ, length, true, false, inl, sym, subst, arith, rules, vec_len}
+use Rattle.std.proofs.Common.{◌≡◌, ℕ, length, inl, sym, subst, arith, rules, vec_len}
 use Rattle.std.specs.Prelude.{map, Option}
 use Rattle.std.proofs.lemmas.List.{length-map}
 use Rattle.std.proofs.lemmas.Option.{slice_get_within}

@@ -1,4 +1,4 @@
-use Rattle.fa_tree.proofs.NamedLemmas.{reading_edits_nothing}
+use Rattle.fa_tree.proofs.ChangeLemmas.{reading_edits_nothing}
 use Rattle.fa_tree.proofs.laws.reading_edits_nothing.Goals as goal
 
 pub returns : goal.returns

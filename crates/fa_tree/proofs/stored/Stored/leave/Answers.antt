@@ -7,5 +7,5 @@ use Rattle.fa_tree.proofs.stored.Stored.leave.Goals as goal
 pub returns-in-Opendir-clause-left : goal.returns-in-Opendir-clause-left
 returns-in-Opendir-clause-left c =
     ok_also c.open.result _ _ (λ opened handle.
-    rw (c.in-Opendir.is, c.if-opens.true) (opened ∙ opendir_noted c.args.self.now (named_shown c.args.named.now handle) c.args.truncates c.in-Opendir.field-0 c.args.asked c.args.count))
+    rw (c.in-Opendir.is, c.if-opens.true) (opened ∙ opendir_noted c.args.self.now (named_shown c.args.named.now handle) c.args.truncates c.in-Opendir.outcome c.args.asked c.args.count))
     c.open.ensures.opened

@@ -3,7 +3,7 @@ use Rattle.fa_bodies.specs.declared.dirent.Entries.{Entries}
 use Rattle.fa_bodies.specs.Dirents.{dirent_shown}
 use Rattle.fa_bodies.specs.Listing.{entries_left}
 use Rattle.fa_ledger.specs.declared.name.NodeName.{NodeName}
-use Rattle.fa_tree.specs.Judging.{files_listed}
+use Rattle.fa_tree.specs.Directories.{files_listed}
 use Rattle.fa_tree.specs.Bindings.{bound}
 use Rattle.fa_tree.proofs.ListingLemmas.{entry_skipped, entry_in_vain, entry_bound, no_name_left, no_entry_left}
 use Rattle.fa_tree.proofs.stored.Stored.nodes_listed.Goals as goal

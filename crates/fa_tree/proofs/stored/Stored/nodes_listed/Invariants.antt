@@ -1,6 +1,6 @@
 use Rattle.std.proofs.Common.{◌≡◌, ◌++◌}
 use Rattle.fa_bodies.specs.Listing.{entries_left}
-use Rattle.fa_tree.specs.Judging.{files_listed}
+use Rattle.fa_tree.specs.Directories.{files_listed}
 use Rattle.fa_tree.specs.Bindings.{bound}
 use Rattle.fa_tree.proofs.stored.Stored.nodes_listed.Given as goal
 

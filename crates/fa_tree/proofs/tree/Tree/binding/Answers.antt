@@ -1,32 +1,43 @@
-use Rattle.std.proofs.Common.{◌≡◌, None, refl, sym, ap, ◌∙◌, slice_get}
-use Rattle.fa_bodies.specs.declared.replies.Reply.{Reply}
-use Rattle.fa_bodies.specs.declared.replies.Reply.TheVariants as declared
-use Rattle.fa_bodies.specs.Replies.{reply_shown}
-use Rattle.fa_tree.specs.Changes.{changed}
+use Rattle.std.proofs.Common.{ℕ, None, List, Option, sym, ap, subst, ◌∙◌, slice_get}
+use Rattle.std.specs.Option.{option_copied}
+use Rattle.fa_ledger.specs.Calls.{call_shown}
+use Rattle.fa_ledger.specs.Operations.{action_shown}
+use Rattle.fa_ledger.specs.Operations.PlainOperation.{Acts}
+use Rattle.fa_ledger.specs.declared.name.NodeName.{NodeName}
+use Rattle.fa_tree.specs.Operations.{said}
+use Rattle.fa_tree.specs.Steps.{names_given, setting}
+use Rattle.fa_tree.specs.parts.FactParts.{AreFilesGiven}
 use Rattle.fa_tree.specs.parts.NamedParts.{named_shown}
 use Rattle.fa_tree.specs.parts.TreeView.{tree_shown}
-use Rattle.fa_tree.proofs.BindingLemmas.{HasNoEntry, still_told, given_in_vain, given_for_one, given_for_none}
+use Rattle.fa_tree.proofs.BindingLemmas.{still_told, given_in_vain, given_no_name, given_for_one}
 use Rattle.fa_tree.proofs.tree.Tree.binding.Goals as goal
 
-pub returns-in_err-file-in-Entry : goal.returns-in_err-file-in-Entry
-returns-in_err-file-in-Entry c = rw (c.from_residual.ensures) (λ q count same known may answers.
+pub returns-in_err-file : goal.returns-in_err-file
+returns-in_err-file c = rw (c.from_residual.ensures) (λ count so_far may.
     let x = named_shown c.args.named.now None in
-    let told = still_told (tree_shown c.self.inside) c.args.self.now x q count c.file_after.result c.self.view_is (c.file_after.ensures None q count same known) may in
-    given_in_vain (changed c.args.self.now.store x q count) x q.body c.args.answer.now c.in-Entry.is (sym told ∙ c.in_err-file-in-Entry.was))
+    let call = call_shown c.args.call.now in
+    let a = action_shown c.args.action.now in
+    let files : List (Option ℕ) = (said (setting c.args.self.now.store x call (Acts a) count so_far) (Acts a)).files in
+    let told = still_told (tree_shown c.self.inside) c.args.self.now c.self.view_is x call.truncates call.direct a count c.file_given.result
+    (c.file_given.ensures None call.truncates call.direct count) may in
+    given_in_vain (names_given call) files (subst (AreFilesGiven files) c.in_err-file.was told))
 
-pub returns-in_default : goal.returns-in_default
-returns-in_default c = λ q count same known may answers.
-    let x = named_shown c.args.named.now None in
-    given_for_none (changed c.args.self.now.store x q count) x q.body c.args.answer.now (kept c.args.answer.now.reply refl) known answers
-  where
-    kept : (r : Reply) → c.args.answer.now.reply ≡ r → HasNoEntry (reply_shown r)
-    kept (declared.Entry e) is = absurd (c.in_default.not-Entry e is)
-    kept (declared.Created e o) is = absurd (c.in_default.not-Created e o is)
-    kept other is = tt
+pub returns-in-None : goal.returns-in-None
+returns-in-None c = λ count so_far may.
+    let call = call_shown c.args.call.now in
+    let a = action_shown c.args.action.now in
+    let at : List NodeName → Option NodeName = λ names. slice_get names 0 in
+    given_no_name (names_given call) (said (setting c.args.self.now.store (named_shown c.args.named.now None) call (Acts a) count so_far) (Acts a)).files
+    (sym (ap at c.names_given.ensures) ∙ sym c.first.ensures.value ∙ ap option_copied c.in-None.is)
 
 pub returns-in-Some : goal.returns-in-Some
-returns-in-Some c = λ q count same known may answers.
+returns-in-Some c = λ count so_far may.
     let x = named_shown c.args.named.now None in
-    let told = still_told (tree_shown c.self.inside) c.args.self.now x q count c.file_after.result c.self.view_is (c.file_after.ensures None q count same known) may in
-    given_for_one (changed c.args.self.now.store x q count) x q.body c.args.answer.now c.in-Some.name.now c.in_ok-file-in-Entry.file c.in-Entry.is
-    (sym told ∙ c.in_ok-file-in-Entry.was) (sym (ap (λ names. slice_get names 0) c.names.ensures) ∙ sym c.in-Some.ensures.value)
+    let call = call_shown c.args.call.now in
+    let a = action_shown c.args.action.now in
+    let files : List (Option ℕ) = (said (setting c.args.self.now.store x call (Acts a) count so_far) (Acts a)).files in
+    let told = still_told (tree_shown c.self.inside) c.args.self.now c.self.view_is x call.truncates call.direct a count c.file_given.result
+    (c.file_given.ensures None call.truncates call.direct count) may in
+    let at : List NodeName → Option NodeName = λ names. slice_get names 0 in
+    given_for_one (names_given call) files c.in-Some.name.now c.in_ok-file.file (subst (AreFilesGiven files) c.in_ok-file.was told)
+    (sym (ap at c.names_given.ensures) ∙ sym c.in-Some.ensures.value)

@@ -1,45 +1,55 @@
-use Rattle.std.proofs.Common.{rules, None, ℤ, sym, ap, ◌∙◌}
+use Rattle.std.proofs.Common.{rules, ℤ, None, sym, subst, ◌∙◌}
 use Rattle.std.specs.Int.{w32}
 use Rattle.std.proofs.lemmas.Int.{to_z-of_z}
-use mir.Val.{SFits, to_z, of_z}
-use Rattle.fa_ledger.specs.Calls.{answer_shown, call_shown}
-use Rattle.fa_tree.specs.Resolved.{question}
-use Rattle.fa_tree.specs.Outcomes.{Outcome, outcome}
-use Rattle.fa_tree.specs.Outcomes.Outcome.{Fails, Succeeds, Unanswered}
+use mir.Val.{SFits}
+use Rattle.fa_tree.specs.Rules.{HasCause}
+use Rattle.fa_ledger.proofs.CallerLemmas.{ok_also, err_also}
+use Rattle.fa_ledger.specs.Calls.{call_shown}
+use Rattle.fa_ledger.specs.Operations.{action_shown, action_ended}
+use Rattle.fa_ledger.specs.Operations.PlainOperation.{Acts}
+use Rattle.fa_tree.specs.Operations.{action_rule, action_said, changed}
+use Rattle.fa_tree.specs.Steps.{names_given}
 use Rattle.fa_tree.specs.parts.NamedParts.{named_shown}
-use Rattle.fa_tree.proofs.OutcomeLemmas.{no_answer, an_error, a_success, ok_of, fault_of}
+use Rattle.fa_tree.proofs.JudgeLemmas.{untrue}
+use Rattle.fa_tree.proofs.OutcomeLemmas.{acts_list_nothing, errors_say_nothing, done_hold, done_fail, error_hold, error_fail}
 use Rattle.fa_tree.proofs.tree.Tree.judge.Goals as goal
 
-pub returns-in-None-clause-ok : goal.returns-in-None-clause-ok
-returns-in-None-clause-ok c =
-    ok_of c.judge_unanswered.result c.args.self.now.nodes c.args.self.now.store (named_shown c.args.named.now None) (question (call_shown c.args.call.now))
-    (outcome (call_shown c.args.call.now)) Unanswered (no_answer c.args.call.now c.in-None.is) c.judge_unanswered.ensures.ok
+pub returns-then-has_cause : goal.returns-then-has_cause
+returns-then-has_cause c = record {
+  ok = λ count so_far.
+      let x = named_shown c.args.named.now None in
+      let call = call_shown c.args.call.now in
+      let a = action_shown c.args.action.now in
+      let fails = sym c.ended.ensures ∙ c.in-Fails.is in
+      let fits : SFits w32 c.in-Fails.error = search rules in
+      error_hold c.args.self.now.nodes (action_rule c.args.self.now.store x a) (action_said c.args.self.now.store (changed c.args.self.now.store x call.truncates (Acts a) count) x call.direct a) (names_given call) (action_ended a) c.in-Fails.error fails
+      (errors_say_nothing c.args.self.now.store (changed c.args.self.now.store x call.truncates (Acts a) count) x call.direct a c.in-Fails.error fails)
+      (subst (λ (e : ℤ). HasCause (action_rule c.args.self.now.store x a) e) (to_z-of_z w32 c.in-Fails.error fits) (c.has_cause.ensures.0 c.if-has_cause.true));
+  fault = tt;
+}
 
-pub returns-in-None-clause-fault : goal.returns-in-None-clause-fault
-returns-in-None-clause-fault c =
-    fault_of c.judge_unanswered.result c.args.self.now.nodes c.args.self.now.store (named_shown c.args.named.now None) (question (call_shown c.args.call.now))
-    (outcome (call_shown c.args.call.now)) Unanswered (no_answer c.args.call.now c.in-None.is) c.judge_unanswered.ensures.fault
-
-pub returns-in-Refused-clause-ok : goal.returns-in-Refused-clause-ok
-returns-in-Refused-clause-ok c =
-    let fits : SFits w32 c.in-Refused.error = search rules in
-    let fails : ℤ → Outcome = λ error. Fails error in
-    ok_of c.judge_error.result c.args.self.now.nodes c.args.self.now.store (named_shown c.args.named.now None) (question (call_shown c.args.call.now))
-    (outcome (call_shown c.args.call.now)) (Fails (to_z w32 (of_z w32 c.in-Refused.error)))
-    (an_error c.args.call.now c.in-Some.answer c.in-Refused.error c.in-Some.is c.in-Refused.is ∙ ap fails (sym (to_z-of_z w32 c.in-Refused.error fits))) c.judge_error.ensures.ok
-
-pub returns-in-Refused-clause-fault : goal.returns-in-Refused-clause-fault
-returns-in-Refused-clause-fault c =
-    let fits : SFits w32 c.in-Refused.error = search rules in
-    let fails : ℤ → Outcome = λ error. Fails error in
-    fault_of c.judge_error.result c.args.self.now.nodes c.args.self.now.store (named_shown c.args.named.now None) (question (call_shown c.args.call.now))
-    (outcome (call_shown c.args.call.now)) (Fails (to_z w32 (of_z w32 c.in-Refused.error)))
-    (an_error c.args.call.now c.in-Some.answer c.in-Refused.error c.in-Some.is c.in-Refused.is ∙ ap fails (sym (to_z-of_z w32 c.in-Refused.error fits))) c.judge_error.ensures.fault
+pub returns-else-has_cause : goal.returns-else-has_cause
+returns-else-has_cause c = record {
+  ok = tt;
+  fault = λ count so_far.
+      let x = named_shown c.args.named.now None in
+      let call = call_shown c.args.call.now in
+      let a = action_shown c.args.action.now in
+      let fits : SFits w32 c.in-Fails.error = search rules in
+      error_fail c.args.self.now.nodes (action_rule c.args.self.now.store x a) (action_said c.args.self.now.store (changed c.args.self.now.store x call.truncates (Acts a) count) x call.direct a) (names_given call) (action_ended a) c.in-Fails.error (sym c.ended.ensures ∙ c.in-Fails.is)
+      (λ caused. untrue c.has_cause.result c.if-has_cause.false
+      (c.has_cause.ensures.1 (subst (λ (e : ℤ). HasCause (action_rule c.args.self.now.store x a) e) (sym (to_z-of_z w32 c.in-Fails.error fits)) caused)));
+}
 
 pub returns-in_default : goal.returns-in_default
-returns-in_default c = record {
-  ok = ok_of c.judge_success.result c.args.self.now.nodes c.args.self.now.store (named_shown c.args.named.now None) (question (call_shown c.args.call.now))
-      (outcome (call_shown c.args.call.now)) (Succeeds (answer_shown c.in-Some.answer)) (a_success c.args.call.now c.in-Some.answer c.in-Some.is c.in_default.not-Refused) c.judge_success.ensures.ok;
-  fault = fault_of c.judge_success.result c.args.self.now.nodes c.args.self.now.store (named_shown c.args.named.now None) (question (call_shown c.args.call.now))
-      (outcome (call_shown c.args.call.now)) (Succeeds (answer_shown c.in-Some.answer)) (a_success c.args.call.now c.in-Some.answer c.in-Some.is c.in_default.not-Refused) c.judge_success.ensures.fault;
-}
+returns-in_default c =
+    let x = named_shown c.args.named.now None in
+    let call = call_shown c.args.call.now in
+    let a = action_shown c.args.action.now in
+    record {
+      ok = ok_also c.judge_done.result _ _ (λ hold count so_far.
+          done_hold c.args.self.now.nodes (action_rule c.args.self.now.store x a) (action_said c.args.self.now.store (changed c.args.self.now.store x call.truncates (Acts a) count) x call.direct a) (names_given call) (action_ended a) (λ error fails. c.in_default.not-Fails error (c.ended.ensures ∙ fails))
+          (acts_list_nothing c.args.self.now.store (changed c.args.self.now.store x call.truncates (Acts a) count) x call.direct a) (hold count so_far)) c.judge_done.ensures.ok;
+      fault = err_also c.judge_done.result _ _ (λ code failure count so_far.
+          done_fail c.args.self.now.nodes (action_rule c.args.self.now.store x a) (action_said c.args.self.now.store (changed c.args.self.now.store x call.truncates (Acts a) count) x call.direct a) (names_given call) (action_ended a) (λ error fails. c.in_default.not-Fails error (c.ended.ensures ∙ fails)) code (failure count so_far)) c.judge_done.ensures.fault;
+    }

@@ -1,42 +1,75 @@
-use Rattle.std.proofs.Common.{sym, ap, ◌∙◌}
+use Rattle.std.proofs.Common.{rules, ◌≡◌, ℤ, ap, sym, subst, ◌∙◌}
 use Rattle.std.specs.Prelude.{map}
-use Rattle.fa_capture.specs.declared.codes.TheConstants.{SUCCESS_NOT_ALLOWED}
+use Rattle.std.specs.Int.{w32}
+use Rattle.std.proofs.lemmas.Int.{to_z-of_z}
+use mir.Val.{SFits}
+use Rattle.fa_capture.specs.declared.codes.TheConstants.{SUCCESS_NOT_ALLOWED, ERROR_WITHOUT_CAUSE}
 use Rattle.fa_bodies.specs.Listing.{entries_left}
-use Rattle.fa_bodies.specs.Replies.{reply_shown}
-use Rattle.fa_bodies.specs.Requests.{body_shown}
-use Rattle.fa_ledger.specs.Calls.{answer_shown, call_shown}
+use Rattle.fa_ledger.specs.declared.operation.Outcome.TheVariants.{Fails, Succeeds, Unanswered}
+use Rattle.fa_ledger.specs.Calls.{call_shown}
+use Rattle.fa_ledger.specs.Operations.{list_shown, with_success}
 use Rattle.fa_ledger.specs.SoFar.{listing_so_far}
 use Rattle.fa_ledger.proofs.CallerLemmas.{err_also}
-use Rattle.fa_tree.specs.Resolved.{question}
-use Rattle.fa_tree.specs.Outcomes.{outcome}
+use Rattle.fa_tree.specs.Opening.{directory_rule}
+use Rattle.fa_tree.specs.Rules.{HasCause}
 use Rattle.fa_tree.specs.parts.NamedParts.{directory_shown}
 use Rattle.fa_tree.proofs.JudgeLemmas.{untrue}
-use Rattle.fa_tree.proofs.OutcomeLemmas.{no_answer, a_success}
-use Rattle.fa_tree.proofs.ListingStepLemmas.{tells, such_also, unanswered_fails, success_fails, entries_fail, listing_grows}
+use Rattle.fa_tree.proofs.ListingStepLemmas.{each_ok, tells, such_also, entries_hold, entries_fail, entries_grow, error_holds, error_fails, error_gives, unanswered_holds, unanswered_fails, unanswered_gives}
 use Rattle.fa_tree.proofs.tree.Tree.judge_listing.Goals as goal
 
-pub returns-in-None-clause-refused : goal.returns-in-None-clause-refused
-returns-in-None-clause-refused c =
+pub returns-in-Fails : goal.returns-in-Fails
+returns-in-Fails c =
     let x = directory_shown c.args.at.now in
-    let q = question (call_shown c.args.call.now) in
+    let call = call_shown c.args.call.now in
+    let l = list_shown c.args.list.now in
     let so_far = listing_so_far (map call_shown c.args.calls.now.list.items) c.args.k in
-    err_also c.nothing_given.result _ _ (λ e refused.
-    tells e SUCCESS_NOT_ALLOWED _ _ refused.0
-    (unanswered_fails c.args.self.now.nodes c.args.self.now.store x q so_far (outcome (call_shown c.args.call.now)) (no_answer c.args.call.now c.in-None.is)
-    (λ done. untrue c.may_list.result refused.1 (c.may_list.ensures.1 done))))
-    c.nothing_given.ensures.refused
+    let fits : SFits w32 c.in-Fails.error = search rules in
+    let same = to_z-of_z w32 c.in-Fails.error fits in
+    let is : l.outcome ≡ Fails c.in-Fails.error = ap (with_success entries_left) c.in-Fails.is in
+    let Caused : ℤ → Type 0 = λ e. HasCause (directory_rule c.args.self.now.store x.node) e in
+    record {
+      ok = each_ok c.nothing_given.result _ _ (λ nodes told. (
+        error_holds c.args.self.now.nodes c.args.self.now.store x call so_far l.size l.outcome c.in-Fails.error is (subst Caused same (c.may_refuse.ensures.0 told.0)),
+        told.1 ∙ sym (error_gives c.args.self.now.nodes c.args.self.now.store x call so_far l.size l.outcome c.in-Fails.error is),
+      )) c.nothing_given.ensures.ok;
+      refused = err_also c.nothing_given.result _ _ (λ e refused.
+          tells e ERROR_WITHOUT_CAUSE _ _ refused.0
+          (error_fails c.args.self.now.nodes c.args.self.now.store x call so_far l.size l.outcome c.in-Fails.error is (λ caused. untrue c.may_refuse.result refused.1 (c.may_refuse.ensures.1 (subst Caused (sym same) caused)))))
+          c.nothing_given.ensures.refused;
+    }
 
-pub returns-in-Listed-clause-refused : goal.returns-in-Listed-clause-refused
-returns-in-Listed-clause-refused c =
+pub returns-in-Succeeds : goal.returns-in-Succeeds
+returns-in-Succeeds c =
     let x = directory_shown c.args.at.now in
-    let q = question (call_shown c.args.call.now) in
+    let call = call_shown c.args.call.now in
+    let l = list_shown c.args.list.now in
     let so_far = listing_so_far (map call_shown c.args.calls.now.list.items) c.args.k in
-    let answer = answer_shown c.in-Some.answer in
-    let succeeds = a_success c.args.call.now c.in-Some.answer c.in-Some.is (λ error refused. let clash = sym c.in-Listed.is ∙ refused in absurd cc) in
-    err_also c.judge_entries.result _ _ (λ e refused.
-    such_also e _ _ _ _ (λ code failure.
-    success_fails c.args.self.now.nodes c.args.self.now.store x q so_far (outcome (call_shown c.args.call.now)) answer code succeeds
-    (entries_fail c.args.self.now.nodes c.args.self.now.store x so_far (entries_left c.in-Listed.entries) q answer code c.requires.lists (ap reply_shown c.in-Listed.is)
-    (rw (sym c.names.ensures) failure)))
-    (λ may. listing_grows (outcome (call_shown c.args.call.now)) answer (body_shown c.args.call.now.request.body) succeeds c.requires.lists) refused)
-    c.judge_entries.ensures.refused
+    let entries = entries_left c.in-Succeeds.entries in
+    let is : l.outcome ≡ Succeeds entries = ap (with_success entries_left) c.in-Succeeds.is in
+    record {
+      ok = each_ok c.judge_entries.result _ _ (λ nodes told. (
+        entries_hold c.args.self.now.nodes c.args.self.now.store x call so_far l.size l.outcome entries is told.0,
+        rw (is) told.1,
+      )) c.judge_entries.ensures.ok;
+      refused = err_also c.judge_entries.result _ _ (λ e refused.
+          such_also e _ _ _ _ (λ code failure. entries_fail c.args.self.now.nodes c.args.self.now.store x call so_far l.size l.outcome entries is code failure)
+          (λ may. entries_grow c.args.self.now.nodes c.args.self.now.store x call so_far l.size l.outcome entries is) refused) c.judge_entries.ensures.refused;
+    }
+
+pub returns-in-Unanswered : goal.returns-in-Unanswered
+returns-in-Unanswered c =
+    let x = directory_shown c.args.at.now in
+    let call = call_shown c.args.call.now in
+    let l = list_shown c.args.list.now in
+    let so_far = listing_so_far (map call_shown c.args.calls.now.list.items) c.args.k in
+    let is : l.outcome ≡ Unanswered = ap (with_success entries_left) c.in-Unanswered.is in
+    record {
+      ok = each_ok c.nothing_given-in-Unanswered.result _ _ (λ nodes told. (
+        unanswered_holds c.args.self.now.nodes c.args.self.now.store x call so_far l.size l.outcome is (c.may_list.ensures.0 told.0),
+        told.1 ∙ sym (unanswered_gives c.args.self.now.nodes c.args.self.now.store x call so_far l.size l.outcome is),
+      )) c.nothing_given-in-Unanswered.ensures.ok;
+      refused = err_also c.nothing_given-in-Unanswered.result _ _ (λ e refused.
+          tells e SUCCESS_NOT_ALLOWED _ _ refused.0
+          (unanswered_fails c.args.self.now.nodes c.args.self.now.store x call so_far l.size l.outcome is (λ may. untrue c.may_list.result refused.1 (c.may_list.ensures.1 may))))
+          c.nothing_given-in-Unanswered.ensures.refused;
+    }
