@@ -140,7 +140,7 @@ OPERATIONS = [
     Operation(42, "BATCH_FORGET", Body("count:4=* dummy:4", item="node:8 nlookup:8")),
     Operation(43, "FALLOCATE"),
     Operation(44, "READDIRPLUS", Body(READ), "direntplus"),
-    Operation(45, "RENAME2"),
+    Operation(45, "RENAME2", Body("newdir:8 flags:4x padding:4", names=2)),
     Operation(46, "LSEEK"),
     Operation(47, "COPY_FILE_RANGE"),
 ]

@@ -13,6 +13,10 @@ import sys
 # CREATE, READDIRPLUS
 ACT_ON_THE_TREE = {1, 3, 4, 5, 6, 8, 9, 10, 11, 12, 13, 14, 15, 16, 27, 28, 35, 44}
 
+# RENAME2 does with these flags: none, RENAME_NOREPLACE and RENAME_EXCHANGE.
+RENAME2 = 45
+FLAGS = {0, 1, 2}
+
 
 def messages(capture):
     """The direction and the bytes of each message."""
@@ -23,13 +27,21 @@ def messages(capture):
         at += 5 + length
 
 
+def acts_on_the_tree(message):
+    """Whether a request does."""
+    _, opcode = struct.unpack_from("<II", message)
+    if opcode == RENAME2 and len(message) >= 52:
+        return struct.unpack_from("<I", message, 48)[0] in FLAGS
+    return opcode in ACT_ON_THE_TREE
+
+
 def order(capture):
     """The numbers of the answered requests that act on the tree, by rising numbers."""
     waiting, answered = {}, []
     for number, (direction, message) in enumerate(messages(capture)):
         if direction == 0 and len(message) >= 16:
-            _, opcode, unique = struct.unpack_from("<IIQ", message)
-            if opcode in ACT_ON_THE_TREE:
+            _, _, unique = struct.unpack_from("<IIQ", message)
+            if acts_on_the_tree(message):
                 waiting[unique] = number
         elif len(message) >= 16:
             _, _, unique = struct.unpack_from("<IiQ", message)

@@ -15,13 +15,13 @@ use Rattle.fa_check.specs.declared.verdict.Verdict.TheVariants.{Legal, Fault, No
 use Rattle.fa_audit.specs.declared.verdict.AuditError.{AuditError}
 use Rattle.fa_session.specs.Allowed.{checks_by}
 use Rattle.fa_ledger.specs.Passing.{ledger_checks_by, message_checks, IsFirstFault}
-use Rattle.fa_ledger.specs.Calls.{PlainCall, operation}
+use Rattle.fa_ledger.specs.Calls.{PlainCall}
 use Rattle.fa_ledger.specs.Operations.{PlainOperation}
 use Rattle.fa_bodies.specs.Dirents.{PlainDirent}
 use Rattle.fa_tree.specs.State.{TreeState}
 use Rattle.fa_tree.specs.Resolved.{Resolved, resolved}
 use Rattle.fa_tree.specs.Operations.{count_written}
-use Rattle.fa_tree.specs.Steps.{step_checks, checks_of_files, checks_of}
+use Rattle.fa_tree.specs.Steps.{step_checks, checks_of_files}
 use Rattle.fa_check.specs.Faults.{order_checks, EntryFails, IsOrderAtFault}
 use Rattle.fa_order.specs.declared.entry.Entry.{Entry}
 use Rattle.fa_audit.specs.declared.verdict.StartError.{StartError}
@@ -77,16 +77,12 @@ files_coded : (tree : TreeState) (call : PlainCall) (o : PlainOperation) (count 
 files_coded tree call o count so_far None = (refl, tt)
 files_coded tree call o count so_far (Some files) = (refl, (refl, (refl, (refl, (refl, (refl, (refl, tt)))))))
 
-step_coded : (tree : TreeState) (call : PlainCall) (wrote : Option ℕ) (so_far : List PlainDirent) (found : Option PlainOperation) → AllCoded (checks_of tree call wrote so_far found)
-step_coded tree call wrote so_far None = (refl, tt)
-step_coded tree call wrote so_far (Some o) = files_coded tree call o (count_written o wrote) so_far (resolved tree call)
-
 entry_coded : (tree : TreeState) (c : List Message) (earlier : List Entry) (e : Entry) (code : ℕ) → EntryFails tree c earlier e code → IsSome (text_of code)
 entry_coded tree c earlier e code fails =
     elim fails [
       | inl here ↦ coded_failure (order_checks c earlier e) code (refl, (refl, (refl, (refl, tt)))) here
       | inr step ↦ coded_failure (step_checks tree step.1.call e.wrote step.1.so_far) code
-          (step_coded tree step.1.call e.wrote step.1.so_far (operation step.1.call)) step.1.fails
+          (files_coded tree step.1.call step.1.call.operation (count_written step.1.call.operation e.wrote) step.1.so_far (resolved tree step.1.call)) step.1.fails
     ]
 
 order_coded : (c : List Message) (first : TreeState) (es : List Entry) (entry at code : ℕ) → IsOrderAtFault c first es entry at code → IsSome (text_of code)

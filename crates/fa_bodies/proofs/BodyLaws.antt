@@ -10,11 +10,14 @@ use Rattle.fa_bodies.specs.declared.handles.ReadIn.{ReadIn}
 use Rattle.fa_bodies.specs.declared.handles.ReleaseIn.{ReleaseIn}
 use Rattle.fa_bodies.specs.declared.init.InitIn.{InitIn}
 use Rattle.fa_bodies.specs.declared.mode.Mode.{Mode}
+use Rattle.fa_bodies.specs.declared.rename_flags.RenameFlags.{RenameFlags}
+use Rattle.fa_bodies.specs.declared.rename_flags.RenameFlags.TheVariants.{Replace, NoReplace, Exchange}
+use Rattle.fa_bodies.specs.Flags.{rename_bits}
 use Rattle.fa_bodies.specs.Fields.{Field, IsSpelled}
 use Rattle.fa_bodies.specs.Fields.Field.{U32, U64, Unread, Name, Target}
-use Rattle.fa_bodies.specs.Requests.{PlainBody, IsOneOf, IsOperation, IsRequestBody, bystanders, changers}
-use Rattle.fa_bodies.specs.Requests.PlainBody.{Lookup, Forget, Getattr, Setattr, Readlink, Symlink, Mknod, Mkdir, Unlink, Rmdir, Rename, Link, Open, Read, Write, Release, Flush, Init, Opendir, Readdir, Releasedir, Create, BatchForget, Readdirplus, Passed}
-use Rattle.fa_bodies.specs.Structs.{forget_in, mknod_in, mkdir_in, rename_in, link_in, write_in, create_in, batch_forget_in}
+use Rattle.fa_bodies.specs.Requests.{PlainBody, IsOneOf, IsOperation, IsOtherRename, IsRequestBody, bystanders, changers}
+use Rattle.fa_bodies.specs.Requests.PlainBody.{Lookup, Forget, Getattr, Setattr, Readlink, Symlink, Mknod, Mkdir, Unlink, Rmdir, Rename, Link, Open, Read, Write, Release, Flush, Init, Opendir, Readdir, Releasedir, Create, BatchForget, Readdirplus, Rename2, Passed}
+use Rattle.fa_bodies.specs.Structs.{forget_in, mknod_in, mkdir_in, rename_in, rename2_in, link_in, write_in, create_in, batch_forget_in}
 use Rattle.fa_bodies.proofs.FieldLaws.{fields-one}
 use Rattle.fa_bodies.proofs.StructLaws.{getattr_in-one, setattr_in-one, open_in-one, read_in-one, release_in-one, flush_in-one, init_in-one}
 
@@ -48,9 +51,25 @@ one-of-both (x ∷ xs) ys n p =
       | inr r ↦ inr (one-of-both xs ys n (inr r))
     ]
 
+-- a body that is not read is of an operation of their list
+passed_number : (opcode : ℕ) (body : List ℕ) → IsRequestBody opcode body Passed → IsOneOf bystanders opcode ⊎ IsOneOf changers opcode
+passed_number opcode body p = elim p [ inl q ↦ inl q | inr q ↦ inr q.0 ]
+
 -- the number of an operation that is read by its header alone stands in their list
 listed : (body : List ℕ) (opcode number : ℕ) → IsRequestBody opcode body Passed → opcode ≡ number → among passed number ≡ true
-listed body opcode number p e = rw (← e) (among-of passed opcode (one-of-both bystanders changers opcode p))
+listed body opcode number p e = rw (← e) (among-of passed opcode (one-of-both bystanders changers opcode (passed_number opcode body p)))
+
+-- a bystander stands in their list
+bystander : (opcode number : ℕ) → IsOneOf bystanders opcode → opcode ≡ number → among bystanders number ≡ true
+bystander opcode number p e = rw (← e) (among-of bystanders opcode p)
+
+-- a RENAME2 that is not read has flags that are not judged
+other_rename : (opcode : ℕ) (body : List ℕ) → IsRequestBody opcode body Passed → opcode ≡ 45 → IsOtherRename body
+other_rename opcode body p e =
+    elim p [
+      | inl q ↦ let is : false ≡ true = bystander opcode 45 q e in absurd cc
+      | inr q ↦ q.1 e
+    ]
 
 -- ---- each operation's number has its bodies alone
 
@@ -174,6 +193,12 @@ no_readdirplus body none (Readdirplus r) p = none r p
 no_readdirplus body none Passed p = let e : false ≡ true = listed body 44 44 p refl in absurd cc
 no_readdirplus body none other p = absurd (omega (arith, p.0))
 
+-- RENAME2 has its form whatever its flags
+pub no_rename2 : (body : List ℕ) → ((newdir flags : ℕ) (old_name new_name : List ℕ) → IsSpelled body (rename2_in newdir flags ++ Name old_name ∷ Name new_name ∷ []) → ⊥) → (b : PlainBody) → IsRequestBody 45 body b → ⊥
+no_rename2 body none (Rename2 newdir flags old_name new_name) p = none newdir (rename_bits flags) old_name new_name p.1
+no_rename2 body none Passed p = let o = other_rename 45 body p refl in none o.newdir o.flags o.old_name o.new_name o.spelled
+no_rename2 body none other p = absurd (omega (arith, p.0))
+
 -- ---- one reading
 
 abbrev forget_of : List Field → PlainBody
@@ -191,6 +216,46 @@ mkdir_of _ = Passed
 abbrev rename_of : List Field → PlainBody
 rename_of (U64 newdir ∷ Name old_name ∷ Name new_name ∷ rest) = Rename newdir old_name new_name
 rename_of _ = Passed
+
+abbrev newdir_of : List Field → ℕ
+newdir_of (U64 newdir ∷ rest) = newdir
+newdir_of _ = 0
+
+abbrev flags_of : List Field → ℕ
+flags_of (U64 newdir ∷ U32 flags ∷ rest) = flags
+flags_of _ = 0
+
+abbrev old_name_of : List Field → List ℕ
+old_name_of (U64 newdir ∷ U32 flags ∷ Unread n ∷ Name old_name ∷ rest) = old_name
+old_name_of _ = []
+
+abbrev new_name_of : List Field → List ℕ
+new_name_of (U64 newdir ∷ U32 flags ∷ Unread n ∷ Name old_name ∷ Name new_name ∷ rest) = new_name
+new_name_of _ = []
+
+-- flags are known by their bits
+rename_flags-one : (a b : RenameFlags) → rename_bits a ≡ rename_bits b → a ≡ b
+rename_flags-one Replace Replace same = refl
+rename_flags-one NoReplace NoReplace same = refl
+rename_flags-one Exchange Exchange same = refl
+rename_flags-one a b same = absurd (omega (arith, same))
+
+abbrev rename2_fields : (newdir flags : ℕ) (old_name new_name : List ℕ) → List Field
+rename2_fields newdir flags old_name new_name = rename2_in newdir flags ++ Name old_name ∷ Name new_name ∷ []
+
+-- the fields of a RENAME2 are known
+pub rename2-one : (body : List ℕ) (newdir flags newdir' flags' : ℕ) (old_name new_name old_name' new_name' : List ℕ)
+    → IsSpelled body (rename2_fields newdir flags old_name new_name) → IsSpelled body (rename2_fields newdir' flags' old_name' new_name')
+    → rename2_fields newdir flags old_name new_name ≡ rename2_fields newdir' flags' old_name' new_name'
+rename2-one body newdir flags newdir' flags' old_name new_name old_name' new_name' p q =
+    (fields-one (rename2_fields newdir flags old_name new_name) (rename2_fields newdir' flags' old_name' new_name') body [] [] (refl, tt) p q).0
+
+-- a RENAME2 is judged or not
+rename2_is_judged : (opcode : ℕ) (body : List ℕ) (newdir : ℕ) (flags : RenameFlags) (old_name new_name : List ℕ)
+    → IsRequestBody opcode body (Rename2 newdir flags old_name new_name) → IsRequestBody opcode body Passed → ⊥
+rename2_is_judged opcode body newdir flags old_name new_name p q =
+    let other = other_rename opcode body q p.0 in
+    other.other flags (ap flags_of (rename2-one body newdir (rename_bits flags) other.newdir other.flags old_name new_name other.old_name other.new_name p.1 other.spelled))
 
 abbrev link_of : List Field → PlainBody
 link_of (U64 oldnodeid ∷ Name new_name ∷ rest) = Link oldnodeid new_name
@@ -256,6 +321,15 @@ body-one opcode body (BatchForget count items) (BatchForget count' items') p q =
     let one = fields-one (batch_forget_in count) (batch_forget_in count') body items items' (refl, tt) p.1 q.1 in
     ap (λ (fs : List Field). batch_forget_of fs items) one.0 ∙ ap (λ (x : List ℕ). batch_forget_of (batch_forget_in count') x) one.1
 body-one opcode body (Readdirplus x) (Readdirplus y) p q = ap (λ (z : ReadIn). Readdirplus z) (read_in-one x y body [] [] p.1 q.1)
+body-one opcode body (Rename2 newdir flags old_name new_name) (Rename2 newdir' flags' old_name' new_name') p q =
+    let one = rename2-one body newdir (rename_bits flags) newdir' (rename_bits flags') old_name new_name old_name' new_name' p.1 q.1 in
+    let dirs : newdir ≡ newdir' = ap newdir_of one in
+    let same : flags ≡ flags' = rename_flags-one flags flags' (ap flags_of one) in
+    let olds : old_name ≡ old_name' = ap old_name_of one in
+    let news : new_name ≡ new_name' = ap new_name_of one in
+    rw (dirs, same, olds, news) refl
+body-one opcode body (Rename2 newdir flags old_name new_name) Passed p q = absurd (rename2_is_judged opcode body newdir flags old_name new_name p q)
+body-one opcode body Passed (Rename2 newdir flags old_name new_name) p q = absurd (rename2_is_judged opcode body newdir flags old_name new_name q p)
 body-one opcode body Passed Passed p q = refl
 body-one opcode body Passed y p q = let e : false ≡ true = listed body opcode _ p q.0 in absurd cc
 body-one opcode body x Passed p q = let e : false ≡ true = listed body opcode _ q p.0 in absurd cc
@@ -279,5 +353,5 @@ changer_in_set = search rules
 
 pub operation_of : (opcode : ℕ) (body : List ℕ) (b : PlainBody) → IsRequestBody opcode body b → IsOperation opcode
 operation_of opcode body Passed p =
-    elim p [ inl q ↦ one_is IsOperation bystanders opcode bystander_in_set q | inr q ↦ one_is IsOperation changers opcode changer_in_set q ]
+    elim p [ inl q ↦ one_is IsOperation bystanders opcode bystander_in_set q | inr q ↦ one_is IsOperation changers opcode changer_in_set q.0 ]
 operation_of opcode body other p = (omega (arith, p.0), omega (arith, p.0), (λ e. absurd (omega (arith, p.0, e))), (λ e. absurd (omega (arith, p.0, e))), λ e. absurd (omega (arith, p.0, e)))

@@ -9,12 +9,13 @@ use Rattle.fa_bodies.specs.declared.handles.OpenIn.{OpenIn}
 use Rattle.fa_bodies.specs.declared.handles.ReadIn.{ReadIn}
 use Rattle.fa_bodies.specs.declared.handles.ReleaseIn.{ReleaseIn}
 use Rattle.fa_bodies.specs.declared.init.InitIn.{InitIn}
+use Rattle.fa_bodies.specs.declared.rename_flags.RenameFlags.TheVariants.{Replace}
 use Rattle.fa_bodies.specs.Fields.{Field, BeginsWith, IsSpelled, le32, le64}
 use Rattle.fa_bodies.specs.Fields.Field.{U32, U64, I32, Unread, Name, Target}
 use Rattle.fa_bodies.specs.Names.{IsName, IsNameByte, IsTarget}
 use Rattle.fa_bodies.specs.Requests.{PlainBody, IsOneOf, IsOperation, IsRequestBody, HasBody}
-use Rattle.fa_bodies.specs.Requests.PlainBody.{Lookup, Forget, Getattr, Setattr, Readlink, Symlink, Mknod, Mkdir, Unlink, Rmdir, Rename, Link, Open, Read, Write, Release, Flush, Init, Opendir, Readdir, Releasedir, Create, BatchForget, Readdirplus, Passed}
-use Rattle.fa_bodies.specs.Structs.{forget_in, getattr_in, setattr_in, mknod_in, mkdir_in, rename_in, link_in, open_in, read_in, write_in, release_in, flush_in, init_in, create_in, batch_forget_in}
+use Rattle.fa_bodies.specs.Requests.PlainBody.{Lookup, Forget, Getattr, Setattr, Readlink, Symlink, Mknod, Mkdir, Unlink, Rmdir, Rename, Link, Open, Read, Write, Release, Flush, Init, Opendir, Readdir, Releasedir, Create, BatchForget, Readdirplus, Rename2, Passed}
+use Rattle.fa_bodies.specs.Structs.{forget_in, getattr_in, setattr_in, mknod_in, mkdir_in, rename_in, rename2_in, link_in, open_in, read_in, write_in, release_in, flush_in, init_in, create_in, batch_forget_in}
 use Rattle.fa_bodies.proofs.BodyLaws.{EachIs, one_is, operation_of}
 
 -- ---- fields can be spelled
@@ -222,7 +223,7 @@ body_38 : UnlessNone 38
 body_38 = λ a b c. ([], (Passed, inl (inr (inr (inr (inr (inr (inr (inr (inr (inr (inr (inr (inr (inr (inl refl))))))))))))))))
 
 body_39 : UnlessNone 39
-body_39 = λ a b c. ([], (Passed, inr (inl refl)))
+body_39 = λ a b c. ([], (Passed, inr (inl refl, λ is. absurd (omega (arith, is)))))
 
 body_40 : UnlessNone 40
 body_40 = λ a b c. ([], (Passed, inl (inr (inr (inr (inr (inr (inr (inr (inr (inr (inr (inr (inr (inr (inr (inl refl)))))))))))))))))
@@ -234,19 +235,19 @@ body_42 : UnlessNone 42
 body_42 = λ a b c. let made = spelled (batch_forget_in 0) [] (omega arith, tt) in (made.0, (BatchForget 0 [], (refl, made.1, refl)))
 
 body_43 : UnlessNone 43
-body_43 = λ a b c. ([], (Passed, inr (inr (inl refl))))
+body_43 = λ a b c. ([], (Passed, inr (inr (inl refl), λ is. absurd (omega (arith, is)))))
 
 body_44 : UnlessNone 44
 body_44 = λ a b c. spelled_body 44 (Readdirplus some_read) (read_in some_read) (omega arith, (omega arith, (omega arith, (omega arith, (omega arith, (omega arith, tt)))))) (λ body p. (refl, p))
 
 body_45 : UnlessNone 45
-body_45 = λ a b c. ([], (Passed, inr (inr (inr (inl refl)))))
+body_45 = λ a b c. spelled_body 45 (Rename2 0 Replace some_name some_name) (rename2_in 0 0 ++ Name some_name ∷ Name some_name ∷ []) (omega arith, (omega arith, (is_name, (is_name, tt)))) (λ body p. (refl, p))
 
 body_46 : UnlessNone 46
 body_46 = λ a b c. ([], (Passed, inl (inr (inr (inr (inr (inr (inr (inr (inr (inr (inr (inr (inr (inr (inr (inr (inl refl))))))))))))))))))
 
 body_47 : UnlessNone 47
-body_47 = λ a b c. ([], (Passed, inr (inr (inr (inr (inl refl))))))
+body_47 = λ a b c. ([], (Passed, inr (inr (inr (inr (inl refl))), λ is. absurd (omega (arith, is)))))
 
 each_has : EachIs UnlessNone (up_to 47)
 unfolding up_to

@@ -15,7 +15,7 @@ use Rattle.fa_bodies.specs.Fields.{Field, BeginsWith}
 use Rattle.fa_bodies.specs.Fields.Field.{U64, I32}
 use Rattle.fa_bodies.specs.Structs.{out_header, entry_out, open_out}
 use Rattle.fa_bodies.specs.Requests.{PlainBody, PlainRequest, IsLengthRight, length_checks}
-use Rattle.fa_bodies.specs.Requests.PlainBody.{Lookup, Forget, Getattr, Setattr, Readlink, Symlink, Mknod, Mkdir, Unlink, Rmdir, Rename, Link, Open, Read, Write, Release, Flush, Init, Opendir, Readdir, Releasedir, Create, BatchForget, Readdirplus, Passed}
+use Rattle.fa_bodies.specs.Requests.PlainBody.{Lookup, Forget, Getattr, Setattr, Readlink, Symlink, Mknod, Mkdir, Unlink, Rmdir, Rename, Link, Open, Read, Write, Release, Flush, Init, Opendir, Readdir, Releasedir, Create, BatchForget, Readdirplus, Rename2, Passed}
 use Rattle.fa_bodies.specs.Replies.{PlainReply, IsErrorRight, IsNotificationRight, IsReplyHead, HasReplyHeader, RepeatsUnique, head_rules, reply_head_checks, IsEntryBody, IsCreatedBody, IsAttributesBody, IsOpenedBody, IsWrittenBody, IsListedBody, IsSuccessBody, IsSuccess, Says, IsReply, reply_shown}
 use Rattle.fa_bodies.specs.Replies.PlainReply.{Entry, Created, Attributes, Opened, Written, Listed, InitAnswer}
 use Rattle.fa_bodies.proofs.FieldLaws.{fields-one, length-fields, parts_of, rest-one}
@@ -181,6 +181,7 @@ success_body-one opcode (Releasedir r) body a b p q = p.0 ∙ sym q.0
 success_body-one opcode (Create flags mode umask name) body a b p q = created_body-one body a b p q
 success_body-one opcode (BatchForget count items) body a b p q = absurd p
 success_body-one opcode (Readdirplus r) body a b p q = listed_body-one true r.size body a b p q
+success_body-one opcode (Rename2 newdir flags old_name new_name) body a b p q = p.0 ∙ sym q.0
 success_body-one opcode Passed body a b p q = p.0 ∙ sym q.0
 
 says-one : (asked : PlainRequest) (error : ℤ) (body : List ℕ) (a b : PlainReply) → Says asked error body a → Says asked error body b → a ≡ b

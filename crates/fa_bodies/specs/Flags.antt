@@ -6,6 +6,8 @@ use Rattle.fa_bodies.specs.declared.flags.GetattrFlags.{GetattrFlags}
 use Rattle.fa_bodies.specs.declared.flags.FattrFlags.{FattrFlags}
 use Rattle.fa_bodies.specs.declared.flags.OpenFlags.{OpenFlags}
 use Rattle.fa_bodies.specs.declared.flags.FopenFlags.{FopenFlags}
+use Rattle.fa_bodies.specs.declared.rename_flags.RenameFlags.{RenameFlags}
+use Rattle.fa_bodies.specs.declared.rename_flags.RenameFlags.TheVariants.{Replace, NoReplace, Exchange}
 
 -- flags of INIT
 abbrev pub init_bits : InitFlags → ℕ
@@ -26,6 +28,12 @@ open_bits f = f.0
 -- how an open file may be used
 abbrev pub fopen_bits : FopenFlags → ℕ
 fopen_bits f = f.0
+
+-- flags of RENAME2 that are judged (Linux <linux/fs.h>): none, RENAME_NOREPLACE and RENAME_EXCHANGE
+abbrev pub rename_bits : RenameFlags → ℕ
+rename_bits Replace = 0
+rename_bits NoReplace = 1
+rename_bits Exchange = 2
 
 -- the flag word has this flag
 abbrev pub HasFlag : ℕ → ℕ → Type 0

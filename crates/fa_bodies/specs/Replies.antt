@@ -15,7 +15,7 @@ use Rattle.fa_bodies.specs.Fields.{BeginsWith, IsSpelled}
 use Rattle.fa_bodies.specs.Listing.{entries_left}
 use Rattle.fa_bodies.specs.Structs.{out_header, entry_out, attr_out, open_out, write_out, init_out}
 use Rattle.fa_bodies.specs.Requests.{PlainBody, PlainRequest, MayBeAnswered, length_checks}
-use Rattle.fa_bodies.specs.Requests.PlainBody.{Lookup, Forget, Getattr, Setattr, Readlink, Symlink, Mknod, Mkdir, Unlink, Rmdir, Rename, Link, Open, Read, Write, Release, Flush, Init, Opendir, Readdir, Releasedir, Create, BatchForget, Readdirplus, Passed}
+use Rattle.fa_bodies.specs.Requests.PlainBody.{Lookup, Forget, Getattr, Setattr, Readlink, Symlink, Mknod, Mkdir, Unlink, Rmdir, Rename, Link, Open, Read, Write, Release, Flush, Init, Opendir, Readdir, Releasedir, Create, BatchForget, Readdirplus, Rename2, Passed}
 
 -- What a reply says, without where its payload lies in memory.
 pub data PlainReply : Type 0 where
@@ -142,8 +142,8 @@ abbrev pub IsNegotiatedBody : List ℕ → PlainReply → Type 0
 IsNegotiatedBody body reply = (n : Negotiated) × (reply ≡ InitAnswer n) × IsInitOut body n
 
 -- The body of a success to a request with this opcode and body: one case for each operation whose
--- body is read, and one for those that are read by their headers alone. FORGET and BATCH_FORGET have
--- no answer.
+-- body is read, and one for those that are read by their headers alone and for a RENAME2 with flags that
+-- are not judged. FORGET and BATCH_FORGET have no answer.
 abbrev pub IsSuccessBody : (opcode : ℕ) → PlainBody → List ℕ → PlainReply → Type 0
 IsSuccessBody opcode (Lookup name) body reply = IsEntryBody body reply
 IsSuccessBody opcode (Forget nlookup) body reply = ⊥
@@ -171,6 +171,7 @@ IsSuccessBody opcode (Releasedir r) body reply = IsEmptyBody body reply
 IsSuccessBody opcode (Create flags mode umask name) body reply = IsCreatedBody body reply
 IsSuccessBody opcode (BatchForget count items) body reply = ⊥
 IsSuccessBody opcode (Readdirplus r) body reply = IsListedBody true r.size body reply
+IsSuccessBody opcode (Rename2 newdir flags old_name new_name) body reply = IsEmptyBody body reply
 -- any bytes, but INTERRUPT is answered by the header alone
 IsSuccessBody opcode Passed body reply = (reply ≡ Skipped) × (opcode ≡ INTERRUPT → body ≡ [])
 

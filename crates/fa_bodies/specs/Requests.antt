@@ -13,15 +13,16 @@ use Rattle.fa_bodies.specs.declared.handles.ReleaseIn.{ReleaseIn}
 use Rattle.fa_bodies.specs.declared.init.InitIn.{InitIn}
 use Rattle.fa_bodies.specs.declared.mode.Mode.{Mode}
 use Rattle.fa_bodies.specs.declared.opcodes.TheConstants.{LOOKUP, FORGET, GETATTR, SETATTR, READLINK, SYMLINK, MKNOD, MKDIR, UNLINK, RMDIR, RENAME, LINK, OPEN, READ, WRITE, STATFS, RELEASE, FSYNC, SETXATTR, GETXATTR, LISTXATTR, REMOVEXATTR, FLUSH, INIT, OPENDIR, READDIR, RELEASEDIR, FSYNCDIR, GETLK, SETLK, SETLKW, ACCESS, CREATE, INTERRUPT, BMAP, DESTROY, IOCTL, POLL, BATCH_FORGET, FALLOCATE, READDIRPLUS, RENAME2, LSEEK, COPY_FILE_RANGE}
+use Rattle.fa_bodies.specs.declared.rename_flags.RenameFlags.{RenameFlags}
 use Rattle.fa_bodies.specs.declared.requests.Request.{Request}
 use Rattle.fa_bodies.specs.declared.requests.RequestBody.{RequestBody}
 use Rattle.fa_bodies.specs.declared.requests.RequestBody.TheVariants as declared
 use Rattle.fa_bodies.specs.Fields.{BeginsWith, IsSpelled}
 use Rattle.fa_bodies.specs.Fields.Field.{U32, Name, Target}
 use Rattle.fa_bodies.specs.FlagBits.{fattr_size}
-use Rattle.fa_bodies.specs.Flags.{HasFlag, fattr_bits}
+use Rattle.fa_bodies.specs.Flags.{HasFlag, fattr_bits, rename_bits}
 use Rattle.fa_bodies.specs.Modes.{mode_bits, IsNodeMode}
-use Rattle.fa_bodies.specs.Structs.{in_header, forget_in, getattr_in, setattr_in, mknod_in, mkdir_in, rename_in, link_in, open_in, read_in, write_in, release_in, flush_in, init_in, create_in, batch_forget_in}
+use Rattle.fa_bodies.specs.Structs.{in_header, forget_in, getattr_in, setattr_in, mknod_in, mkdir_in, rename_in, rename2_in, link_in, open_in, read_in, write_in, release_in, flush_in, init_in, create_in, batch_forget_in}
 
 -- The body of a request, without where its names and payloads lie in memory.
 pub data PlainBody : Type 0 where
@@ -49,7 +50,8 @@ pub data PlainBody : Type 0 where
   Create : (flags : OpenFlags) (mode : Mode) (umask : ℕ) (name : List ℕ) → PlainBody
   BatchForget : (count : ℕ) (items : List ℕ) → PlainBody
   Readdirplus : ReadIn → PlainBody
-  -- an operation that is read by its header alone
+  Rename2 : (newdir : ℕ) (flags : RenameFlags) (old_name new_name : List ℕ) → PlainBody
+  -- an operation that is read by its header alone, or a RENAME2 with flags that are not judged
   Passed : PlainBody
 
 -- A request, without where its names and payloads lie in memory.
@@ -86,6 +88,7 @@ body_shown (declared.Releasedir r) = Releasedir r
 body_shown (declared.Create flags mode umask name) = Create flags mode umask name.now
 body_shown (declared.BatchForget count items) = BatchForget count items.now
 body_shown (declared.Readdirplus r) = Readdirplus r
+body_shown (declared.Rename2 newdir flags old_name new_name) = Rename2 newdir flags old_name.now new_name.now
 body_shown declared.Passed = Passed
 
 -- what a request that was read shows
@@ -108,7 +111,7 @@ bystanders =
     ∷ POLL ∷ LSEEK
     ∷ []
 
--- operations that change files in ways that are not judged here
+-- operations that change files in ways that are not judged here, but for RENAME2 with flags that are
 abbrev pub changers : List ℕ
 changers = IOCTL ∷ FALLOCATE ∷ RENAME2 ∷ COPY_FILE_RANGE ∷ []
 
@@ -118,8 +121,17 @@ abbrev pub IsOperation : ℕ → Type 0
 IsOperation opcode =
     (LOOKUP ≤ opcode) × (opcode ≤ COPY_FILE_RANGE) × (opcode ≢ 7) × (opcode ≢ 19) × (opcode ≢ 41)
 
+-- struct fuse_rename2_in and two names, with flags that are not judged
+pub record IsOtherRename (body : List ℕ) : Type 0 where
+  pub newdir : ℕ
+  pub flags : ℕ
+  pub old_name : List ℕ
+  pub new_name : List ℕ
+  pub spelled : IsSpelled body (rename2_in newdir flags ++ Name old_name ∷ Name new_name ∷ [])
+  pub other : (judged : RenameFlags) → rename_bits judged ≡ flags → ⊥
+
 -- The body of a request with this opcode (enum fuse_opcode of fuse.h): one case for each operation whose body is read,
--- and one for those that are read by their headers alone.
+-- and one for those that are read by their headers alone and for a RENAME2 with flags that are not judged.
 abbrev pub IsRequestBody : ℕ → List ℕ → PlainBody → Type 0
 -- a name
 IsRequestBody opcode body (Lookup name) = (opcode ≡ LOOKUP) × IsSpelled body (Name name ∷ [])
@@ -177,8 +189,12 @@ IsRequestBody opcode body (BatchForget count items) =
     (opcode ≡ BATCH_FORGET) × BeginsWith body (batch_forget_in count) items × (length items ≡ 16 * count)
 -- struct fuse_read_in
 IsRequestBody opcode body (Readdirplus r) = (opcode ≡ READDIRPLUS) × IsSpelled body (read_in r)
--- any bytes
-IsRequestBody opcode body Passed = IsOneOf bystanders opcode ⊎ IsOneOf changers opcode
+-- struct fuse_rename2_in, and two names
+IsRequestBody opcode body (Rename2 newdir flags old_name new_name) =
+    (opcode ≡ RENAME2) × IsSpelled body (rename2_in newdir (rename_bits flags) ++ Name old_name ∷ Name new_name ∷ [])
+-- any bytes, but a RENAME2 has its form whatever its flags
+IsRequestBody opcode body Passed =
+    IsOneOf bystanders opcode ⊎ (IsOneOf changers opcode × (opcode ≡ RENAME2 → IsOtherRename body))
 
 -- a request that may be answered: all but those that only forget
 abbrev pub MayBeAnswered : PlainBody → Type 0
@@ -206,6 +222,7 @@ MayBeAnswered (Readdir r) = Unit {0}
 MayBeAnswered (Releasedir r) = Unit {0}
 MayBeAnswered (Create flags mode umask name) = Unit {0}
 MayBeAnswered (Readdirplus r) = Unit {0}
+MayBeAnswered (Rename2 newdir flags old_name new_name) = Unit {0}
 MayBeAnswered Passed = Unit {0}
 
 -- The request stays within the file limit: no WRITE goes past it, and no SETATTR with FATTR_SIZE asks
@@ -235,6 +252,7 @@ IsWithinLimit (Releasedir r) = Unit {0}
 IsWithinLimit (Create flags mode umask name) = Unit {0}
 IsWithinLimit (BatchForget count items) = Unit {0}
 IsWithinLimit (Readdirplus r) = Unit {0}
+IsWithinLimit (Rename2 newdir flags old_name new_name) = Unit {0}
 IsWithinLimit Passed = Unit {0}
 
 -- The bytes are this request: a header whose len is the length of the whole, and a body of its

@@ -75,6 +75,10 @@ mkdir_in mode umask = U32 (mode_bits mode) ∷ U32 umask ∷ []
 abbrev pub rename_in : (newdir : ℕ) → List Field
 rename_in newdir = U64 newdir ∷ []
 
+-- struct fuse_rename2_in, 16 bytes: padding is not read
+abbrev pub rename2_in : (newdir flags : ℕ) → List Field
+rename2_in newdir flags = U64 newdir ∷ U32 flags ∷ Unread 4 ∷ []
+
 -- struct fuse_link_in, 8 bytes
 abbrev pub link_in : (oldnodeid : ℕ) → List Field
 link_in oldnodeid = U64 oldnodeid ∷ []

@@ -11,9 +11,10 @@ use crate::flags::FattrFlags;
 use crate::forget::{BatchForgetIn, ForgetIn};
 use crate::forget_one::ForgetOne;
 use crate::handles::WriteIn;
-use crate::making::{CreateIn, LinkIn, MkdirIn, MknodIn, RenameIn};
+use crate::making::{CreateIn, LinkIn, MkdirIn, MknodIn, Rename2In, RenameIn};
 use crate::names::{name_at, whole_name, whole_target};
 use crate::opcodes::*;
+use crate::rename_flags::RenameFlags;
 use crate::requests::RequestBody;
 use bitflags::Flags;
 use fa_capture::codes;
@@ -74,6 +75,7 @@ fn body_of(opcode: u32, body: &[u8]) -> Option<RequestBody<'_>>
         CREATE => create(body),
         BATCH_FORGET => batch_forget(body),
         READDIRPLUS => Some(RequestBody::Readdirplus(whole(body)?)),
+        RENAME2 => rename2(body),
         _ if is_bystander(opcode) || is_changer(opcode) => Some(RequestBody::Passed),
         _ => None,
     }
@@ -88,6 +90,18 @@ fn named<B: Block>(bytes: &[u8]) -> Option<(B, &[u8])>
     let (block, rest): (B, &[u8]) = front(bytes)?;
     let name = whole_name(rest)?;
     Some((block, name))
+}
+
+/// A struct of `fuse.h`, and two names behind it, of which the second ends the bytes.
+fn two_named<B: Block>(bytes: &[u8]) -> Option<(B, &[u8], &[u8])>
+    ensures found { IfSome result (λ r. IsSpelled bytes.now (B.fields r.0 ++ Name r.1.now ∷ Name r.2.now ∷ [])) }
+    ensures none { IfNone result
+        ((block : B) (first second : List ℕ) → IsSpelled bytes.now (B.fields block ++ Name first ∷ Name second ∷ []) → ⊥) }
+{
+    let (block, rest): (B, &[u8]) = front(bytes)?;
+    let (first, rest) = name_at(rest)?;
+    let second = whole_name(rest)?;
+    Some((block, first, second))
 }
 
 fn forget(body: &[u8]) -> Option<RequestBody<'_>>
@@ -145,14 +159,28 @@ fn rename(body: &[u8]) -> Option<RequestBody<'_>>
     ensures found { IfSome result (λ b. IsRequestBody RENAME body.now (body_shown b)) }
     ensures none { IfNone result ((b : PlainBody) → IsRequestBody RENAME body.now b → ⊥) }
 {
-    let (RenameIn { newdir }, rest) = front(body)?;
-    let (old_name, rest) = name_at(rest)?;
-    let new_name = whole_name(rest)?;
+    let (RenameIn { newdir }, old_name, new_name) = two_named(body)?;
     Some(RequestBody::Rename {
         newdir,
         old_name,
         new_name,
     })
+}
+
+fn rename2(body: &[u8]) -> Option<RequestBody<'_>>
+    ensures found { IfSome result (λ b. IsRequestBody RENAME2 body.now (body_shown b)) }
+    ensures none { IfNone result ((b : PlainBody) → IsRequestBody RENAME2 body.now b → ⊥) }
+{
+    let (Rename2In { newdir, flags }, old_name, new_name) = two_named(body)?;
+    match RenameFlags::from_bits(flags) {
+        Some(flags) => Some(RequestBody::Rename2 {
+            newdir,
+            flags,
+            old_name,
+            new_name,
+        }),
+        None => Some(RequestBody::Passed),
+    }
 }
 
 fn link(body: &[u8]) -> Option<RequestBody<'_>>
@@ -250,6 +278,7 @@ fn is_within_limit(body: &RequestBody<'_>) -> bool
         | RequestBody::Create { .. }
         | RequestBody::BatchForget { .. }
         | RequestBody::Readdirplus(_)
+        | RequestBody::Rename2 { .. }
         | RequestBody::Passed => true,
     }
 }

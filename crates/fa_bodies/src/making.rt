@@ -1,7 +1,7 @@
 //! What requests that give a file a name say before the name.
 
 ghost use Rattle.std.specs.Prelude.{refl};
-ghost use Rattle.fa_bodies.specs.Structs.{create_in, link_in, mkdir_in, mknod_in, rename_in};
+ghost use Rattle.fa_bodies.specs.Structs.{create_in, link_in, mkdir_in, mknod_in, rename_in, rename2_in};
 
 use crate::block::Block;
 use crate::fields::{skip, u32_at, u64_at};
@@ -36,6 +36,13 @@ pub(crate) struct CreateIn {
 #[derive(Clone, Copy)]
 pub(crate) struct RenameIn {
     pub newdir: u64,
+}
+
+/// The new directory of RENAME2, and its flags (`struct fuse_rename2_in`).
+#[derive(Clone, Copy)]
+pub(crate) struct Rename2In {
+    pub newdir: u64,
+    pub flags: u32,
 }
 
 /// Which file LINK gives a name (`struct fuse_link_in`).
@@ -113,6 +120,23 @@ impl Block for RenameIn {
     fn at(bytes: &[u8]) -> (RenameIn, &[u8]) {
         let (newdir, rest) = u64_at(bytes);
         (RenameIn { newdir }, rest)
+    }
+
+    ghost sized = { λ block. refl };
+}
+
+impl Block for Rename2In {
+    const LEN: usize = 16;
+
+    ghost LEN = { 16 };
+
+    ghost fields = { λ r. rename2_in r.newdir r.flags };
+
+    fn at(bytes: &[u8]) -> (Rename2In, &[u8]) {
+        let (newdir, rest) = u64_at(bytes);
+        let (flags, rest) = u32_at(rest);
+        let rest = skip(rest, 4);
+        (Rename2In { newdir, flags }, rest)
     }
 
     ghost sized = { λ block. refl };

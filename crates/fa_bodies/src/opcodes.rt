@@ -124,7 +124,8 @@ pub(crate) fn is_bystander(opcode: u32) -> bool
     )
 }
 
-/// Whether this operation is read by its header alone and changes files: IOCTL, FALLOCATE, RENAME2 or COPY_FILE_RANGE.
+/// Whether this operation changes files in ways that are not judged: IOCTL, FALLOCATE, COPY_FILE_RANGE, and RENAME2, of which
+/// some requests are (those with [`RenameFlags`](crate::RenameFlags)).
 ///
 /// Takes no memory, in constant time.
 pub fn is_changer(opcode: u32) -> bool

@@ -21,7 +21,7 @@ const LEAST_ERROR: i32 = -999;
 /// the message, and the body of its operation, as [`RequestBody`](crate::RequestBody) lists them: a
 /// struct of `fuse.h`, names or both. A name has 1 to 1,024 bytes without zero byte and slash, is
 /// neither `.` nor `..`, and ends at one zero byte; a target has one byte or more and ends likewise.
-/// Bystanders and changers are read by their header alone.
+/// Bystanders and changers are read by their header alone, but RENAME2, whose body has its form whatever its flags.
 ///
 /// Errors are codes of [`fa_capture::codes`], the first that applies: `HEADER_TOO_SHORT` for fewer
 /// than 40 bytes, `LENGTH_FIELD` where the header's length is not that of the message, `OPERATION`

@@ -40,6 +40,6 @@ pub enum Reply<'a> {
     Listed(Entries<'a>),
     /// The session is open: INIT.
     Negotiated(Negotiated),
-    /// Success of an operation that is read by its header alone.
+    /// Success of an operation that is read by its header alone, or of a RENAME2 with flags that are not judged.
     Skipped,
 }

@@ -8,6 +8,7 @@ use crate::getattr::GetattrIn;
 use crate::handles::{FlushIn, OpenIn, ReadIn, ReleaseIn};
 use crate::init::InitIn;
 use crate::mode::Mode;
+use crate::rename_flags::RenameFlags;
 use crate::setattr::SetattrIn;
 
 /// The node id of the root (`FUSE_ROOT_ID` of `fuse.h`).
@@ -108,7 +109,14 @@ pub enum RequestBody<'a> {
     },
     /// Entries of the node's directory, whose names are looked up too.
     Readdirplus(ReadIn),
-    /// An operation that is read by its header alone.
+    /// A name moves from the directory of the node to the directory `newdir`, or the two names exchange their files.
+    Rename2 {
+        newdir: u64,
+        flags: RenameFlags,
+        old_name: &'a [u8],
+        new_name: &'a [u8],
+    },
+    /// An operation that is read by its header alone, or a RENAME2 with flags that are not judged.
     Passed,
 }
 
@@ -143,6 +151,7 @@ impl RequestBody<'_> {
             | RequestBody::Releasedir(_)
             | RequestBody::Create { .. }
             | RequestBody::Readdirplus(_)
+            | RequestBody::Rename2 { .. }
             | RequestBody::Passed => true,
         }
     }

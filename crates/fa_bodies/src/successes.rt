@@ -35,6 +35,7 @@ pub(crate) fn success<'a>(opcode: u32, asked: &RequestBody<'_>, body: &'a [u8]) 
         RequestBody::Unlink { .. }
         | RequestBody::Rmdir { .. }
         | RequestBody::Rename { .. }
+        | RequestBody::Rename2 { .. }
         | RequestBody::Release(_)
         | RequestBody::Releasedir(_)
         | RequestBody::Flush(_) => empty(body),

@@ -6,15 +6,14 @@ use Rattle.std.proofs.lemmas.List.Elements.{All-contains, Contains-append_cases,
 use Rattle.std.proofs.lemmas.List.{take-take}
 use Rattle.fa_capture.specs.Message.{Message}
 use Rattle.fa_capture.proofs.CallerLemmas.{get_of_front, contains_first, contains_behind}
-use Rattle.fa_bodies.specs.Requests.{PlainRequest}
-use Rattle.fa_bodies.specs.Replies.{PlainReply}
-use Rattle.fa_session.specs.Answers.{Answers, IsAnsweredBy, IsRepliedAt}
+use Rattle.fa_session.specs.Answers.{Answers, IsAnsweredBy}
 use Rattle.fa_session.proofs.CallerLemmas.{answer_after}
+use Rattle.fa_ledger.specs.Operations.{PlainOperation}
 use Rattle.fa_ledger.proofs.CallerLemmas.{answers_of_front}
 use Rattle.fa_order.specs.declared.entry.Entry.{Entry}
 use Rattle.fa_check.specs.Orders.{IsTreeRequestAt}
 use Rattle.fa_check.specs.Faults.{EachPlaced}
-use Rattle.fa_check.specs.Cuts.{IsAnsweredBefore, IsRepliedLate, Goes, Stays, AreLeft, IsAnsweredEntry, IsCut}
+use Rattle.fa_check.specs.Cuts.{IsAnsweredBefore, IsAnsweredLate, Goes, Stays, AreLeft, IsAnsweredEntry, IsCut}
 use Rattle.fa_check.specs.Laws.{CutAgain, NoOrderStays}
 use Rattle.fa_check.proofs.OrderLemmas.{number_of, number_in}
 use Rattle.fa_check.proofs.CutLemmas.{not_late, answered_of_front, answered_in_front, tree_of_front, tree_in_front}
@@ -27,55 +26,51 @@ module _ (c : List Message) (k m : ℕ) (earlier : k ≤ m) where
   -- ---- replies
 
   -- a reply from k on among the first messages is one from k on
-  late_of_front : (p : ℕ) (r : PlainRequest) (reply : PlainReply) → IsRepliedLate (take m c) k p r reply → IsRepliedLate c k p r reply
-  late_of_front p r reply late =
-      let q : ℕ = late.0 in
-      let at : IsRepliedAt (take m c) q p r reply = late.1 in
+  late_of_front : (p : ℕ) (o : PlainOperation) → IsAnsweredLate (take m c) k p o → IsAnsweredLate c k p o
+  late_of_front p o (q, r, reply, at, far, does) =
       let below : q < m = (answers_of_front c m q p r (at.0, at.1, at.2)).0 in
       let before : take q (take m c) ≡ take q c = take-take q m c (omega (arith, below)) in
-      (q, (at.0, get_of_front c m q at.0 at.1, subst (λ (xs : List Message). Answers xs at.0 p r) before at.2, at.3), late.2)
+      (q, r, reply, (at.0, get_of_front c m q at.0 at.1, subst (λ (xs : List Message). Answers xs at.0 p r) before at.2, at.3), far, does)
 
   -- and it answers before m
-  early_of_front : (p : ℕ) (r : PlainRequest) (reply : PlainReply) → IsRepliedLate (take m c) k p r reply → IsAnsweredBefore c m p
-  early_of_front p r reply late =
-      let answered = answered_of_front c m p late.0 (r, (late.1.0, late.1.1, late.1.2)) in
-      (late.0, answered.1, answered.0)
+  early_of_front : (p : ℕ) (o : PlainOperation) → IsAnsweredLate (take m c) k p o → IsAnsweredBefore c m p
+  early_of_front p o (q, r, reply, at, far, does) =
+      let answered = answered_of_front c m p q (r, (at.0, at.1, at.2)) in
+      (q, answered.1, answered.0)
 
   -- a reply from m on is one from k on
-  late_earlier : (p : ℕ) (r : PlainRequest) (reply : PlainReply) → IsRepliedLate c m p r reply → IsRepliedLate c k p r reply
-  late_earlier p r reply late = (late.0, late.1, (let far = late.2 in omega (arith, earlier, far)))
+  late_earlier : (p : ℕ) (o : PlainOperation) → IsAnsweredLate c m p o → IsAnsweredLate c k p o
+  late_earlier p o (q, r, reply, at, far, does) = (q, r, reply, at, omega (arith, earlier, far), does)
 
   -- ---- each entry
 
   -- one that goes at m goes at k
   goes_earlier : (e : Entry) → Goes c m e → Goes c k e
   goes_earlier e (inl none) = inl none
-  goes_earlier e (inr (r, reply, late, leaves)) = inr (r, reply, late_earlier e.at r reply late, leaves)
+  goes_earlier e (inr (o, late, leaves)) = inr (o, late_earlier e.at o late, leaves)
 
   -- one that is left at m, and of that nothing at k, goes at k
   goes_then : (e left : Entry) → e.at < m → Stays c m e left → Goes (take m c) k left → Goes c k e
   goes_then e left sent stays (inl none) =
       absurd (none (subst (IsTreeRequestAt (take m c)) (sym (stays_at c m e left stays)) (tree_in_front c m e.at sent stays.0)))
-  goes_then e left sent stays (inr (r, reply, late, leaves)) =
-      inr (r, reply, subst (λ (p : ℕ). IsRepliedLate c k p r reply) (stays_at c m e left stays) (late_of_front left.at r reply late), leaves)
+  goes_then e left sent stays (inr (o, late, leaves)) =
+      inr (o, subst (λ (p : ℕ). IsAnsweredLate c k p o) (stays_at c m e left stays) (late_of_front left.at o late), leaves)
 
   -- one that is left as it is at m, and then at k, is so left at k
   same_then : (e again : Entry) → IsTreeRequestAt c e.at → ((q : ℕ) → IsAnsweredBy c e.at q → q < m) → Stays (take m c) k e again
       → Stays c k e again
   same_then e again tree early (there, inl same) =
       (tree, inl ((λ q by. same.0 q (answered_in_front c m e.at q (early q by) by)), same.1))
-  same_then e again tree early (there, inr (r, reply, late, keeps, is)) =
-      (tree, inr (r, reply, late_of_front e.at r reply late, keeps, is))
+  same_then e again tree early (there, inr (o, late, keeps, is)) = (tree, inr (o, late_of_front e.at o late, keeps, is))
 
   -- one that is left at m, and then at k, is so left at k
   stays_then : (e left again : Entry) → Stays c m e left → Stays (take m c) k left again → Stays c k e again
   stays_then e left again (tree, inl same) remains =
       same_then e again tree same.0 (subst (λ (x : Entry). Stays (take m c) k x again) same.1 remains)
-  stays_then e left again (tree, inr (r, reply, late, keeps, is)) (there, inl same) =
-      (tree, inr (r, reply, late_earlier e.at r reply late, keeps, same.1 ∙ is))
-  stays_then e left again (tree, inr (r, reply, late, keeps, is)) (there, inr (s, other, early, changes, too)) =
+  stays_then e left again (tree, inr (o, late, keeps, is)) (there, inl same) = (tree, inr (o, late_earlier e.at o late, keeps, same.1 ∙ is))
+  stays_then e left again (tree, inr (o, late, keeps, is)) (there, inr (u, early, changes, too)) =
       let at : left.at ≡ e.at = ap (λ (x : Entry). x.at) is in
-      absurd (not_late c m e.at r reply late (subst (IsAnsweredBefore c m) at (early_of_front left.at s other early)))
+      absurd (not_late c m e.at o late (subst (IsAnsweredBefore c m) at (early_of_front left.at u early)))
 
   -- what is left of entries at m, and then at k, is what is left of them at k
   left_then : (es left again : List Entry) → ((e : Entry) → Contains es e → e.at < m) → AreLeft c m es left

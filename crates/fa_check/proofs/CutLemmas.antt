@@ -2,24 +2,28 @@
 -- the messages before.
 use Rattle.std.proofs.Common.{◌≡◌, ℕ, ◌<◌, ◌≤◌, List, [], ◌∷◌, ◌++◌, length, take, Option, None, Some, refl, sym, ap, subst, ◌∙◌, append_assoc, inl, inr, arith}
 use Rattle.std.specs.Prelude.{AllPairs, Contains}
+use Rattle.std.proofs.lemmas.Option.{same_Some}
 use Rattle.std.proofs.lemmas.List.{length-append}
 use Rattle.std.proofs.lemmas.List.Elements.{All-contains, Contains-append_cases}
 use Rattle.fa_capture.specs.Checks.{AllHold}
 use Rattle.fa_capture.specs.Message.{Message}
 use Rattle.fa_capture.proofs.CallerLemmas.{contains_cases, contains_first, contains_behind, pairs_before, snoc_cases}
-use Rattle.fa_bodies.specs.Requests.{PlainRequest, PlainBody}
-use Rattle.fa_bodies.specs.Requests.PlainBody.{Lookup, Forget, Getattr, Readlink, Read, Write, Release, Flush, Init, Opendir, Readdir, Releasedir, BatchForget, Readdirplus, Passed}
-use Rattle.fa_bodies.specs.Replies.{PlainReply, IsSuccessBody, IsReply}
+use Rattle.fa_bodies.specs.Requests.{PlainRequest}
+use Rattle.fa_bodies.specs.Replies.{PlainReply}
 use Rattle.fa_bodies.proofs.CallerLemmas.{request_is_one}
 use Rattle.fa_session.specs.Answers.{AnswersAt, IsAnsweredBy, IsRepliedAt}
 use Rattle.fa_session.proofs.CallerLemmas.{one_request, answered_once, answered_asked, answer_after}
+use Rattle.fa_ledger.specs.declared.operation.Outcome.TheVariants.{Fails, Succeeds, Unanswered}
 use Rattle.fa_ledger.specs.Choices.{MayBePlaced}
-use Rattle.fa_ledger.specs.Kinds.{IsTreeRequest, IsReadingRequest, KeepsTree}
-use Rattle.fa_ledger.proofs.CallerLemmas.{asked_of_front, asked_in_front, answers_of_front, answers_in_front}
+use Rattle.fa_ledger.specs.Kinds.{KeepsTree}
+use Rattle.fa_ledger.specs.Operations.{PlainOperation, operation_of, ended}
+use Rattle.fa_ledger.specs.Operations.PlainAction.{Lookup, Getattr, Readlink, Read, Write, Opendir}
+use Rattle.fa_ledger.specs.Operations.PlainOperation.{Lists, Acts}
+use Rattle.fa_ledger.proofs.CallerLemmas.{lost, lost_made, not_unanswered, WroteWithin, reply_comes, asked_of_front, asked_in_front, answers_of_front, answers_in_front}
 use Rattle.fa_order.specs.declared.entry.Entry.{Entry}
 use Rattle.fa_check.specs.Orders.{IsTreeRequestAt, numbers, IsChoice, IsValidOrder}
 use Rattle.fa_check.specs.Faults.{order_checks, EachPlaced, IsAnsweredUnplaced}
-use Rattle.fa_check.specs.Cuts.{count_by_reply, IsAnsweredBefore, IsRepliedLate, wrote_without, Stays, AreLeft, IsAnsweredEntry, IsCut}
+use Rattle.fa_check.specs.Cuts.{IsAnsweredBefore, IsAnsweredLate, wrote_without, Stays, AreLeft, IsAnsweredEntry, IsCut}
 use Rattle.fa_check.proofs.OrderLemmas.{placed_precedence, placed_valid, number_of, number_in}
 
 -- ---- answers
@@ -29,10 +33,10 @@ replied_answers : (c : List Message) (q p : ℕ) (r : PlainRequest) (reply : Pla
 replied_answers c q p r reply at = (at.0, at.1, at.2)
 
 -- a request is not answered before and late
-pub not_late : (c : List Message) (m p : ℕ) (r : PlainRequest) (reply : PlainReply) → IsRepliedLate c m p r reply → IsAnsweredBefore c m p → ⊥
-not_late c m p r reply late before =
-    let same : late.0 ≡ before.0 = answered_once c late.0 before.0 p r before.1.0 (replied_answers c late.0 p r reply late.1) before.1.1 in
-    let far = late.2 in
+pub not_late : (c : List Message) (m p : ℕ) (o : PlainOperation) → IsAnsweredLate c m p o → IsAnsweredBefore c m p → ⊥
+not_late c m p o late before =
+    let same : late.0 ≡ before.0 = answered_once c late.0 before.0 p late.1 before.1.0 (replied_answers c late.0 p late.1 late.2 late.3) before.1.1 in
+    let far = late.4 in
     let near = before.2 in
     omega (arith, same, far, near)
 
@@ -57,7 +61,7 @@ tree_in_front c m p below tree = (tree.0, asked_in_front c m p tree.0 below tree
 -- an entry that stays keeps its number
 pub stays_at : (c : List Message) (m : ℕ) (e left : Entry) → Stays c m e left → left.at ≡ e.at
 stays_at c m e left (tree, inl same) = ap (λ (x : Entry). x.at) same.1
-stays_at c m e left (tree, inr lost) = ap (λ (x : Entry). x.at) lost.4
+stays_at c m e left (tree, inr late) = ap (λ (x : Entry). x.at) late.3
 
 -- a number that is left was there
 numbers_left : (c : List Message) (m : ℕ) (es left : List Entry) → AreLeft c m es left → (p : ℕ) → Contains (numbers left) p → Contains (numbers es) p
@@ -76,7 +80,7 @@ done_left c m (e ∷ es) left (inl gone) p tree before has =
     elim (contains_cases e.at (numbers es) p has) [
       | inl here ↦ elim gone.0 [
         | inl none ↦ absurd (none (subst (IsTreeRequestAt c) (sym here) tree))
-        | inr late ↦ absurd (not_late c m e.at late.0 late.1 late.2 (subst (IsAnsweredBefore c m) (sym here) before))
+        | inr late ↦ absurd (not_late c m e.at late.0 late.1 (subst (IsAnsweredBefore c m) (sym here) before))
       ]
       | inr behind ↦ done_left c m es left gone.1 p tree before behind
     ]
@@ -142,65 +146,55 @@ left_at c m (e ∷ es) left (x ∷ earlier) later f (inr (g, rest, is, stays, ar
 
 -- ---- choices
 
--- a changing request that was answered by a success may be placed without its answer
-may_be_left : (opcode : ℕ) (b : PlainBody) (bytes : List ℕ) (reply : PlainReply) → IsTreeRequest b → (IsReadingRequest b → ⊥) → IsSuccessBody opcode b bytes reply
-    → MayBePlaced b (wrote_without b reply None)
-may_be_left opcode (Lookup name) bytes reply tree changes says = absurd (changes tt)
-may_be_left opcode (Forget nlookup) bytes reply tree changes says = absurd tree
-may_be_left opcode (Getattr g) bytes reply tree changes says = absurd (changes tt)
-may_be_left opcode Readlink bytes reply tree changes says = absurd (changes tt)
-may_be_left opcode (Read r) bytes reply tree changes says = absurd (changes tt)
-may_be_left opcode (Write fh offset size write_flags lock_owner flags payload) bytes reply tree changes says =
-    (says.0, ap (λ (x : PlainReply). Some (count_by_reply x)) says.1, says.3)
-may_be_left opcode (Release r) bytes reply tree changes says = absurd tree
-may_be_left opcode (Flush f) bytes reply tree changes says = absurd tree
-may_be_left opcode (Init i) bytes reply tree changes says = absurd tree
-may_be_left opcode (Opendir o) bytes reply tree changes says = absurd (changes tt)
-may_be_left opcode (Readdir r) bytes reply tree changes says = absurd (changes tt)
-may_be_left opcode (Releasedir r) bytes reply tree changes says = absurd tree
-may_be_left opcode (BatchForget count items) bytes reply tree changes says = absurd tree
-may_be_left opcode (Readdirplus r) bytes reply tree changes says = absurd (changes tt)
-may_be_left opcode Passed bytes reply tree changes says = absurd tree
-may_be_left opcode other bytes reply tree changes says = refl
-
-reply_left : (r : PlainRequest) (bytes : List ℕ) (reply : PlainReply) → IsTreeRequest r.body → (KeepsTree r reply → ⊥) → IsReply r bytes reply → MayBePlaced r.body (wrote_without r.body reply None)
-reply_left r bytes reply tree leaves is =
-    elim is.body [
-      | inl success ↦ may_be_left r.opcode r.body is.head.body_bytes reply tree (λ reads. leaves (inr reads)) success.1
-      | inr error ↦ absurd (leaves (inl (is.error, error.2)))
-    ]
+-- a changing request that succeeded may be placed without its answer
+may_be_left : (o : PlainOperation) → (KeepsTree o → ⊥) → (ended o ≡ Unanswered → ⊥) → WroteWithin o → MayBePlaced (lost o) (wrote_without o None)
+may_be_left (Lists l) changes ends within = absurd (changes (inr tt))
+may_be_left (Acts (Lookup name o)) changes ends within = absurd (changes (inr tt))
+may_be_left (Acts (Getattr o)) changes ends within = absurd (changes (inr tt))
+may_be_left (Acts (Readlink o)) changes ends within = absurd (changes (inr tt))
+may_be_left (Acts (Read offset size o)) changes ends within = absurd (changes (inr tt))
+may_be_left (Acts (Opendir o)) changes ends within = absurd (changes (inr tt))
+may_be_left (Acts (Write offset size payload (Fails error))) changes ends within = absurd (changes (inl tt))
+may_be_left (Acts (Write offset size payload (Succeeds count))) changes ends within = (count, refl, within.0)
+may_be_left (Acts (Write offset size payload Unanswered)) changes ends within = absurd (ends refl)
+may_be_left other changes ends within = ((λ reads. reads), refl)
 
 -- the choice of an entry that stays is allowed
 module _ (c : List Message) (m : ℕ) (e : Entry) (choice : IsChoice c e) where
   same_choice : ((q : ℕ) → IsAnsweredBy c e.at q → q < m) → IsChoice (take m c) e
   same_choice early = record {
     answered = λ q by. choice.answered q (by.0, (answers_of_front c m q e.at by.0 by.1).1);
-    unanswered = λ none r asked.
-        choice.unanswered (λ q by. none q (by.0, answers_in_front c m q e.at by.0 (early q by) by.1)) r (asked_of_front c m e.at r asked).1;
+    unanswered = λ o waits.
+        let r = waits.1.0 in
+        choice.unanswered o ((λ q by. waits.0 q (by.0, answers_in_front c m q e.at by.0 (early q by) by.1)), (r, (asked_of_front c m e.at r waits.1.1).1, waits.1.2));
   }
 
-  module _ (tree : IsTreeRequestAt c e.at) (r : PlainRequest) (reply : PlainReply) (late : IsRepliedLate c m e.at r reply) (leaves : KeepsTree r reply → ⊥) where
-    answers : AnswersAt c late.0 e.at r
-    answers = replied_answers c late.0 e.at r reply late.1
+  module _ (o : PlainOperation) (late : IsAnsweredLate c m e.at o) (changes : KeepsTree o → ⊥) where
+    answers : AnswersAt c late.0 e.at late.1
+    answers = replied_answers c late.0 e.at late.1 late.2 late.3
 
     carries : e.wrote ≡ None
-    carries = choice.answered late.0 (r, answers)
+    carries = choice.answered late.0 (late.1, answers)
 
-    lost_choice : IsChoice (take m c) (record { at = e.at; wrote = wrote_without r.body reply e.wrote })
+    lost_choice : IsChoice (take m c) (record { at = e.at; wrote = wrote_without o e.wrote })
     lost_choice = record {
-      answered = λ q by. absurd (let early = answered_of_front c m e.at q by in not_late c m e.at r reply late (q, early.1, early.0));
-      unanswered = λ none s asked.
-          let same : s ≡ r = one_request request_is_one c e.at s r (asked_of_front c m e.at s asked).1 (answered_asked c late.0 e.at r answers) in
-          let own : tree.0 ≡ r = one_request request_is_one c e.at tree.0 r tree.1 (answered_asked c late.0 e.at r answers) in
-          let may : MayBePlaced r.body (wrote_without r.body reply None) =
-          reply_left r late.1.0.bytes reply (subst (λ (x : PlainRequest). IsTreeRequest x.body) own tree.2) leaves late.1.3 in
-          subst (λ (x : PlainRequest). MayBePlaced x.body (wrote_without r.body reply e.wrote)) (sym same)
-          (subst (λ (w : Option ℕ). MayBePlaced r.body (wrote_without r.body reply w)) (sym carries) may);
+      answered = λ q by. absurd (let early = answered_of_front c m e.at q by in not_late c m e.at o late (q, early.1, early.0));
+      unanswered = λ u waits.
+          let s = waits.1.0 in
+          let asked = waits.1.1 in
+          let made = waits.1.2 in
+          let same : s ≡ late.1 = one_request request_is_one c e.at s late.1 (asked_of_front c m e.at s asked).1 (answered_asked c late.0 e.at late.1 answers) in
+          let without : operation_of s.body None ≡ Some (lost o) =
+          ap (λ (x : PlainRequest). operation_of x.body None) same ∙ lost_made late.1.body (Some late.2) o late.5 in
+          let comes = reply_comes late.1 late.3.0.bytes late.2 o late.3.3 late.5 in
+          let may : MayBePlaced (lost o) (wrote_without o None) = may_be_left o changes (λ ends. not_unanswered late.2 (sym comes.ends ∙ ends)) comes.within in
+          subst (λ (x : PlainOperation). MayBePlaced x (wrote_without o e.wrote)) (same_Some (lost o) u (sym without ∙ made))
+          (subst (λ (w : Option ℕ). MayBePlaced (lost o) (wrote_without o w)) (sym carries) may);
     }
 
   choice_left : (left : Entry) → Stays c m e left → IsChoice (take m c) left
   choice_left left (tree, inl same) = subst (IsChoice (take m c)) (sym same.1) (same_choice same.0)
-  choice_left left (tree, inr lost) = subst (IsChoice (take m c)) (sym lost.4) (lost_choice tree lost.0 lost.1 lost.2 lost.3)
+  choice_left left (tree, inr late) = subst (IsChoice (take m c)) (sym late.3) (lost_choice late.0 late.1 late.2)
 
 -- ---- the order that is left
 

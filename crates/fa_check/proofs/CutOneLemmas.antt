@@ -1,5 +1,5 @@
 -- An order has one cut at a message; and the verdict of a legal order that is cut.
-use Rattle.std.proofs.Common.{◌≡◌, ◌⊎◌, ℕ, ◌≤◌, List, [], ◌∷◌, ◌++◌, append-nil, length, take, refl, sym, ap, subst, ◌∙◌, inl, inr, arith}
+use Rattle.std.proofs.Common.{◌≡◌, ◌⊎◌, ℕ, ◌≤◌, List, [], ◌∷◌, ◌++◌, append-nil, length, take, Some, refl, sym, ap, subst, ◌∙◌, inl, inr, arith}
 use Rattle.std.specs.Prelude.{Contains}
 use Rattle.std.proofs.lemmas.Bool.{cases_lt}
 use Rattle.std.proofs.lemmas.Option.{same_Some}
@@ -12,9 +12,10 @@ use Rattle.fa_bodies.proofs.CallerLemmas.{request_is_one, reply_is_one}
 use Rattle.fa_session.specs.Answers.{AnswersAt, IsRepliedAt}
 use Rattle.fa_session.proofs.CallerLemmas.{one_request, answered_once, answered_asked}
 use Rattle.fa_ledger.specs.Kinds.{KeepsTree}
+use Rattle.fa_ledger.specs.Operations.{PlainOperation, operation_of}
 use Rattle.fa_order.specs.declared.entry.Entry.{Entry}
 use Rattle.fa_check.specs.declared.verdict.Verdict.TheVariants.{Legal, Fault, NotShown}
-use Rattle.fa_check.specs.Cuts.{IsRepliedLate, wrote_without, Goes, StaysSame, Stays, AreLeft, IsAnsweredEntry, IsCut}
+use Rattle.fa_check.specs.Cuts.{IsAnsweredLate, wrote_without, Goes, StaysSame, Stays, AreLeft, IsAnsweredEntry, IsCut}
 use Rattle.fa_check.specs.Laws.{CutIsOne, CutIsToldLegal}
 use Rattle.fa_check.proofs.FaultLemmas.{legal_has_no_fault}
 use Rattle.fa_check.proofs.CutRunLemmas.{cut_is_legal}
@@ -22,42 +23,45 @@ use Rattle.fa_check.proofs.CutRunLemmas.{cut_is_legal}
 -- ---- one reply
 
 -- a request has one reply, and it is one request
-one_reply : (c : List Message) (m p : ℕ) (r s : PlainRequest) (reply other : PlainReply) → IsRepliedLate c m p r reply → IsRepliedLate c m p s other → (r ≡ s) × (reply ≡ other)
-one_reply c m p r s reply other late too =
-    let first : AnswersAt c late.0 p r = (late.1.0, late.1.1, late.1.2) in
-    let second : AnswersAt c too.0 p s = (too.1.0, too.1.1, too.1.2) in
-    let place : late.0 ≡ too.0 = answered_once c late.0 too.0 p r s first second in
-    let request : r ≡ s = one_request request_is_one c p r s (answered_asked c late.0 p r first) (answered_asked c too.0 p s second) in
-    let here : IsRepliedAt c too.0 p s reply =
-    subst (λ (x : PlainRequest). IsRepliedAt c too.0 p x reply) request (subst (λ (n : ℕ). IsRepliedAt c n p r reply) place late.1) in
-    let message : here.0 ≡ too.1.0 = same_Some here.0 too.1.0 (sym here.1 ∙ too.1.1) in
-    (request, reply_is_one s too.1.0.bytes reply other (subst (λ (x : Message). IsReply s x.bytes reply) message here.3) too.1.3)
+one_reply : (c : List Message) (p q k : ℕ) (r s : PlainRequest) (reply other : PlainReply) → IsRepliedAt c q p r reply → IsRepliedAt c k p s other → (r ≡ s) × (reply ≡ other)
+one_reply c p q k r s reply other is too =
+    let first : AnswersAt c q p r = (is.0, is.1, is.2) in
+    let second : AnswersAt c k p s = (too.0, too.1, too.2) in
+    let place : q ≡ k = answered_once c q k p r s first second in
+    let request : r ≡ s = one_request request_is_one c p r s (answered_asked c q p r first) (answered_asked c k p s second) in
+    let here : IsRepliedAt c k p s reply =
+    subst (λ (x : PlainRequest). IsRepliedAt c k p x reply) request (subst (λ (n : ℕ). IsRepliedAt c n p r reply) place is) in
+    let message : here.0 ≡ too.0 = same_Some here.0 too.0 (sym here.1 ∙ too.1) in
+    (request, reply_is_one s too.0.bytes reply other (subst (λ (x : Message). IsReply s x.bytes reply) message here.3) too.3)
+
+-- and so is what came of it
+one_late : (c : List Message) (m p : ℕ) (o u : PlainOperation) → IsAnsweredLate c m p o → IsAnsweredLate c m p u → o ≡ u
+one_late c m p o u late too =
+    let one = one_reply c p late.0 too.0 late.1 too.1 late.2 too.2 late.3 too.3 in
+    same_Some o u (sym late.5 ∙ ap (λ (x : PlainRequest). operation_of x.body (Some late.2)) one.0 ∙ ap (λ (x : PlainReply). operation_of too.1.body (Some x)) one.1 ∙ too.5)
 
 -- ---- one of each entry
 
-stays_early : (c : List Message) (m : ℕ) (e left : Entry) (r : PlainRequest) (reply : PlainReply) → StaysSame c m e left → IsRepliedLate c m e.at r reply → ⊥
-stays_early c m e left r reply same late =
-    let near = same.0 late.0 (r, (late.1.0, late.1.1, late.1.2)) in
-    let far = late.2 in
+stays_early : (c : List Message) (m : ℕ) (e left : Entry) (o : PlainOperation) → StaysSame c m e left → IsAnsweredLate c m e.at o → ⊥
+stays_early c m e left o same late =
+    let near = same.0 late.0 (late.1, (late.3.0, late.3.1, late.3.2)) in
+    let far = late.4 in
     omega (arith, near, far)
 
 -- an entry does not go and stay
 not_both : (c : List Message) (m : ℕ) (e left : Entry) → Goes c m e → Stays c m e left → ⊥
 not_both c m e left (inl none) stays = none stays.0
-not_both c m e left (inr (r, reply, late, leaves)) (tree, inl same) = stays_early c m e left r reply same late
-not_both c m e left (inr (r, reply, late, leaves)) (tree, inr (s, other, later, keeps, is)) =
-    let one = one_reply c m e.at r s reply other late later in
-    keeps (subst (λ (x : PlainReply). KeepsTree s x) one.1 (subst (λ (x : PlainRequest). KeepsTree x reply) one.0 leaves))
+not_both c m e left (inr (o, late, leaves)) (tree, inl same) = stays_early c m e left o same late
+not_both c m e left (inr (o, late, leaves)) (tree, inr (u, later, keeps, is)) = keeps (subst KeepsTree (one_late c m e.at o u late later) leaves)
 
 -- one is left of it
 one_stays : (c : List Message) (m : ℕ) (e left other : Entry) → Stays c m e left → Stays c m e other → left ≡ other
 one_stays c m e left other (tree, inl same) (also, inl too) = same.1 ∙ sym too.1
-one_stays c m e left other (tree, inl same) (also, inr (s, reply, late, keeps, is)) = absurd (stays_early c m e left s reply same late)
-one_stays c m e left other (tree, inr (r, reply, late, keeps, is)) (also, inl too) = absurd (stays_early c m e other r reply too late)
-one_stays c m e left other (tree, inr (r, reply, late, keeps, is)) (also, inr (s, said, later, keeps_, too)) =
-    let one = one_reply c m e.at r s reply said late later in
-    let made : PlainRequest → PlainReply → Entry = λ x y. record { at = e.at; wrote = wrote_without x.body y e.wrote } in
-    is ∙ ap (λ (x : PlainRequest). made x reply) one.0 ∙ ap (made s) one.1 ∙ sym too
+one_stays c m e left other (tree, inl same) (also, inr (u, late, keeps, is)) = absurd (stays_early c m e left u same late)
+one_stays c m e left other (tree, inr (o, late, keeps, is)) (also, inl too) = absurd (stays_early c m e other o too late)
+one_stays c m e left other (tree, inr (o, late, keeps, is)) (also, inr (u, later, keeps_, too)) =
+    let made : PlainOperation → Entry = λ x. record { at = e.at; wrote = wrote_without x e.wrote } in
+    is ∙ ap made (one_late c m e.at o u late later) ∙ sym too
 
 one_left : (c : List Message) (m : ℕ) (es left other : List Entry) → AreLeft c m es left → AreLeft c m es other → left ≡ other
 one_left c m [] left other is too = is ∙ sym too

@@ -1,38 +1,21 @@
 -- Where the numbers of an order are those that an order text can have, so are those of its cuts.
-use Rattle.std.proofs.Common.{◌≡◌, ℕ, ◌^◌, ℤ, List, [], ◌∷◌, ◌++◌, Option, sym, subst, arith, inl, inr}
-use Rattle.std.specs.Prelude.{◌<◌, All}
+use Rattle.std.proofs.Common.{ℕ, List, [], ◌∷◌, ◌++◌, Option, sym, subst, inl, inr}
+use Rattle.std.specs.Prelude.{All}
 use Rattle.std.proofs.lemmas.List.Elements.{All-nil, All-cons, All-head, All-tail}
 use Rattle.fa_capture.specs.Message.{Message}
-use Rattle.fa_bodies.specs.Requests.{PlainBody, PlainRequest}
-use Rattle.fa_bodies.specs.Requests.PlainBody.{Write}
-use Rattle.fa_bodies.specs.Replies.{PlainReply, IsWrittenBody, IsSuccessBody, IsReply}
-use Rattle.fa_bodies.specs.Replies.PlainReply.{Refused}
+use Rattle.fa_ledger.specs.declared.operation.Outcome.TheVariants.{Succeeds}
+use Rattle.fa_ledger.specs.Operations.{PlainOperation}
+use Rattle.fa_ledger.specs.Operations.PlainAction.{Write}
+use Rattle.fa_ledger.specs.Operations.PlainOperation.{Acts}
+use Rattle.fa_ledger.proofs.CallerLemmas.{WroteWithin, reply_comes}
 use Rattle.fa_order.specs.declared.entry.Entry.{Entry}
 use Rattle.fa_order.specs.Order.{IsCount, IsInRange}
-use Rattle.fa_check.specs.Cuts.{count_by_reply, wrote_without, Stays, AreLeft, IsCut}
+use Rattle.fa_check.specs.Cuts.{wrote_without, Stays, AreLeft, IsCut}
 
--- the count that a reply tells
-count_written : (asked : ℕ) (body : List ℕ) (reply : PlainReply) → IsWrittenBody asked body reply → count_by_reply reply < 2 ^ 32
-count_written asked body reply is = subst (λ r. count_by_reply r < 2 ^ 32) (sym is.1) is.2.0
-
--- what an entry carries without a success, and without a refusal
-without_success : (opcode : ℕ) (body : PlainBody) (bytes : List ℕ) (reply : PlainReply) (wrote : Option ℕ) → IsSuccessBody opcode body bytes reply → IsCount wrote
-    → IsCount (wrote_without body reply wrote)
-without_success opcode (Write fh offset size write_flags lock_owner flags payload) bytes reply wrote says within = count_written size bytes reply says
-without_success opcode other bytes reply wrote says within = within
-
-without_refusal : (body : PlainBody) (reply : PlainReply) (wrote : Option ℕ) (error : ℤ) → reply ≡ Refused error → IsCount wrote → IsCount (wrote_without body reply wrote)
-without_refusal (Write fh offset size write_flags lock_owner flags payload) reply wrote error is within =
-    subst (λ r. count_by_reply r < 2 ^ 32) (sym is) (omega arith)
-without_refusal other reply wrote error is within = within
-
--- so without a reply
-without_reply : (r : PlainRequest) (bytes : List ℕ) (reply : PlainReply) (wrote : Option ℕ) → IsReply r bytes reply → IsCount wrote → IsCount (wrote_without r.body reply wrote)
-without_reply r bytes reply wrote is within =
-    elim is.body [
-      | inl success ↦ without_success r.opcode r.body is.head.body_bytes reply wrote success.1 within
-      | inr refused ↦ without_refusal r.body reply wrote is.error refused.2 within
-    ]
+-- what an entry carries without what came of its request
+without_outcome : (o : PlainOperation) (wrote : Option ℕ) → WroteWithin o → IsCount wrote → IsCount (wrote_without o wrote)
+without_outcome (Acts (Write offset size payload (Succeeds count))) wrote within range = within.1
+without_outcome other wrote within range = range
 
 -- the front of an order
 front_range : (front behind : List Entry) → All IsInRange (front ++ behind) → All IsInRange front
@@ -47,9 +30,9 @@ module _ (c : List Message) (m : ℕ) where
       elim stays.1 [
         | inl same ↦ subst IsInRange (sym same.1) range
         | inr late ↦
-            let replied = late.2.1 in
-            subst IsInRange (sym late.4)
-            (record { at = range.at; wrote = without_reply late.0 replied.0.bytes late.1 e.wrote replied.3 range.wrote })
+            let at = late.1 in
+            let within = (reply_comes at.1 at.3.0.bytes at.2 late.0 at.3.3 at.5).within in
+            subst IsInRange (sym late.3) (record { at = range.at; wrote = without_outcome late.0 e.wrote within range.wrote })
       ]
 
   -- what is left of entries

@@ -1,37 +1,36 @@
 -- Runs of orders that are cut at a message: the run of what is left of an order goes along with that of the whole, over a part of its
 -- trees.
-use Rattle.std.proofs.Common.{◌≡◌, ◌⊎◌, ℕ, ℤ, suc, ◌<◌, ◌≤◌, List, [], ◌∷◌, ◌++◌, append_assoc, append-nil, length, take, Option, None, Some, refl, sym, ap, subst, ◌∙◌, inl, inr, arith}
-use Rattle.std.specs.Prelude.{slice_get, Contains, option_map}
+use Rattle.std.proofs.Common.{◌≡◌, ◌⊎◌, ℕ, ℤ, suc, ◌<◌, ◌≤◌, List, [], ◌∷◌, ◌++◌, append_assoc, append-nil, length, take, None, Some, refl, sym, ap, subst, ◌∙◌, inl, inr, arith}
+use Rattle.std.specs.Prelude.{slice_get, Contains}
 use Rattle.std.proofs.lemmas.Option.{slice_get_within, same_Some}
 use Rattle.std.proofs.lemmas.List.{length-take, take-take}
 use Rattle.fa_capture.specs.Message.{Message}
-use Rattle.fa_capture.proofs.CallerLemmas.{contains_cases, contains_first, contains_behind}
+use Rattle.fa_capture.proofs.CallerLemmas.{get_in_front, contains_cases, contains_first, contains_behind}
 use Rattle.fa_bodies.specs.Dirents.{PlainDirent}
-use Rattle.fa_bodies.specs.Requests.{PlainRequest, PlainBody}
+use Rattle.fa_bodies.specs.Requests.{PlainRequest}
 use Rattle.fa_bodies.specs.Replies.{PlainReply}
-use Rattle.fa_bodies.specs.Replies.PlainReply.{Refused, Written}
+use Rattle.fa_bodies.specs.Replies.PlainReply.{Refused}
 use Rattle.fa_session.specs.Answers.{AnswersAt, IsAnsweredBy, IsRepliedAt}
 use Rattle.fa_session.specs.Events.{PlainEvent, IsEvent}
-use Rattle.fa_session.specs.Events.PlainEvent.{Answered}
+use Rattle.fa_session.specs.Events.PlainEvent.{Asked, Answered}
 use Rattle.fa_ledger.specs.Events.{AreEvents}
-use Rattle.fa_ledger.specs.Kinds.{IsReadingRequest, KeepsTree}
+use Rattle.fa_ledger.specs.Kinds.{IsFailure, OnlyReads, KeepsTree}
 use Rattle.fa_ledger.specs.Listings.{offset_asked, IsListingIfAny}
-use Rattle.fa_ledger.specs.Calls.{PlainAnswer, PlainCall, IsHandleUsed, IsAnswerOf, HasAnswer}
-use Rattle.fa_ledger.specs.declared.operation.Outcome.{Outcome}
-use Rattle.fa_ledger.specs.declared.operation.Outcome.TheVariants.{Fails, Succeeds, Unanswered}
-use Rattle.fa_ledger.specs.Operations.{PlainAction, PlainOperation, operation_of, ended, ended_by, done_as, entry_as, created_as, attributes_as, opened_as, written_as, bytes_as, listed_as}
-use Rattle.fa_ledger.specs.Operations.PlainAction.{Lookup, Getattr, Setattr, Readlink, Symlink, Mknod, Mkdir, Unlink, Rmdir, Rename, Link, Open, Read, Write, Opendir, Create}
+use Rattle.fa_ledger.specs.Calls.{PlainAnswer, PlainCall, IsCall, IsHandleUsed, IsAnswerOf, HasAnswer}
+use Rattle.fa_ledger.specs.declared.operation.Outcome.TheVariants.{Fails, Succeeds}
+use Rattle.fa_ledger.specs.Operations.{PlainOperation, operation_of, ended}
+use Rattle.fa_ledger.specs.Operations.PlainAction.{Write}
 use Rattle.fa_ledger.specs.Operations.PlainOperation.{Acts}
-use Rattle.fa_ledger.proofs.CallerLemmas.{answered_operation, unanswered_there, action_made, list_made, reads_only, element_at, event_is_one, events_front, good_front, unanswered, call_in_front, call_cut_off, answers_at, IsTreeAnswer, HasReply, lists_directory, handle_opened, call_replied}
-use Rattle.fa_tree.specs.State.{Store, TreeState}
+use Rattle.fa_ledger.proofs.CallerLemmas.{lost, ended_by, reply_comes, request_there, element_at, event_is_one, events_front, good_front, unanswered, call_in_front, call_cut_off, answers_at, IsTreeAnswer, lists_directory, handle_opened, call_replied}
+use Rattle.fa_tree.specs.State.{TreeState}
 use Rattle.fa_tree.specs.Resolved.{resolved}
 use Rattle.fa_tree.specs.Operations.{count_written}
-use Rattle.fa_tree.proofs.CallerLemmas.{IsPartOf, whole_part, UsesKept, OpensNone, step_same, step_failed, step_read, step_lost, same_rule, unknown_fails}
+use Rattle.fa_tree.proofs.CallerLemmas.{IsPartOf, whole_part, UsesKept, OpensNone, step_same, step_failed, step_read, step_lost, unknown_fails}
 use Rattle.fa_order.specs.declared.entry.Entry.{Entry}
 use Rattle.fa_check.specs.Orders.{IsTreeRequestAt, IsChoice}
 use Rattle.fa_check.specs.Runs.{IsListedFrom, IsCallAt, EntrySteps, Runs}
 use Rattle.fa_check.specs.Faults.{EachPlaced}
-use Rattle.fa_check.specs.Cuts.{count_by_reply, IsAnsweredBefore, IsRepliedLate, wrote_without, Goes, Stays, AreLeft}
+use Rattle.fa_check.specs.Cuts.{IsAnsweredBefore, IsAnsweredLate, wrote_without, Goes, Stays, AreLeft}
 use Rattle.fa_check.specs.Laws.{CutIsLegal, ExplainedIsLegalCut, LegalExplains, ExplainsAllIsLegal}
 use Rattle.fa_check.proofs.OrderLemmas.{valid_placed, placed_valid}
 use Rattle.fa_check.proofs.RunLemmas.{run_more}
@@ -44,39 +43,38 @@ module _ (c : List Message) (m p : ℕ) (call : PlainCall) (so_far : List PlainD
   asked_below : call.asked < m
   asked_below = let number = is.number in omega (arith, number, below)
 
-  listed_front : IsListedFrom (take p (take m is.events)) call.request (offset_asked call.request.body) so_far
-  listed_front =
-      subst (λ (before : List PlainEvent). IsListedFrom before call.request (offset_asked call.request.body) so_far) (sym (take-take p m is.events (omega (arith, below)))) is.listed
+  -- what was listed so far for it is so in the front
+  listed_front : (other : PlainCall) → other.asked ≡ call.asked → (exact : IsCall (take m is.events) other)
+      → IsListedFrom (take p (take m is.events)) exact.request (offset_asked exact.request.body) so_far
+  listed_front other asked exact =
+      let r = is.exact.request in
+      let there : slice_get (take m is.events) call.asked ≡ Some (Asked call.asked r) = get_in_front is.events m call.asked (Asked call.asked r) asked_below is.exact.there in
+      let same : exact.request ≡ r = request_there (take m is.events) call.asked other r exact asked there in
+      subst (λ (x : PlainRequest). IsListedFrom (take p (take m is.events)) x (offset_asked x.body) so_far) (sym same)
+      (subst (λ (before : List PlainEvent). IsListedFrom before r (offset_asked r.body) so_far) (sym (take-take p m is.events (omega (arith, below)))) is.listed)
 
   -- a call that is not answered late is one of them
   same_call : ((answer : PlainAnswer) → call.answer ≡ Some answer → answer.at < m) → IsCallAt (take m c) p call so_far
-  same_call early = record {
-    events = take m is.events;
-    are = events_front c is.events is.are m;
-    exact = call_in_front is.events m call is.exact asked_below early;
-    number = is.number;
-    listed = listed_front;
-  }
+  same_call early =
+      let exact = call_in_front is.events m call is.exact asked_below early in
+      record { events = take m is.events; are = events_front c is.events is.are m; exact = exact; number = is.number; listed = listed_front call refl exact }
 
   -- one that is answered late is one of them without its answer
   cut_call : (answer : PlainAnswer) → call.answer ≡ Some answer → m ≤ answer.at → IsCallAt (take m c) p (unanswered call) so_far
-  cut_call answer has late = record {
-    events = take m is.events;
-    are = events_front c is.events is.are m;
-    exact = call_cut_off is.events m call is.exact asked_below c is.are answer has late;
-    number = is.number;
-    listed = listed_front;
-  }
+  cut_call answer has late =
+      let exact = call_cut_off is.events m call is.exact asked_below c is.are answer has late in
+      record { events = take m is.events; are = events_front c is.events is.are m; exact = exact; number = is.number; listed = listed_front (unanswered call) refl exact }
 
   -- the handle that it lists by was opened by an answer before m
   uses_before : UsesKept (IsAnsweredBefore c m) call
   uses_before l lists h used =
       let es : List PlainEvent = is.events in
       let asked = is.exact.asked in
-      let listing : IsListingIfAny (take call.asked es) call.request (Some l) = subst (IsListingIfAny (take call.asked es) call.request) lists asked.listing in
+      let r = is.exact.request in
+      let listing : IsListingIfAny (take call.asked es) r (Some l) = subst (IsListingIfAny (take call.asked es) r) lists asked.listing in
       let uses = listing.uses in
       let by_key : IsHandleUsed (take call.asked es) (Some uses.key) call.handle = subst (λ k. IsHandleUsed (take call.asked es) k call.handle) uses.used asked.handle in
-      let opened = handle_opened c es is.are call.asked uses.key by_key.0 (lists_directory (take call.asked es) call.request listing.offset uses.key listing.asks uses.used) by_key.2 in
+      let opened = handle_opened c es is.are call.asked uses.key by_key.0 (lists_directory (take call.asked es) r listing.offset uses.key listing.asks uses.used) by_key.2 in
       let same : by_key.0 ≡ h = same_Some by_key.0 h (sym by_key.1 ∙ used) in
       let before = opened.answer.before in
       let early = asked_below in
@@ -92,115 +90,64 @@ reply_event c es are q p r reply at =
     let here : IsEvent (take q c) at.0 (Answered q p r reply) = (omega (arith, within, length-take q c), at.2, at.3) in
     event.1 ∙ ap (λ (e : PlainEvent). Some e) (event_is_one (take q c) at.0 event.0 (Answered q p r reply) (are.each q at.0 event.0 at.1 event.1) here)
 
-late_reply : (c : List Message) (m p : ℕ) (call : PlainCall) (so_far : List PlainDirent) (is : IsCallAt c p call so_far) (r : PlainRequest) (reply : PlainReply) → IsTreeRequestAt c p
-    → (late : IsRepliedLate c m p r reply) → HasReply is.events call late.0 r reply
-late_reply c m p call so_far is r reply tree late =
+-- The call of a request that was answered late: its answer is late, and what came of it is this.
+record IsLateCall (c : List Message) (m : ℕ) (call : PlainCall) (o : PlainOperation) : Type 0 where
+  answer : PlainAnswer
+  has : call.answer ≡ Some answer
+  late : m ≤ answer.at
+  does : call.operation ≡ o
+
+late_call : (c : List Message) (m p : ℕ) (call : PlainCall) (so_far : List PlainDirent) → IsCallAt c p call so_far → (o : PlainOperation) → IsTreeRequestAt c p → IsAnsweredLate c m p o → IsLateCall c m call o
+late_call c m p call so_far is o tree late =
     let q : ℕ = late.0 in
-    let there : slice_get is.events q ≡ Some (Answered q p r reply) = reply_event c is.events is.are q p r reply late.1 in
+    let r : PlainRequest = late.1 in
+    let reply : PlainReply = late.2 in
+    let there : slice_get is.events q ≡ Some (Answered q p r reply) = reply_event c is.events is.are q p r reply late.3 in
     let answer : IsTreeAnswer c is.events (suc q) q p r reply =
-    record { there = there; before = omega arith; tree = tree; answered = (r, (late.1.0, late.1.1, late.1.2)) } in
-    call_replied c is.events is.are call is.exact (suc q) q r reply (subst (λ (n : ℕ). IsTreeAnswer c is.events (suc q) q n r reply) (sym is.number) answer)
+    record { there = there; before = omega arith; tree = tree; answered = (r, (late.3.0, late.3.1, late.3.2)) } in
+    let has = call_replied c is.events is.are call is.exact (suc q) q r reply (subst (λ (n : ℕ). IsTreeAnswer c is.events (suc q) q n r reply) (sym is.number) answer) in
+    record {
+      answer = has.answer;
+      has = has.has;
+      late = let place = has.place in let far = late.4 in omega (arith, place, far);
+      does =
+          same_Some call.operation o
+          (sym has.of_call.does ∙ ap (λ (x : PlainRequest). operation_of x.body (Some has.of_call.reply)) has.same ∙ ap (λ (x : PlainReply). operation_of r.body (Some x)) has.says ∙ late.5);
+    }
 
--- a reply is an error or a success
-reply_cases : (reply : PlainReply) → ((error : ℤ) × (reply ≡ Refused error)) ⊎ (ended_by reply ≡ Succeeds tt)
-reply_cases (Refused error) = inl (error, refl)
-reply_cases other = inr refl
+-- what was answered failed or succeeded
+late_cases : (c : List Message) (m p : ℕ) (o : PlainOperation) → IsAnsweredLate c m p o → ((error : ℤ) × (ended o ≡ Fails error)) ⊎ (ended o ≡ Succeeds tt)
+late_cases c m p o late = by late.2 (reply_comes late.1 late.3.0.bytes late.2 o late.3.3 late.5).ends
+  where
+    by : (reply : PlainReply) → ended o ≡ ended_by reply → ((error : ℤ) × (ended o ≡ Fails error)) ⊎ (ended o ≡ Succeeds tt)
+    by (Refused error) ends = inl (error, ends)
+    by other ends = inr ends
 
--- a WRITE
-abbrev IsWrite : PlainBody → Type 0
-IsWrite (PlainBody.Write fh offset size write_flags lock_owner flags payload) = Unit {0}
-IsWrite other = ⊥
-
--- no other request has a count
-abbrev CountsNone : PlainOperation → Type 0
-CountsNone o = count_written o None ≡ 0
-
-none_counted : (body : PlainBody) (reply : Option PlainReply) (o : PlainOperation) → (IsWrite body → ⊥) → operation_of body reply ≡ Some o → CountsNone o
-none_counted (PlainBody.Lookup name) reply o not is = action_made (λ w. Lookup name w) (entry_as reply) o CountsNone is (λ w. refl)
-none_counted (PlainBody.Getattr g) reply o not is = action_made (λ w. Getattr w) (attributes_as reply) o CountsNone is (λ w. refl)
-none_counted (PlainBody.Setattr set) reply o not is = action_made (λ w. Setattr set w) (attributes_as reply) o CountsNone is (λ w. refl)
-none_counted PlainBody.Readlink reply o not is = action_made (λ w. Readlink w) (bytes_as reply) o CountsNone is (λ w. refl)
-none_counted (PlainBody.Symlink name target) reply o not is = action_made (λ w. Symlink name target w) (entry_as reply) o CountsNone is (λ w. refl)
-none_counted (PlainBody.Mknod mode rdev umask name) reply o not is = action_made (λ w. Mknod mode umask name w) (entry_as reply) o CountsNone is (λ w. refl)
-none_counted (PlainBody.Mkdir mode umask name) reply o not is = action_made (λ w. Mkdir mode umask name w) (entry_as reply) o CountsNone is (λ w. refl)
-none_counted (PlainBody.Unlink name) reply o not is = action_made (λ w. Unlink name w) (done_as reply) o CountsNone is (λ w. refl)
-none_counted (PlainBody.Rmdir name) reply o not is = action_made (λ w. Rmdir name w) (done_as reply) o CountsNone is (λ w. refl)
-none_counted (PlainBody.Rename newdir old_name new_name) reply o not is = action_made (λ w. Rename old_name new_name w) (done_as reply) o CountsNone is (λ w. refl)
-none_counted (PlainBody.Link oldnodeid new_name) reply o not is = action_made (λ w. Link new_name w) (entry_as reply) o CountsNone is (λ w. refl)
-none_counted (PlainBody.Open i) reply o not is = action_made (λ w. Open w) (opened_as reply) o CountsNone is (λ w. refl)
-none_counted (PlainBody.Read r) reply o not is = action_made (λ w. Read r.offset r.size w) (bytes_as reply) o CountsNone is (λ w. refl)
-none_counted (PlainBody.Opendir i) reply o not is = action_made (λ w. Opendir w) (opened_as reply) o CountsNone is (λ w. refl)
-none_counted (PlainBody.Create flags mode umask name) reply o not is = action_made (λ w. Create flags mode umask name w) (created_as reply) o CountsNone is (λ w. refl)
-none_counted (PlainBody.Readdir r) reply o not is = list_made r.size (listed_as reply) o CountsNone is (λ w. refl)
-none_counted (PlainBody.Readdirplus r) reply o not is = list_made r.size (listed_as reply) o CountsNone is (λ w. refl)
-none_counted (PlainBody.Write fh offset size write_flags lock_owner flags payload) reply o not is = absurd (not tt)
-none_counted other reply o not is = absurd cc
-
--- the count of what is left is that which the reply tells
-write_left : (offset size : ℕ) (payload : List ℕ) (reply : PlainReply) (u o : PlainOperation) → Some (Acts (Write offset size payload Unanswered)) ≡ Some u
-    → option_map (λ (a : PlainAction). Acts a) (option_map (λ (w : Outcome ℕ). Write offset size payload w) (written_as (Some reply))) ≡ Some o → ended o ≡ Succeeds tt
-    → count_written u (Some (count_by_reply reply)) ≡ count_written o None
-write_left offset size payload (Written n) u o none is ends =
-    ap (λ (p : PlainOperation). count_written p (Some n)) (sym (same_Some (Acts (Write offset size payload Unanswered)) u none))
-    ∙ ap (λ (p : PlainOperation). count_written p None) (same_Some (Acts (Write offset size payload (Succeeds n))) o is)
-write_left offset size payload (Refused error) u o none is ends =
-    let clash = ap ended (same_Some (Acts (Write offset size payload (Fails error))) o is) ∙ ends in absurd cc
-write_left offset size payload other u o none is ends = absurd cc
-
-counts_alike : (body : PlainBody) (reply : PlainReply) (u o : PlainOperation) → operation_of body None ≡ Some u → operation_of body (Some reply) ≡ Some o → ended o ≡ Succeeds tt
-    → count_written u (wrote_without body reply None) ≡ count_written o None
-counts_alike (PlainBody.Write fh offset size write_flags lock_owner flags payload) reply u o none is ends = write_left offset size payload reply u o none is ends
-counts_alike (PlainBody.Lookup name) reply u o none is ends = none_counted (PlainBody.Lookup name) None u (λ w. w) none ∙ sym (none_counted (PlainBody.Lookup name) (Some reply) o (λ w. w) is)
-counts_alike (PlainBody.Getattr g) reply u o none is ends = none_counted (PlainBody.Getattr g) None u (λ w. w) none ∙ sym (none_counted (PlainBody.Getattr g) (Some reply) o (λ w. w) is)
-counts_alike (PlainBody.Setattr set) reply u o none is ends = none_counted (PlainBody.Setattr set) None u (λ w. w) none ∙ sym (none_counted (PlainBody.Setattr set) (Some reply) o (λ w. w) is)
-counts_alike PlainBody.Readlink reply u o none is ends = none_counted PlainBody.Readlink None u (λ w. w) none ∙ sym (none_counted PlainBody.Readlink (Some reply) o (λ w. w) is)
-counts_alike (PlainBody.Symlink name target) reply u o none is ends = none_counted (PlainBody.Symlink name target) None u (λ w. w) none ∙ sym (none_counted (PlainBody.Symlink name target) (Some reply) o (λ w. w) is)
-counts_alike (PlainBody.Mknod mode rdev umask name) reply u o none is ends = none_counted (PlainBody.Mknod mode rdev umask name) None u (λ w. w) none ∙ sym (none_counted (PlainBody.Mknod mode rdev umask name) (Some reply) o (λ w. w) is)
-counts_alike (PlainBody.Mkdir mode umask name) reply u o none is ends = none_counted (PlainBody.Mkdir mode umask name) None u (λ w. w) none ∙ sym (none_counted (PlainBody.Mkdir mode umask name) (Some reply) o (λ w. w) is)
-counts_alike (PlainBody.Unlink name) reply u o none is ends = none_counted (PlainBody.Unlink name) None u (λ w. w) none ∙ sym (none_counted (PlainBody.Unlink name) (Some reply) o (λ w. w) is)
-counts_alike (PlainBody.Rmdir name) reply u o none is ends = none_counted (PlainBody.Rmdir name) None u (λ w. w) none ∙ sym (none_counted (PlainBody.Rmdir name) (Some reply) o (λ w. w) is)
-counts_alike (PlainBody.Rename newdir old_name new_name) reply u o none is ends = none_counted (PlainBody.Rename newdir old_name new_name) None u (λ w. w) none ∙ sym (none_counted (PlainBody.Rename newdir old_name new_name) (Some reply) o (λ w. w) is)
-counts_alike (PlainBody.Link oldnodeid new_name) reply u o none is ends = none_counted (PlainBody.Link oldnodeid new_name) None u (λ w. w) none ∙ sym (none_counted (PlainBody.Link oldnodeid new_name) (Some reply) o (λ w. w) is)
-counts_alike (PlainBody.Open i) reply u o none is ends = none_counted (PlainBody.Open i) None u (λ w. w) none ∙ sym (none_counted (PlainBody.Open i) (Some reply) o (λ w. w) is)
-counts_alike (PlainBody.Read r) reply u o none is ends = none_counted (PlainBody.Read r) None u (λ w. w) none ∙ sym (none_counted (PlainBody.Read r) (Some reply) o (λ w. w) is)
-counts_alike (PlainBody.Opendir i) reply u o none is ends = none_counted (PlainBody.Opendir i) None u (λ w. w) none ∙ sym (none_counted (PlainBody.Opendir i) (Some reply) o (λ w. w) is)
-counts_alike (PlainBody.Create flags mode umask name) reply u o none is ends = none_counted (PlainBody.Create flags mode umask name) None u (λ w. w) none ∙ sym (none_counted (PlainBody.Create flags mode umask name) (Some reply) o (λ w. w) is)
-counts_alike (PlainBody.Readdir r) reply u o none is ends = none_counted (PlainBody.Readdir r) None u (λ w. w) none ∙ sym (none_counted (PlainBody.Readdir r) (Some reply) o (λ w. w) is)
-counts_alike (PlainBody.Readdirplus r) reply u o none is ends = none_counted (PlainBody.Readdirplus r) None u (λ w. w) none ∙ sym (none_counted (PlainBody.Readdirplus r) (Some reply) o (λ w. w) is)
-counts_alike other reply u o none is ends = absurd cc
+-- what is left carries the count that was answered
+counts_alike : (o : PlainOperation) → count_written (lost o) (wrote_without o None) ≡ count_written o None
+counts_alike (Acts (Write offset size payload (Succeeds count))) = refl
+counts_alike other = refl
 
 -- ---- a step of the whole, in the part
 
 module _ (c : List Message) (m : ℕ) (whole new part : TreeState) (e : Entry) (step : EntrySteps whole new c e) (p : IsPartOf (IsAnsweredBefore c m) whole part) (tree : IsTreeRequestAt c e.at) where
   -- a late answer opens nothing that is kept
-  opens_late : (r : PlainRequest) (reply : PlainReply) (late : IsRepliedLate c m e.at r reply) → OpensNone (IsAnsweredBefore c m) step.call
-  opens_late r reply late opens kept =
-      not_late c m e.at r reply late (subst (IsAnsweredBefore c m) step.of_request.number kept)
-
-  -- what came of the request is what the late reply says
-  late_ends : (r : PlainRequest) (reply : PlainReply) (late : IsRepliedLate c m e.at r reply) → ended step.steps.asks ≡ ended_by reply
-  late_ends r reply late =
-      let has = late_reply c m e.at step.call step.so_far step.of_request r reply tree late in
-      let one = answered_operation c step.of_request.events step.of_request.are step.call step.of_request.exact has.answer has.has in
-      let asks : one.0 ≡ step.steps.asks = same_Some one.0 step.steps.asks (sym one.1 ∙ step.steps.is) in
-      ap ended (sym asks) ∙ one.2.ends ∙ ap ended_by has.says
+  opens_late : (o : PlainOperation) → IsAnsweredLate c m e.at o → OpensNone (IsAnsweredBefore c m) step.call
+  opens_late o late opens kept = not_late c m e.at o late (subst (IsAnsweredBefore c m) step.of_request.number kept)
 
   -- an entry that goes leaves the part a part
   entry_goes : Goes c m e → IsPartOf (IsAnsweredBefore c m) new part
   entry_goes (inl none) = absurd (none tree)
-  entry_goes (inr (r, reply, late, leaves)) =
+  entry_goes (inr (o, late, leaves)) =
       let call = step.call in
-      let has = late_reply c m e.at call step.so_far step.of_request r reply tree late in
-      let ends = late_ends r reply late in
-      let fails : ((error : ℤ) × (reply ≡ Refused error)) → IsPartOf (IsAnsweredBefore c m) new part =
-      λ error. step_failed (IsAnsweredBefore c m) whole part new call e.wrote step.so_far p step.steps error.0 (ends ∙ ap ended_by error.1) in
-      elim leaves [
-        | inl error ↦ fails error
-        | inr reads ↦ elim (reply_cases reply) [
-          | inl error ↦ fails error
-          | inr success ↦
-              step_read (IsAnsweredBefore c m) whole part new call e.wrote step.so_far p step.steps (ends ∙ success) (opens_late r reply late)
-              (reads_only call.request.body (option_map (λ (a : PlainAnswer). a.reply) call.answer) step.steps.asks (subst (λ (x : PlainRequest). IsReadingRequest x.body) (sym has.same) reads) step.steps.is)
+      let is = late_call c m e.at call step.so_far step.of_request o tree late in
+      elim (late_cases c m e.at o late) [
+        | inl error ↦ step_failed (IsAnsweredBefore c m) whole part new call e.wrote step.so_far p step.steps error.0 (ap ended is.does ∙ error.1)
+        | inr success ↦ elim leaves [
+          | inl fails ↦ absurd (subst IsFailure success fails)
+          | inr reads ↦
+              step_read (IsAnsweredBefore c m) whole part new call e.wrote step.so_far p step.steps (ap ended is.does ∙ success) (opens_late o late)
+              (subst OnlyReads (sym is.does) reads)
         ]
       ]
 
@@ -214,46 +161,34 @@ module _ (c : List Message) (m : ℕ) (whole new part : TreeState) (e : Entry) (
     stays_same early =
         let of : IsCallAt (take m c) e.at step.call step.so_far =
         same_call c m e.at step.call step.so_far step.of_request below (λ answer has.
-        let is : IsAnswerOf step.of_request.events step.call answer = subst (HasAnswer step.of_request.events step.call) has step.of_request.exact.answered in
-        let answers = answers_at c step.of_request.events step.of_request.are answer.at answer.at step.call.asked step.call.request answer.reply is.there in
-        early answer.at (step.call.request, subst (λ (n : ℕ). AnswersAt c answer.at n step.call.request) step.of_request.number answers)) in
+        let r = step.of_request.exact.request in
+        let is : IsAnswerOf step.of_request.events r step.call answer = subst (HasAnswer step.of_request.events r step.call) has step.of_request.exact.answered in
+        let answers = answers_at c step.of_request.events step.of_request.are answer.at answer.at step.call.asked r is.reply is.there in
+        early answer.at (r, subst (λ (n : ℕ). AnswersAt c answer.at n r) step.of_request.number answers)) in
         let followed = step_same (IsAnsweredBefore c m) whole part new step.call e.wrote step.so_far p step.steps (knows e refl step.call step.so_far of)
         (uses_before c m e.at step.call step.so_far step.of_request below) in
         (followed.0, record { call = step.call; so_far = step.so_far; of_request = of; steps = followed.1 }, followed.2)
 
-    stays_without : (r : PlainRequest) (reply : PlainReply) → IsRepliedLate c m e.at r reply → (KeepsTree r reply → ⊥) → Follows (record { at = e.at; wrote = wrote_without r.body reply e.wrote })
-    stays_without r reply late leaves =
+    stays_without : (o : PlainOperation) → IsAnsweredLate c m e.at o → (KeepsTree o → ⊥) → Follows (record { at = e.at; wrote = wrote_without o e.wrote })
+    stays_without o late changes =
         let call = step.call in
-        let has = late_reply c m e.at call step.so_far step.of_request r reply tree late in
-        let answer = has.answer in
-        let ends = late_ends r reply late in
-        let success : ended step.steps.asks ≡ Succeeds tt =
-        elim (reply_cases reply) [
-          | inl error ↦ absurd (leaves (inl (error.0, error.1)))
-          | inr succeeds ↦ ends ∙ succeeds
+        let is = late_call c m e.at call step.so_far step.of_request o tree late in
+        let success : ended o ≡ Succeeds tt =
+        elim (late_cases c m e.at o late) [
+          | inl error ↦ absurd (changes (inl (subst IsFailure (sym error.1) tt)))
+          | inr succeeds ↦ succeeds
         ] in
-        let place : m ≤ answer.at = (let same = has.place in let far = late.2 in omega (arith, same, far)) in
-        let of : IsCallAt (take m c) e.at (unanswered call) step.so_far = cut_call c m e.at call step.so_far step.of_request below answer has.has place in
-        let left : Entry = record { at = e.at; wrote = wrote_without r.body reply e.wrote } in
-        let carries : e.wrote ≡ None = choice.answered late.0 (r, (late.1.0, late.1.1, late.1.2)) in
-        let replies : Option PlainReply = option_map (λ (a : PlainAnswer). a.reply) call.answer in
-        let told : replies ≡ Some reply = ap (λ (found : Option PlainAnswer). option_map (λ (a : PlainAnswer). a.reply) found) has.has ∙ ap (λ (x : PlainReply). Some x) has.says in
-        let body : call.request.body ≡ r.body = ap (λ (x : PlainRequest). x.body) has.same in
-        let lost = unanswered_there call.request.body step.of_request.exact.asked.tree in
-        let alike = λ (t : Store). same_rule t step.steps.files call.request.body replies None step.steps.asks lost.0 step.steps.is lost.1 in
-        let asked : operation_of r.body (Some reply) ≡ Some step.steps.asks =
-        sym (ap (λ (b : PlainBody). operation_of b (Some reply)) body) ∙ sym (ap (operation_of call.request.body) told) ∙ step.steps.is in
-        let without : operation_of r.body None ≡ Some lost.0 = sym (ap (λ (b : PlainBody). operation_of b None) body) ∙ lost.1 in
-        let count : count_written lost.0 left.wrote ≡ count_written step.steps.asks e.wrote =
-        ap (λ (w : Option ℕ). count_written lost.0 (wrote_without r.body reply w)) carries ∙ counts_alike r.body reply lost.0 step.steps.asks without asked success
-        ∙ ap (count_written step.steps.asks) (sym carries) in
-        let followed = step_lost (IsAnsweredBefore c m) whole part new call e.wrote step.so_far p step.steps success (opens_late r reply late) lost.0 lost.1 lost.2 alike left.wrote count
+        let of : IsCallAt (take m c) e.at (unanswered call) step.so_far = cut_call c m e.at call step.so_far step.of_request below is.answer is.has is.late in
+        let left : Entry = record { at = e.at; wrote = wrote_without o e.wrote } in
+        let carries : e.wrote ≡ None = choice.answered late.0 (late.1, (late.3.0, late.3.1, late.3.2)) in
+        let count : count_written (lost call.operation) left.wrote ≡ count_written call.operation e.wrote = rw (is.does, carries) (counts_alike o) in
+        let followed = step_lost (IsAnsweredBefore c m) whole part new call e.wrote step.so_far p step.steps (ap ended is.does ∙ success) (opens_late o late) left.wrote count
         (knows left refl (unanswered call) step.so_far of) (uses_before c m e.at call step.so_far step.of_request below) in
         (followed.0, record { call = unanswered call; so_far = step.so_far; of_request = of; steps = followed.1 }, followed.2)
 
     entry_stays : (left : Entry) → Stays c m e left → Follows left
     entry_stays left (tree_, inl same) = subst Follows (sym same.1) (stays_same same.0)
-    entry_stays left (tree_, inr lost) = subst Follows (sym lost.4) (stays_without lost.0 lost.1 lost.2 lost.3)
+    entry_stays left (tree_, inr late) = subst Follows (sym late.3) (stays_without late.0 late.1 late.2)
 
 -- ---- runs
 

@@ -5,45 +5,46 @@ use Rattle.std.proofs.lemmas.Bool.{cases_lt}
 use Rattle.std.proofs.lemmas.List.Elements.{All-nil, All-cons}
 use Rattle.fa_capture.specs.Message.{Message}
 use Rattle.fa_capture.proofs.CallerLemmas.{contains_decided}
-use Rattle.fa_bodies.specs.Requests.{PlainRequest, PlainBody}
-use Rattle.fa_bodies.specs.Requests.PlainBody.{Lookup, Getattr, Readlink, Read, Opendir, Readdir, Readdirplus}
-use Rattle.fa_bodies.specs.Replies.{PlainReply, IsError}
-use Rattle.fa_bodies.specs.Replies.PlainReply.{Refused}
 use Rattle.fa_session.specs.Answers.{IsAnsweredBy}
 use Rattle.fa_session.specs.Events.PlainEvent.{Answered}
 use Rattle.fa_session.proofs.CallerLemmas.{answered_once}
-use Rattle.fa_ledger.specs.Kinds.{IsReadingRequest, KeepsTree}
+use Rattle.fa_ledger.specs.declared.operation.Outcome.{Outcome}
+use Rattle.fa_ledger.specs.declared.operation.Outcome.TheVariants.{Fails, Succeeds, Unanswered}
+use Rattle.fa_ledger.specs.Kinds.{IsFailure, OnlyReads, KeepsTree}
+use Rattle.fa_ledger.specs.Operations.{PlainOperation, ended}
+use Rattle.fa_ledger.specs.Operations.PlainAction.{Lookup, Getattr, Readlink, Read, Opendir}
+use Rattle.fa_ledger.specs.Operations.PlainOperation.{Lists, Acts}
 use Rattle.fa_ledger.specs.Calls.{PlainAnswer, PlainCall, IsAnswerOf, HasAnswer, AreCalls}
 use Rattle.fa_ledger.proofs.CallerLemmas.{calls_are_there, call_at, call_with, message_of, request_event}
 use Rattle.fa_order.specs.declared.entry.Entry.{Entry}
 use Rattle.fa_check.specs.Orders.{IsTreeRequestAt}
-use Rattle.fa_check.specs.Cuts.{IsRepliedLate, wrote_without, Goes, Stays, AreLeft, IsAnsweredEntry, IsCut}
+use Rattle.fa_check.specs.Cuts.{IsAnsweredLate, wrote_without, Goes, Stays, AreLeft, IsAnsweredEntry, IsCut}
 use Rattle.fa_check.specs.Laws.{CutIsThere}
 use Rattle.fa_check.proofs.MessageLemmas.{call_is_tree, call_answered, call_unanswered}
 
 -- ---- what is decided
 
-reading_or_not : (b : PlainBody) → IsReadingRequest b ⊎ (IsReadingRequest b → ⊥)
-reading_or_not (Lookup name) = inl tt
-reading_or_not (Getattr g) = inl tt
-reading_or_not Readlink = inl tt
-reading_or_not (Read r) = inl tt
-reading_or_not (Opendir o) = inl tt
-reading_or_not (Readdir r) = inl tt
-reading_or_not (Readdirplus r) = inl tt
+reading_or_not : (o : PlainOperation) → OnlyReads o ⊎ (OnlyReads o → ⊥)
+reading_or_not (Lists l) = inl tt
+reading_or_not (Acts (Lookup name o)) = inl tt
+reading_or_not (Acts (Getattr o)) = inl tt
+reading_or_not (Acts (Readlink o)) = inl tt
+reading_or_not (Acts (Read offset size o)) = inl tt
+reading_or_not (Acts (Opendir o)) = inl tt
 reading_or_not other = inr (λ reads. reads)
 
-error_or_not : (reply : PlainReply) → IsError reply ⊎ (IsError reply → ⊥)
-error_or_not (Refused error) = inl (error, refl)
-error_or_not other = inr (λ fails. let is = fails.1 in absurd cc)
+failure_or_not : (e : Outcome (Unit {0})) → IsFailure e ⊎ (IsFailure e → ⊥)
+failure_or_not (Fails error) = inl tt
+failure_or_not (Succeeds success) = inr (λ fails. fails)
+failure_or_not Unanswered = inr (λ fails. fails)
 
-leaves_or_not : (r : PlainRequest) (reply : PlainReply) → KeepsTree r reply ⊎ (KeepsTree r reply → ⊥)
-leaves_or_not r reply =
-    elim (error_or_not reply) [
-      | inl error ↦ inl (inl error)
-      | inr success ↦ elim (reading_or_not r.body) [
+leaves_or_not : (o : PlainOperation) → KeepsTree o ⊎ (KeepsTree o → ⊥)
+leaves_or_not o =
+    elim (failure_or_not (ended o)) [
+      | inl fails ↦ inl (inl fails)
+      | inr success ↦ elim (reading_or_not o) [
         | inl reads ↦ inl (inr reads)
-        | inr changes ↦ inr (λ leaves. elim leaves [ inl error ↦ success error | inr reads ↦ changes reads ])
+        | inr changes ↦ inr (λ leaves. elim leaves [ inl fails ↦ success fails | inr reads ↦ changes reads ])
       ]
     ]
 
@@ -59,12 +60,12 @@ module _ (c : List Message) (calls : List PlainCall) (are : AreCalls c calls) (m
       ]
 
   -- a call is answered before, late or never
-  late_of : (place : ℕ) (call : PlainCall) (answer : PlainAnswer) → slice_get calls place ≡ Some call → call.answer ≡ Some answer → m ≤ answer.at → IsRepliedLate c m call.asked call.request answer.reply
+  late_of : (place : ℕ) (call : PlainCall) (answer : PlainAnswer) → slice_get calls place ≡ Some call → call.answer ≡ Some answer → m ≤ answer.at → IsAnsweredLate c m call.asked call.operation
   late_of place call answer there has late =
       let is = call_at are.events calls are.exact.each place call there in
-      let of : IsAnswerOf are.events call answer = subst (HasAnswer are.events call) has is.answered in
-      let message = message_of c are.events are.are answer.at (Answered answer.at call.asked call.request answer.reply) of.there in
-      (answer.at, (message.0, message.1, message.2.1, message.2.2), late)
+      let of : IsAnswerOf are.events is.request call answer = subst (HasAnswer are.events is.request call) has is.answered in
+      let message = message_of c are.events are.are answer.at (Answered answer.at call.asked is.request of.reply) of.there in
+      (answer.at, is.request, of.reply, (message.0, message.1, message.2.1, message.2.2), late, of.does)
 
   only_answer : (place : ℕ) (call : PlainCall) (answer : PlainAnswer) → slice_get calls place ≡ Some call → call.answer ≡ Some answer → (q : ℕ) → IsAnsweredBy c call.asked q → answer.at ≡ q
   only_answer place call answer there has q by =
@@ -99,14 +100,14 @@ module _ (c : List Message) (calls : List PlainCall) (are : AreCalls c calls) (m
           let near = done.1.2 in
           omega (arith, same, near, late)
 
-      entry_late : m ≤ answer.at → IsRepliedLate c m e.at call.request answer.reply
-      entry_late late = subst (λ (n : ℕ). IsRepliedLate c m n call.request answer.reply) at (late_of place call answer there has late)
+      entry_late : m ≤ answer.at → IsAnsweredLate c m e.at call.operation
+      entry_late late = subst (λ (n : ℕ). IsAnsweredLate c m n call.operation) at (late_of place call answer there has late)
 
-      pub late_goes : m ≤ answer.at → KeepsTree call.request answer.reply → Goes c m e
-      late_goes late leaves = inr (call.request, answer.reply, entry_late late, leaves)
+      pub late_goes : m ≤ answer.at → KeepsTree call.operation → Goes c m e
+      late_goes late leaves = inr (call.operation, entry_late late, leaves)
 
-      pub late_stays : m ≤ answer.at → (KeepsTree call.request answer.reply → ⊥) → Stays c m e (record { at = e.at; wrote = wrote_without call.request.body answer.reply e.wrote })
-      late_stays late keeps = (call_tree, inr (call.request, answer.reply, entry_late late, keeps, refl))
+      pub late_stays : m ≤ answer.at → (KeepsTree call.operation → ⊥) → Stays c m e (record { at = e.at; wrote = wrote_without call.operation e.wrote })
+      late_stays late keeps = (call_tree, inr (call.operation, entry_late late, keeps, refl))
 
     call_stays : Goes c m e ⊎ ((left : Entry) × Stays c m e left)
     call_stays = by call.answer refl
@@ -116,9 +117,9 @@ module _ (c : List Message) (calls : List PlainCall) (are : AreCalls c calls) (m
         by (Some answer) has =
             elim (cases_lt answer.at m) [
               | inl early ↦ inr (e, early_stays answer has early)
-              | inr late ↦ elim (leaves_or_not call.request answer.reply) [
+              | inr late ↦ elim (leaves_or_not call.operation) [
                 | inl leaves ↦ inl (late_goes answer has late leaves)
-                | inr keeps ↦ inr (record { at = e.at; wrote = wrote_without call.request.body answer.reply e.wrote }, late_stays answer has late keeps)
+                | inr keeps ↦ inr (record { at = e.at; wrote = wrote_without call.operation e.wrote }, late_stays answer has late keeps)
               ]
             ]
 

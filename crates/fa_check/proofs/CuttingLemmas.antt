@@ -70,12 +70,12 @@ module _ (calls : Calls) (place m : ℕ) (e : Entry) (call : Call) (f : IsFoundA
     shown_late late =
         late_not_done c (map call_shown calls.list.items) is.are m place (call_shown call) e f.there f.asked (answer_shown answer) (ap (option_map answer_shown) has) late
 
-    pub shown_goes : m ≤ answer.at → KeepsTree (call_shown call).request (answer_shown answer).reply → Goes c m e
+    pub shown_goes : m ≤ answer.at → KeepsTree (call_shown call).operation → Goes c m e
     shown_goes late leaves =
         late_goes c (map call_shown calls.list.items) is.are m place (call_shown call) e f.there f.asked (answer_shown answer) (ap (option_map answer_shown) has) late leaves
 
-    pub shown_stays : m ≤ answer.at → (KeepsTree (call_shown call).request (answer_shown answer).reply → ⊥)
-        → Stays c m e (record { at = e.at; wrote = wrote_without (call_shown call).request.body (answer_shown answer).reply e.wrote })
+    pub shown_stays : m ≤ answer.at → (KeepsTree (call_shown call).operation → ⊥)
+        → Stays c m e (record { at = e.at; wrote = wrote_without (call_shown call).operation e.wrote })
     shown_stays late keeps =
         late_stays c (map call_shown calls.list.items) is.are m place (call_shown call) e f.there f.asked (answer_shown answer) (ap (option_map answer_shown) has) late keeps
 

@@ -8,11 +8,11 @@ use Rattle.fa_capture.specs.declared.codes.TheConstants.{CHOICE_NOT_ALLOWED}
 use Rattle.fa_capture.specs.Checks.{FirstFailure, AllHold}
 use Rattle.fa_capture.specs.Message.{Message}
 use Rattle.fa_capture.proofs.CallerLemmas.{get_set_same, get_set_other, get_set_back, snoc_cases}
-use Rattle.fa_bodies.specs.Requests.{PlainRequest}
 use Rattle.fa_session.specs.Answers.{IsRequestAt, IsAnsweredBy, IsUnanswered}
 use Rattle.fa_ledger.specs.declared.calls.Calls.{Calls}
 use Rattle.fa_ledger.specs.Calls.{PlainAnswer, PlainCall, AreCalls, call_shown}
 use Rattle.fa_ledger.specs.Choices.{Allows, AllowsBy, MayBePlaced}
+use Rattle.fa_ledger.specs.Operations.{PlainOperation, operation_of}
 use Rattle.fa_ledger.specs.SoFar.{listing_so_far}
 use Rattle.fa_tree.specs.State.{TreeState}
 use Rattle.fa_tree.specs.Steps.{OfCallAt, Steps, step_checks}
@@ -30,7 +30,7 @@ use Rattle.fa_check.specs.parts.Placing.{place_checks}
 use Rattle.fa_check.proofs.OrderLemmas.{number_more, number_still, number_now}
 use Rattle.fa_check.proofs.RunLemmas.{run_more}
 use Rattle.fa_check.proofs.MarkLemmas.{set_or_unset, not_both}
-use Rattle.fa_check.proofs.MessageLemmas.{call_is_tree, tree_is_call, call_request, call_answered, call_unanswered, answered_call, call_of_message}
+use Rattle.fa_check.proofs.MessageLemmas.{call_is_tree, tree_is_call, call_undone, call_answered, call_unanswered, answered_call, call_of_message}
 
 -- ---- the choice of an entry
 
@@ -42,31 +42,33 @@ module _ (c : List Message) (calls : List PlainCall) (are : AreCalls c calls) (e
       by : (answer : Option PlainAnswer) → call.answer ≡ answer → IsChoice c e
       by None is =
           let free : IsUnanswered c e.at = subst (IsUnanswered c) asked (call_unanswered c calls are place call there is) in
-          let may : MayBePlaced call.request.body e.wrote = subst (λ a. AllowsBy a call.request.body e.wrote) is allowed in
+          let may : MayBePlaced call.operation e.wrote = subst (λ a. AllowsBy a call.operation e.wrote) is allowed in
           record {
             answered = λ q answered. absurd (free q answered);
-            unanswered = λ _ r sent.
-                let same : r ≡ call.request = call_request c calls are place call r there (subst (λ n. IsRequestAt c n r) (sym asked) sent) in
-                subst (λ (x : PlainRequest). MayBePlaced x.body e.wrote) (sym same) may;
+            unanswered = λ o waits.
+                let r = waits.1.0 in
+                let sent = waits.1.1 in
+                let made = waits.1.2 in
+                let own : operation_of r.body None ≡ Some call.operation = call_undone c calls are place call r there is (subst (λ n. IsRequestAt c n r) (sym asked) sent) in
+                subst (λ (x : PlainOperation). MayBePlaced x e.wrote) (same_Some call.operation o (sym own ∙ made)) may;
           }
       by (Some answer) is =
-          let none : e.wrote ≡ None = subst (λ a. AllowsBy a call.request.body e.wrote) is allowed in
+          let none : e.wrote ≡ None = subst (λ a. AllowsBy a call.operation e.wrote) is allowed in
           let by_answer : IsAnsweredBy c e.at answer.at = subst (λ n. IsAnsweredBy c n answer.at) asked (call_answered c calls are place call answer there is) in
-          record { answered = λ q answered. none; unanswered = λ free r sent. absurd (free answer.at by_answer) }
+          record { answered = λ q answered. none; unanswered = λ o waits. absurd (waits.0 answer.at by_answer) }
 
   pub choice_allowed : IsChoice c e → (place : ℕ) (call : PlainCall) → slice_get calls place ≡ Some call → call.asked ≡ e.at → Allows call e.wrote
   choice_allowed choice place call there asked = by call.answer refl
     where
-      by : (answer : Option PlainAnswer) → call.answer ≡ answer → AllowsBy call.answer call.request.body e.wrote
+      by : (answer : Option PlainAnswer) → call.answer ≡ answer → AllowsBy call.answer call.operation e.wrote
       by None is =
           let free : IsUnanswered c e.at = subst (IsUnanswered c) asked (call_unanswered c calls are place call there is) in
           let tree = call_is_tree c calls are place call there in
-          let same : tree.0 ≡ call.request = call_request c calls are place call tree.0 there tree.1 in
-          let sent : IsRequestAt c e.at call.request = subst (λ n. IsRequestAt c n call.request) asked (subst (IsRequestAt c call.asked) same tree.1) in
-          subst (λ a. AllowsBy a call.request.body e.wrote) (sym is) (choice.unanswered free call.request sent)
+          subst (λ a. AllowsBy a call.operation e.wrote) (sym is)
+          (choice.unanswered call.operation (free, (tree.0, subst (λ n. IsRequestAt c n tree.0) asked tree.1, call_undone c calls are place call tree.0 there is tree.1)))
       by (Some answer) is =
           let by_answer : IsAnsweredBy c e.at answer.at = subst (λ n. IsAnsweredBy c n answer.at) asked (call_answered c calls are place call answer there is) in
-          subst (λ a. AllowsBy a call.request.body e.wrote) (sym is) (choice.answered answer.at by_answer)
+          subst (λ a. AllowsBy a call.operation e.wrote) (sym is) (choice.answered answer.at by_answer)
 
 -- ---- the checks of an entry's place
 

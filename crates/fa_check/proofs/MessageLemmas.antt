@@ -19,8 +19,9 @@ use Rattle.fa_ledger.specs.declared.call.Listing.{Listing}
 use Rattle.fa_ledger.specs.Events.{AreEvents}
 use Rattle.fa_ledger.specs.Calls.{PlainAnswer, PlainCall, IsCall, HasAnswer, AreCalls}
 use Rattle.fa_ledger.specs.Listings.{offset_asked, IsListingIfAny}
+use Rattle.fa_ledger.specs.Operations.{operation_of}
 use Rattle.fa_ledger.specs.SoFar.{listing_so_far, listed_within, entries_answered, call_asked}
-use Rattle.fa_ledger.proofs.CallerLemmas.{element_at, call_at, call_with, answered_place, answers_at, message_of, request_event, notice_no_reply, calls_list_so_far}
+use Rattle.fa_ledger.proofs.CallerLemmas.{element_at, call_at, call_with, answered_place, answers_at, message_of, request_event, request_there, notice_no_reply, calls_list_so_far}
 use Rattle.fa_check.specs.Orders.{IsTreeRequestAt}
 use Rattle.fa_check.specs.Runs.{IsListedFrom, IsCallAt}
 use Rattle.fa_check.specs.Replays.{IsCallOf, IsAnswerAt}
@@ -54,14 +55,14 @@ answer_event c es are q p r answers =
 
 module _ (c : List Message) (calls : List PlainCall) (are : AreCalls c calls) where
   -- each call is one
-  call_there : (place : ℕ) (call : PlainCall) → slice_get calls place ≡ Some call → IsCall are.events call
+  pub call_there : (place : ℕ) (call : PlainCall) → slice_get calls place ≡ Some call → IsCall are.events call
   call_there place call there = call_at are.events calls are.exact.each place call there
 
   -- a call is a tree request
   pub call_is_tree : (place : ℕ) (call : PlainCall) → slice_get calls place ≡ Some call → IsTreeRequestAt c call.asked
   call_is_tree place call there =
       let is = call_there place call there in
-      (call.request, asked_message c are.events are.are call.asked call.asked call.request is.there, is.asked.tree)
+      (is.request, asked_message c are.events are.are call.asked call.asked is.request is.there, is.asked.tree)
 
   -- and a tree request is a call
   pub tree_is_call : (p : ℕ) → IsTreeRequestAt c p → (place : ℕ) × IsCallOf calls place p
@@ -71,27 +72,32 @@ module _ (c : List Message) (calls : List PlainCall) (are : AreCalls c calls) wh
       (found.0, (found.1, found.2, found.3))
 
   -- the request of a call
-  pub call_request : (place : ℕ) (call : PlainCall) (r : PlainRequest) → slice_get calls place ≡ Some call → IsRequestAt c call.asked r → r ≡ call.request
-  call_request place call r there asked =
+  call_request : (call : PlainCall) (is : IsCall are.events call) (r : PlainRequest) → IsRequestAt c call.asked r → r ≡ is.request
+  call_request call is r asked = sym (request_there are.events call.asked call r is refl (request_event c are.events are.are call.asked r asked))
+
+  -- the operation of a call without an answer
+  pub call_undone : (place : ℕ) (call : PlainCall) (r : PlainRequest) → slice_get calls place ≡ Some call → call.answer ≡ None → IsRequestAt c call.asked r → operation_of r.body None ≡ Some call.operation
+  call_undone place call r there none asked =
       let is = call_there place call there in
-      let events : Some (Asked call.asked r) ≡ Some (Asked call.asked call.request) = sym (request_event c are.events are.are call.asked r asked) ∙ is.there in
-      cc
+      let has : HasAnswer are.events is.request call None = subst (HasAnswer are.events is.request call) none is.answered in
+      ap (λ (x : PlainRequest). operation_of x.body None) (call_request call is r asked) ∙ has.does
 
   -- the answer of a call answers its request
   pub call_answered : (place : ℕ) (call : PlainCall) (answer : PlainAnswer) → slice_get calls place ≡ Some call → call.answer ≡ Some answer → IsAnsweredBy c call.asked answer.at
   call_answered place call answer there has =
-      let is : HasAnswer are.events call (Some answer) = subst (HasAnswer are.events call) has (call_there place call there).answered in
-      (call.request, answers_at c are.events are.are answer.at answer.at call.asked call.request answer.reply is.there)
+      let is = call_there place call there in
+      let of : HasAnswer are.events is.request call (Some answer) = subst (HasAnswer are.events is.request call) has is.answered in
+      (is.request, answers_at c are.events are.are answer.at answer.at call.asked is.request of.reply of.there)
 
   -- a call without an answer is not answered
   pub call_unanswered : (place : ℕ) (call : PlainCall) → slice_get calls place ≡ Some call → call.answer ≡ None → IsUnanswered c call.asked
   call_unanswered place call there none q answered =
       let is = call_there place call there in
-      let has : HasAnswer are.events call None = subst (HasAnswer are.events call) none is.answered in
+      let has : HasAnswer are.events is.request call None = subst (HasAnswer are.events is.request call) none is.answered in
       let event = answer_event c are.events are.are q call.asked answered.0 answered.1 in
-      let request : answered.0 ≡ call.request = call_request place call answered.0 there (answered_asked c q call.asked answered.0 answered.1) in
+      let request : answered.0 ≡ is.request = call_request call is answered.0 (answered_asked c q call.asked answered.0 answered.1) in
       let number : event.0 ≡ q = answered_place c are.events are.are q event.0 call.asked answered.0 event.1 event.2 in
-      has q event.1 (subst (λ n. slice_get are.events q ≡ Some (Answered n call.asked call.request event.1)) number
+      has.none q event.1 (subst (λ n. slice_get are.events q ≡ Some (Answered n call.asked is.request event.1)) number
       (subst (λ r. slice_get are.events q ≡ Some (Answered event.0 call.asked r event.1)) request event.2))
 
   -- who answers a call is its answer
@@ -165,32 +171,37 @@ module _ (c : List Message) (calls : List PlainCall) (are : AreCalls c calls) wh
   unlisted zero call there none = ap (λ found. option_map_or (λ x. listed_within zero calls x) found []) there
   unlisted (suc place) call there none =
       ap (λ found. option_map_or (λ x. listed_within (suc place) calls x) found []) there
-      ∙ ap (λ before. option_map_or (λ b. option_map_or (λ earlier. listed_within place calls earlier ++ take b.1 (entries_answered earlier)) (call_asked calls b.0) []) before [])
+      ∙ ap (λ before. option_map_or (λ b. option_map_or (λ earlier. listed_within place calls earlier ++ take b.1 (entries_answered earlier.operation)) (call_asked calls b.0) []) before [])
       (ap (λ listing. option_and_then (λ l. l.before) listing) none)
 
   -- for one that does, what its request lists from
-  call_lists : (place : ℕ) (call : PlainCall) → slice_get calls place ≡ Some call
-      → IsListedFrom (take call.asked are.events) call.request (offset_asked call.request.body) (listing_so_far calls place)
-  call_lists place call there = by call.listing refl
+  call_lists : (place : ℕ) (call : PlainCall) (is : IsCall are.events call) → slice_get calls place ≡ Some call
+      → IsListedFrom (take call.asked are.events) is.request (offset_asked is.request.body) (listing_so_far calls place)
+  call_lists place call is there = by call.listing refl
     where
       before : List PlainEvent
       before = take call.asked are.events
 
-      by : (listing : Option Listing) → call.listing ≡ listing → IsListedFrom before call.request (offset_asked call.request.body) (listing_so_far calls place)
-      by None is =
-          let none : offset_asked call.request.body ≡ None = subst (IsListingIfAny before call.request) is (call_there place call there).asked.listing in
-          subst (λ offset. IsListedFrom before call.request offset (listing_so_far calls place)) (sym none) (unlisted place call there is)
-      by (Some listing) is =
-          let lists : IsListingIfAny before call.request (Some listing) = subst (IsListingIfAny before call.request) is (call_there place call there).asked.listing in
-          subst (λ offset. IsListedFrom before call.request offset (listing_so_far calls place)) (sym lists.asks)
-          (lists.handle, lists.uses, (listing.adrift, calls_list_so_far c are.events calls are.are are.exact place call listing there is lists.handle lists.offset lists.uses lists.asks))
+      by : (listing : Option Listing) → call.listing ≡ listing → IsListedFrom before is.request (offset_asked is.request.body) (listing_so_far calls place)
+      by None has =
+          let none : offset_asked is.request.body ≡ None = subst (IsListingIfAny before is.request) has is.asked.listing in
+          subst (λ offset. IsListedFrom before is.request offset (listing_so_far calls place)) (sym none) (unlisted place call there has)
+      by (Some listing) has =
+          let lists : IsListingIfAny before is.request (Some listing) = subst (IsListingIfAny before is.request) has is.asked.listing in
+          subst (λ offset. IsListedFrom before is.request offset (listing_so_far calls place)) (sym lists.asks) (
+            lists.handle,
+            lists.uses,
+            (listing.adrift, calls_list_so_far c are.events calls are.are are.exact place call listing there has is.request is.there lists.handle lists.offset lists.uses lists.asks),
+          )
 
   -- the call at a place is that of its message
   pub call_of_message : (place p : ℕ) (call : PlainCall) → slice_get calls place ≡ Some call → call.asked ≡ p → IsCallAt c p call (listing_so_far calls place)
-  call_of_message place p call there number = record {
-    events = are.events;
-    are = are.are;
-    exact = call_there place call there;
-    number = number;
-    listed = subst (λ n. IsListedFrom (take n are.events) call.request (offset_asked call.request.body) (listing_so_far calls place)) number (call_lists place call there);
-  }
+  call_of_message place p call there number =
+      let is = call_there place call there in
+      record {
+        events = are.events;
+        are = are.are;
+        exact = is;
+        number = number;
+        listed = subst (λ n. IsListedFrom (take n are.events) is.request (offset_asked is.request.body) (listing_so_far calls place)) number (call_lists place call is there);
+      }

@@ -1,12 +1,14 @@
 -- Runs: the call of an entry is one, so is the tree that its step leaves, and so is the last tree of a run.
 use Rattle.std.proofs.Common.{◌≡◌, ℕ, List, [], ◌∷◌, ◌++◌, take, Option, Some, None, refl, sym, subst, ◌∙◌}
+use Rattle.std.specs.Prelude.{slice_get}
 use Rattle.fa_capture.specs.Message.{Message}
 use Rattle.fa_bodies.specs.Dirents.{PlainDirent}
 use Rattle.fa_bodies.specs.Requests.{PlainRequest}
 use Rattle.fa_session.specs.Events.{PlainEvent}
+use Rattle.fa_session.specs.Events.PlainEvent.{Asked}
 use Rattle.fa_ledger.specs.Listings.{offset_asked, IsListedSoFar}
 use Rattle.fa_ledger.specs.Calls.{PlainCall, IsCall}
-use Rattle.fa_ledger.proofs.CallerLemmas.{events_are_one, call_is_one, uses_is_one, listed_is_one}
+use Rattle.fa_ledger.proofs.CallerLemmas.{events_are_one, request_there, call_is_one, uses_is_one, listed_is_one}
 use Rattle.fa_tree.specs.State.{TreeState}
 use Rattle.fa_tree.specs.Steps.{Steps}
 use Rattle.fa_tree.proofs.CallerLemmas.{step_is_one}
@@ -30,10 +32,14 @@ call_one c p call other so_far listed is too =
     let events : is.events ≡ too.events = events_are_one c is.events too.events is.are too.are in
     let exact : IsCall too.events call = subst (λ es. IsCall es call) events is.exact in
     let same : call ≡ other = call_is_one c too.events too.are call other exact too.exact (is.number ∙ sym too.number) in
-    let moved : IsListedFrom (take p too.events) other.request (offset_asked other.request.body) so_far =
-    subst (λ (x : PlainCall). IsListedFrom (take p too.events) x.request (offset_asked x.request.body) so_far) same
-    (subst (λ es. IsListedFrom (take p es) call.request (offset_asked call.request.body) so_far) events is.listed) in
-    (same, listed_one (take p too.events) other.request (offset_asked other.request.body) so_far listed moved too.listed)
+    let r = too.exact.request in
+    let there : slice_get too.events call.asked ≡ Some (Asked call.asked is.exact.request) =
+    subst (λ es. slice_get es call.asked ≡ Some (Asked call.asked is.exact.request)) events is.exact.there in
+    let requests : r ≡ is.exact.request = request_there too.events call.asked other is.exact.request too.exact (too.number ∙ sym is.number) there in
+    let moved : IsListedFrom (take p too.events) r (offset_asked r.body) so_far =
+    subst (λ (x : PlainRequest). IsListedFrom (take p too.events) x (offset_asked x.body) so_far) (sym requests)
+    (subst (λ es. IsListedFrom (take p es) is.exact.request (offset_asked is.exact.request.body) so_far) events is.listed) in
+    (same, listed_one (take p too.events) r (offset_asked r.body) so_far listed moved too.listed)
 
 -- ---- steps
 

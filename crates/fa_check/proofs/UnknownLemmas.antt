@@ -8,7 +8,7 @@ use Rattle.std.specs.declared.alloc.AllocError.{AllocError}
 use Rattle.fa_capture.specs.declared.codes.TheConstants.{UNKNOWN_HERE}
 use Rattle.fa_capture.specs.Message.{Message}
 use Rattle.fa_capture.proofs.CallerLemmas.{contains_cases, not_told}
-use Rattle.fa_bodies.specs.Requests.{PlainBody}
+use Rattle.fa_bodies.specs.Requests.{PlainRequest, PlainBody}
 use Rattle.fa_bodies.specs.Requests.PlainBody.{Opendir}
 use Rattle.fa_bodies.specs.Replies.{PlainReply}
 use Rattle.fa_bodies.specs.declared.handles.OpenOut.{OpenOut}
@@ -22,12 +22,12 @@ use Rattle.fa_ledger.specs.Events.{AreEvents}
 use Rattle.fa_ledger.specs.Counts.{nodes_given}
 use Rattle.fa_ledger.specs.Names.{name_at, nodes_named}
 use Rattle.fa_ledger.specs.Listings.{IsListingIfAny}
-use Rattle.fa_ledger.specs.Calls.{PlainAnswer, PlainCall, operation, IsHandleUsed, IsAskedCall, OpensAnew, IsCall}
+use Rattle.fa_ledger.specs.Calls.{PlainAnswer, PlainCall, IsHandleUsed, IsAskedCall, OpensAnew, IsCall}
 use Rattle.fa_ledger.specs.declared.operation.Outcome.TheVariants.{Fails, Succeeds}
-use Rattle.fa_ledger.specs.Operations.{operation_of, ended, gives}
+use Rattle.fa_ledger.specs.Operations.{operation_of, ended}
 use Rattle.fa_ledger.specs.Operations.PlainAction.{Opendir as OpendirAction}
 use Rattle.fa_ledger.specs.Operations.PlainOperation.{Acts}
-use Rattle.fa_ledger.proofs.CallerLemmas.{answered_operation, calls_have_operations, events_are_one, IsTreeAnswer, IsNamedSince, IsOpenedBefore, HasReply, name_given, lists_directory, handle_opened, call_replied}
+use Rattle.fa_ledger.proofs.CallerLemmas.{gives, answer_comes, events_are_one, IsTreeAnswer, IsNamedSince, IsOpenedBefore, HasReply, name_given, lists_directory, handle_opened, call_replied}
 use Rattle.fa_tree.specs.State.{TreeState, root}
 use Rattle.fa_tree.specs.Steps.{names_given, opens_anew}
 use Rattle.fa_tree.proofs.CallerLemmas.{IsKnownIn, IsOpenedIn, UsesOpened, step_keeps_node, step_keeps_open, step_gives, step_opens, all_known, told_unknown}
@@ -71,14 +71,13 @@ module _ (c : List Message) (es : List PlainEvent) (are : AreEvents c es) (old n
   entry_gives p id g named at =
       let call = step.call in
       let number : call.asked ≡ named.asked = step.of_request.number ∙ at in
-      let replied : HasReply es call g named.request named.reply =
+      let replied : HasReply es call exact g named.request named.reply =
       call_replied c es are call exact p g named.request named.reply (subst (λ n. IsTreeAnswer c es p g n named.request named.reply) (sym number) named.answer) in
       let answer = replied.answer in
-      let one = answered_operation c es are call exact answer replied.has in
-      let asks : one.0 ≡ step.steps.asks = same_Some one.0 step.steps.asks (sym one.1 ∙ step.steps.is) in
-      let gives_these : nodes_given call.request.body answer.reply ≡ gives step.steps.asks = one.2.given ∙ ap gives asks in
-      let there : Contains (nodes_given call.request.body answer.reply) id =
-      subst (λ r. Contains (nodes_given r.body answer.reply) id) (sym replied.same) (subst (λ reply. Contains (nodes_given named.request.body reply) id) (sym replied.says) named.gives) in
+      let said = replied.of_call.reply in
+      let gives_these : nodes_given exact.request.body said ≡ gives call.operation = (answer_comes c es are call exact answer replied.of_call).given in
+      let there : Contains (nodes_given exact.request.body said) id =
+      subst (λ r. Contains (nodes_given r.body said) id) (sym replied.same) (subst (λ reply. Contains (nodes_given named.request.body reply) id) (sym replied.says) named.gives) in
       let behind : suc g ≡ answer.at + 1 = (let place = replied.place in omega (arith, place)) in
       let name_of : ℕ → Option NodeName = λ node. name_at (take (answer.at + 1) es) node in
       let names : answer.given ≡ names_given call = ap (λ (found : Option PlainAnswer). option_map_or (λ (a : PlainAnswer). a.given) found []) (sym replied.has) in
@@ -92,19 +91,18 @@ module _ (c : List Message) (es : List PlainEvent) (are : AreEvents c es) (old n
   entry_opens p handle opened at =
       let call = step.call in
       let number : call.asked ≡ handle = step.of_request.number ∙ at in
-      let replied : HasReply es call opened.by opened.request opened.reply =
+      let replied : HasReply es call exact opened.by opened.request opened.reply =
       call_replied c es are call exact p opened.by opened.request opened.reply (subst (λ n. IsTreeAnswer c es p opened.by n opened.request opened.reply) (sym number) opened.answer) in
       let answer = replied.answer in
       let out : OpenOut = opened.says.0 in
-      let body : call.request.body ≡ Opendir opened.asks.0 = ap (λ r. r.body) replied.same ∙ opened.asks.1 in
-      let operation_is : operation call ≡ Some (Acts (OpendirAction (Succeeds out))) =
-      ap (λ (found : Option PlainAnswer). operation_of call.request.body (option_map (λ (a : PlainAnswer). a.reply) found)) replied.has
-      ∙ ap (λ (b : PlainBody). operation_of b (Some answer.reply)) body
+      let body : exact.request.body ≡ Opendir opened.asks.0 = ap (λ r. r.body) replied.same ∙ opened.asks.1 in
+      let made : operation_of exact.request.body (Some replied.of_call.reply) ≡ Some (Acts (OpendirAction (Succeeds out))) =
+      ap (λ (b : PlainBody). operation_of b (Some replied.of_call.reply)) body
       ∙ ap (λ (reply : PlainReply). operation_of (Opendir opened.asks.0) (Some reply)) (replied.says ∙ opened.says.1) in
-      let asks : step.steps.asks ≡ Acts (OpendirAction (Succeeds out)) = same_Some step.steps.asks (Acts (OpendirAction (Succeeds out))) (sym step.steps.is ∙ operation_is) in
+      let asks : call.operation ≡ Acts (OpendirAction (Succeeds out)) = same_Some call.operation (Acts (OpendirAction (Succeeds out))) (sym replied.of_call.does ∙ made) in
       let anew : OpensAnew es answer.at = subst (OpensAnew es) (sym replied.place) opened.anew in
       let opens : opens_anew call ≡ true = ap (λ (found : Option PlainAnswer). option_map_or (λ (a : PlainAnswer). a.opens) found false) replied.has ∙ replied.of_call.opens.1 anew in
-      let no_error : (error : ℤ) → ended step.steps.asks ≡ Fails error → ⊥ = λ error fails. (let clash = sym (ap ended asks) ∙ fails in absurd cc) in
+      let no_error : (error : ℤ) → ended call.operation ≡ Fails error → ⊥ = λ error fails. (let clash = sym (ap ended asks) ∙ fails in absurd cc) in
       subst (λ n. IsOpenedIn n new) number (step_opens old new call e.wrote step.so_far (Succeeds out) step.steps asks no_error opens)
 
 -- ---- behind a run
@@ -144,8 +142,7 @@ second_named name_of (Some node) other name is some = (node, same_Some (name_of 
 pub step_known : (c : List Message) (first tree : TreeState) (earlier : List Entry) (e : Entry) → Runs first tree c earlier
     → ((asked q : ℕ) → IsTreeRequestAt c asked → IsAnsweredBy c asked q → q < e.at → Contains (numbers earlier) asked) → StepFails tree c e UNKNOWN_HERE → ⊥
 step_known c first tree earlier e run placed fails =
-    let has = calls_have_operations c es call are fails.of_request.exact in
-    all_known tree call (named call.request.node call.node asked.node) others handles (told_unknown tree call e.wrote fails.so_far has.0 has.1 fails.fails)
+    all_known tree call (named r.node call.node asked.node) others handles (told_unknown tree call e.wrote fails.so_far fails.fails)
   where
     call : PlainCall
     call = fails.call
@@ -156,7 +153,10 @@ step_known c first tree earlier e run placed fails =
     are : AreEvents c es
     are = fails.of_request.are
 
-    asked : IsAskedCall (take call.asked es) call
+    r : PlainRequest
+    r = fails.of_request.exact.request
+
+    asked : IsAskedCall (take call.asked es) r call
     asked = fails.of_request.exact.asked
 
     before : (p q : ℕ) → IsTreeRequestAt c p → IsAnsweredBy c p q → q < call.asked → Contains (numbers earlier) p
@@ -167,15 +167,15 @@ step_known c first tree earlier e run placed fails =
 
     others : (name : NodeName) → call.other ≡ Some name → IsKnownIn name tree
     others name is =
-        let second = second_named (λ node. name_at (take call.asked es) node) (slice_get (nodes_named call.request) 1) call.other name asked.other is in
+        let second = second_named (λ node. name_at (take call.asked es) node) (slice_get (nodes_named r) 1) call.other name asked.other is in
         named second.0 name second.1
 
     handles : (l : Listing) → call.listing ≡ Some l → UsesOpened tree call.handle
     handles l is =
-        let listing : IsListingIfAny (take call.asked es) call.request (Some l) = subst (IsListingIfAny (take call.asked es) call.request) is asked.listing in
+        let listing : IsListingIfAny (take call.asked es) r (Some l) = subst (IsListingIfAny (take call.asked es) r) is asked.listing in
         let uses = listing.uses in
         let used : IsHandleUsed (take call.asked es) (Some uses.key) call.handle = subst (λ k. IsHandleUsed (take call.asked es) k call.handle) uses.used asked.handle in
-        let opened = handle_opened c es are call.asked uses.key used.0 (lists_directory (take call.asked es) call.request listing.offset uses.key listing.asks uses.used) used.2 in
+        let opened = handle_opened c es are call.asked uses.key used.0 (lists_directory (take call.asked es) r listing.offset uses.key listing.asks uses.used) used.2 in
         (used.0, used.1, handle_known c es are first tree earlier run call.asked before used.0 opened)
 
 -- ---- orders

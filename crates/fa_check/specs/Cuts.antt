@@ -1,12 +1,14 @@
 -- An order cut at a message: what is left of it for the messages before that one.
 use Rattle.std.specs.Prelude.{◌≡◌, ◌⊎◌, ℕ, ◌<◌, ◌≤◌, List, [], ◌∷◌, ◌++◌, All, Contains, Option, Some}
 use Rattle.fa_capture.specs.Message.{Message}
-use Rattle.fa_bodies.specs.Requests.{PlainRequest, PlainBody}
-use Rattle.fa_bodies.specs.Requests.PlainBody.{Lookup, Forget, Getattr, Setattr, Readlink, Symlink, Mknod, Mkdir, Unlink, Rmdir, Rename, Link, Open, Read, Write, Release, Flush, Init, Opendir, Readdir, Releasedir, Create, BatchForget, Readdirplus, Passed}
+use Rattle.fa_bodies.specs.Requests.{PlainRequest}
 use Rattle.fa_bodies.specs.Replies.{PlainReply}
-use Rattle.fa_bodies.specs.Replies.PlainReply.{Written}
 use Rattle.fa_session.specs.Answers.{IsAnsweredBy, IsRepliedAt}
+use Rattle.fa_ledger.specs.declared.operation.Outcome.TheVariants.{Succeeds}
 use Rattle.fa_ledger.specs.Kinds.{KeepsTree}
+use Rattle.fa_ledger.specs.Operations.{PlainOperation, operation_of}
+use Rattle.fa_ledger.specs.Operations.PlainAction.{Write}
+use Rattle.fa_ledger.specs.Operations.PlainOperation.{Acts}
 use Rattle.fa_tree.specs.State.{TreeState}
 use Rattle.fa_order.specs.declared.entry.Entry.{Entry}
 use Rattle.fa_check.specs.Orders.{IsTreeRequestAt, numbers}
@@ -17,47 +19,21 @@ use Rattle.fa_check.specs.Faults.{EachPlaced}
 abbrev pub IsAnsweredBefore : List Message → (m p : ℕ) → Type 0
 IsAnsweredBefore c m p = (q : ℕ) × IsAnsweredBy c p q × (q < m)
 
--- the request at p was answered late, at message m or behind it; this is the request, and its reply says this
-abbrev pub IsRepliedLate : List Message → (m p : ℕ) → PlainRequest → PlainReply → Type 0
-IsRepliedLate c m p r reply = (q : ℕ) × IsRepliedAt c q p r reply × (m ≤ q)
+-- the tree request at p was answered late, at message m or behind it, and this is its operation, with what came of it
+abbrev pub IsAnsweredLate : List Message → (m p : ℕ) → PlainOperation → Type 0
+IsAnsweredLate c m p o =
+    (q : ℕ) × (r : PlainRequest) × (reply : PlainReply) × IsRepliedAt c q p r reply × (m ≤ q) × (operation_of r.body (Some reply) ≡ Some o)
 
--- how many bytes a WRITE wrote, as its reply says
-abbrev pub count_by_reply : PlainReply → ℕ
-count_by_reply (Written size) = size
-count_by_reply other = 0
-
--- what the entry of a request carries without its reply: a WRITE the count that the reply tells
-abbrev pub wrote_without : PlainBody → PlainReply → Option ℕ → Option ℕ
-wrote_without (Lookup name) reply wrote = wrote
-wrote_without (Forget nlookup) reply wrote = wrote
-wrote_without (Getattr g) reply wrote = wrote
-wrote_without (Setattr a) reply wrote = wrote
-wrote_without Readlink reply wrote = wrote
-wrote_without (Symlink name target) reply wrote = wrote
-wrote_without (Mknod mode rdev umask name) reply wrote = wrote
-wrote_without (Mkdir mode umask name) reply wrote = wrote
-wrote_without (Unlink name) reply wrote = wrote
-wrote_without (Rmdir name) reply wrote = wrote
-wrote_without (Rename newdir old_name new_name) reply wrote = wrote
-wrote_without (Link oldnodeid new_name) reply wrote = wrote
-wrote_without (Open o) reply wrote = wrote
-wrote_without (Read r) reply wrote = wrote
-wrote_without (Write fh offset size write_flags lock_owner flags payload) reply wrote = Some (count_by_reply reply)
-wrote_without (Release r) reply wrote = wrote
-wrote_without (Flush f) reply wrote = wrote
-wrote_without (Init i) reply wrote = wrote
-wrote_without (Opendir o) reply wrote = wrote
-wrote_without (Readdir r) reply wrote = wrote
-wrote_without (Releasedir r) reply wrote = wrote
-wrote_without (Create flags mode umask name) reply wrote = wrote
-wrote_without (BatchForget count items) reply wrote = wrote
-wrote_without (Readdirplus r) reply wrote = wrote
-wrote_without Passed reply wrote = wrote
+-- what an entry carries when its request's answer is taken away: of a WRITE that succeeded the count of its answer, of any other what it
+-- carried
+abbrev pub wrote_without : PlainOperation → Option ℕ → Option ℕ
+wrote_without (Acts (Write offset size payload (Succeeds count))) wrote = Some count
+wrote_without other wrote = wrote
 
 -- The entry goes: it names no tree request, or one that was answered late and leaves the tree as it is.
 abbrev pub Goes : List Message → (m : ℕ) → Entry → Type 0
 Goes c m e =
-    (IsTreeRequestAt c e.at → ⊥) ⊎ ((r : PlainRequest) × (reply : PlainReply) × IsRepliedLate c m e.at r reply × KeepsTree r reply)
+    (IsTreeRequestAt c e.at → ⊥) ⊎ ((o : PlainOperation) × IsAnsweredLate c m e.at o × KeepsTree o)
 
 -- The entry stays as it is: its request was not answered late, but before, or never.
 abbrev pub StaysSame : List Message → (m : ℕ) → (e left : Entry) → Type 0
@@ -66,8 +42,7 @@ StaysSame c m e left = ((q : ℕ) → IsAnsweredBy c e.at q → q < m) × (left 
 -- The entry stays without its request's answer, which is late: with that the request may have changed the tree.
 abbrev pub StaysUnanswered : List Message → (m : ℕ) → (e left : Entry) → Type 0
 StaysUnanswered c m e left =
-    (r : PlainRequest) × (reply : PlainReply) × IsRepliedLate c m e.at r reply × (KeepsTree r reply → ⊥)
-    × (left ≡ record { at = e.at; wrote = wrote_without r.body reply e.wrote })
+    (o : PlainOperation) × IsAnsweredLate c m e.at o × (KeepsTree o → ⊥) × (left ≡ record { at = e.at; wrote = wrote_without o e.wrote })
 
 -- the entry stays, and this is what is left of it
 abbrev pub Stays : List Message → (m : ℕ) → (e left : Entry) → Type 0

@@ -1,11 +1,12 @@
 -- Which orders are valid. An order is a list of entries; each names a tree request by the number of its message, and says of
 -- an unanswered WRITE how many bytes it wrote.
-use Rattle.std.specs.Prelude.{◌≡◌, ◌≢◌, ℕ, ◌≤◌, List, map, All, AllPairs, Contains, None}
+use Rattle.std.specs.Prelude.{◌≡◌, ◌≢◌, ℕ, ◌≤◌, List, map, All, AllPairs, Contains, Some, None}
 use Rattle.fa_capture.specs.Message.{Message}
 use Rattle.fa_bodies.specs.Requests.{PlainRequest}
 use Rattle.fa_session.specs.Answers.{IsRequestAt, IsAnsweredBy, IsUnanswered}
 use Rattle.fa_ledger.specs.Kinds.{IsTreeRequest}
 use Rattle.fa_ledger.specs.Choices.{MayBePlaced}
+use Rattle.fa_ledger.specs.Operations.{PlainOperation, operation_of}
 use Rattle.fa_order.specs.declared.entry.Entry.{Entry}
 
 -- message p is a tree request
@@ -16,11 +17,15 @@ IsTreeRequestAt c p = (r : PlainRequest) × IsRequestAt c p r × IsTreeRequest r
 abbrev pub numbers : List Entry → List ℕ
 numbers es = map (λ e. e.at) es
 
--- The entry's choice is allowed: it carries no count where its request was answered; where it was not, the request may be
--- taken as done so. A request that only reads, and was not answered, may not be placed.
+-- the tree request at p is not answered, and this is its operation
+abbrev pub IsUnansweredAs : List Message → (p : ℕ) → PlainOperation → Type 0
+IsUnansweredAs c p o = IsUnanswered c p × ((r : PlainRequest) × IsRequestAt c p r × (operation_of r.body None ≡ Some o))
+
+-- The choice of an entry that names a tree request is allowed: it carries no count where its request was answered; where it was not, the
+-- request may be taken as done so. A request that only reads, and was not answered, may not be placed.
 pub record IsChoice (c : List Message) (e : Entry) : Type 0 where
   pub answered : (q : ℕ) → IsAnsweredBy c e.at q → e.wrote ≡ None
-  pub unanswered : IsUnanswered c e.at → (r : PlainRequest) → IsRequestAt c e.at r → MayBePlaced r.body e.wrote
+  pub unanswered : (o : PlainOperation) → IsUnansweredAs c e.at o → MayBePlaced o e.wrote
 
 -- The order is valid: it holds tree requests, each at most once, and all those that were answered; of two entries
 -- the later one was not answered before the earlier one was sent; and each choice is allowed.

@@ -27,7 +27,7 @@ pub record IsCallAt (c : List Message) (p : ℕ) (call : PlainCall) (so_far : Li
   pub are : AreEvents c events
   pub exact : IsCall events call
   pub number : call.asked ≡ p
-  pub listed : IsListedFrom (take p events) call.request (offset_asked call.request.body) so_far
+  pub listed : IsListedFrom (take p events) exact.request (offset_asked exact.request.body) so_far
 
 -- An entry leads from one tree to another: by the step of the call of its request, with the count that it carries.
 pub record EntrySteps (old new : TreeState) (c : List Message) (e : Entry) : Type 0 where

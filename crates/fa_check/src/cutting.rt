@@ -2,14 +2,12 @@
 
 ghost use Rattle.std.specs.Prelude.{◌≡◌, ◌≤◌, ◌↔◌, List, length, IsTrue, IfOk, IfSome, IfNone};
 ghost use Rattle.fa_capture.specs.Message.{Message};
-ghost use Rattle.fa_bodies.specs.Requests.{body_shown};
-ghost use Rattle.fa_bodies.specs.Replies.{reply_shown};
+ghost use Rattle.fa_ledger.specs.Operations.{operation_shown};
 ghost use Rattle.fa_check.specs.Verdicts.{AreMessagesOf};
-ghost use Rattle.fa_check.specs.Cuts.{count_by_reply, wrote_without, Goes, Stays, IsAnsweredEntry, IsCut};
+ghost use Rattle.fa_check.specs.Cuts.{wrote_without, Goes, Stays, IsAnsweredEntry, IsCut};
 ghost use Rattle.fa_check.specs.parts.Cutting.{IsEndOfFront};
 
-use fa_bodies::{Reply, RequestBody};
-use fa_ledger::{Calls, keeps_tree};
+use fa_ledger::{Action, Calls, Operation, Outcome};
 use fa_order::Entry;
 use std::alloc::{AllocError, Global};
 
@@ -90,63 +88,27 @@ fn left_of(calls: &Calls<'_>, entry: Entry, messages: u32) -> Option<Entry>
     if answer.at < messages {
         return Some(entry);
     }
-    if keeps_tree(&call.request, &answer.reply) {
+    if call.operation.keeps_tree() {
         return None;
     }
     Some(Entry {
         at: entry.at,
-        wrote: wrote_without(&call.request.body, &answer.reply, entry.wrote),
+        wrote: wrote_without(&call.operation, entry.wrote),
     })
 }
 
-/// What the entry of a request carries without this reply.
-fn wrote_without(body: &RequestBody<'_>, reply: &Reply<'_>, wrote: Option<u32>) -> Option<u32>
-    ensures { result ≡ wrote_without (body_shown body.now) (reply_shown reply.now) wrote }
+/// What an entry carries when its request's answer is taken away: of a WRITE that succeeded the count of its answer, of any
+/// other what it carried.
+fn wrote_without(operation: &Operation<'_>, wrote: Option<u32>) -> Option<u32>
+    ensures { result ≡ wrote_without (operation_shown operation.now) wrote }
 {
-    match body {
-        RequestBody::Write { .. } => Some(count_of(reply)),
-        RequestBody::Lookup { .. }
-        | RequestBody::Forget { .. }
-        | RequestBody::Getattr(_)
-        | RequestBody::Setattr(_)
-        | RequestBody::Readlink
-        | RequestBody::Symlink { .. }
-        | RequestBody::Mknod { .. }
-        | RequestBody::Mkdir { .. }
-        | RequestBody::Unlink { .. }
-        | RequestBody::Rmdir { .. }
-        | RequestBody::Rename { .. }
-        | RequestBody::Link { .. }
-        | RequestBody::Open(_)
-        | RequestBody::Read(_)
-        | RequestBody::Release(_)
-        | RequestBody::Flush(_)
-        | RequestBody::Init(_)
-        | RequestBody::Opendir(_)
-        | RequestBody::Readdir(_)
-        | RequestBody::Releasedir(_)
-        | RequestBody::Create { .. }
-        | RequestBody::BatchForget { .. }
-        | RequestBody::Readdirplus(_)
-        | RequestBody::Passed => wrote,
-    }
-}
-
-/// How many bytes a reply says were written.
-fn count_of(reply: &Reply<'_>) -> u32
-    ensures { result ≡ count_by_reply (reply_shown reply.now) }
-{
-    match reply {
-        Reply::Written(size) => *size,
-        Reply::Refused(_)
-        | Reply::Empty
-        | Reply::Entry(_)
-        | Reply::Created { .. }
-        | Reply::Attributes(_)
-        | Reply::Opened(_)
-        | Reply::Bytes(_)
-        | Reply::Listed(_)
-        | Reply::Negotiated(_)
-        | Reply::Skipped => 0,
+    match operation {
+        Operation::Act(
+            Action::Write {
+                outcome: Outcome::Succeeds(count),
+                ..
+            },
+        ) => Some(*count),
+        _ => wrote,
     }
 }

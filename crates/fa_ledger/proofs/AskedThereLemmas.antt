@@ -18,7 +18,8 @@ use Rattle.fa_ledger.specs.declared.name.NodeName.TheVariants.{Root, Given}
 use Rattle.fa_ledger.specs.Events.{AreEvents}
 use Rattle.fa_ledger.specs.Counts.{IsKnown}
 use Rattle.fa_ledger.specs.Kinds.{IsTreeRequest}
-use Rattle.fa_ledger.specs.Names.{name_at, named_nodes, nodes_named}
+use Rattle.fa_ledger.specs.Mentions.{mentions}
+use Rattle.fa_ledger.specs.Names.{name_at, nodes_named}
 use Rattle.fa_ledger.specs.Keys.{handle_used, key_used}
 use Rattle.fa_ledger.specs.Handles.{opening, IsOpen, IsHandle, IsShared, IsDirect}
 use Rattle.fa_ledger.specs.Listings.{UsesHandle, GoesOnFrom, IsListingIfAny, offset_asked}
@@ -29,6 +30,8 @@ use Rattle.fa_ledger.proofs.GrowthLemmas.{counted_named}
 use Rattle.fa_ledger.proofs.GoodLemmas.{KeepsRules, used_open, open_since}
 use Rattle.fa_ledger.proofs.CallStepLemmas.{answered_place}
 use Rattle.fa_ledger.proofs.ListedThereLemmas.{last_there, listed_is_there}
+use Rattle.fa_ledger.specs.Operations.{operation_of}
+use Rattle.fa_ledger.proofs.OperationLemmas.{unanswered_there}
 use Rattle.fa_ledger.proofs.BalanceLemmas.{all_there}
 
 -- ---- marks
@@ -57,7 +60,7 @@ known_name es node known =
     ]
 
 -- a tree request names the node of its header first
-names_first : (node : ℕ) (b : PlainBody) → IsTreeRequest b → slice_get (named_nodes node b) 0 ≡ Some node
+names_first : (node : ℕ) (b : PlainBody) → IsTreeRequest b → slice_get ((mentions b).names node) 0 ≡ Some node
 names_first node (Forget nlookup) tree = absurd tree
 names_first node (Release r) tree = absurd tree
 names_first node (Flush f) tree = absurd tree
@@ -148,13 +151,14 @@ module _ (c : List Message) (es : List PlainEvent) (are : AreEvents c es) (good 
 
   -- there is what a call says of a tree request
   pub asked_there : (r : PlainRequest) → KeepsRules es r → IsTreeRequest r.body
-      → ((call : PlainCall) → call.asked ≡ length es → call.request ≡ r → call.answer ≡ None → IsAskedCall es call → ⊥) → ⊥
+      → ((call : PlainCall) → call.asked ≡ length es → operation_of r.body None ≡ Some call.operation → call.answer ≡ None → IsAskedCall es r call → ⊥) → ⊥
   asked_there r rules tree none =
       let node = known_name es r.node (all_there (IsKnown es) (nodes_named r) 0 r.node rules.known (names_first r.node r.body tree)) in
       let other = second_name es r rules.known (slice_get (nodes_named r) 1) refl in
+      let asks = unanswered_there r.body tree in
       let handle = used_there r rules.uses (key_used es r) refl in
       mark_used (IsDirect es) (key_used es r) (λ direct directs.
       mark_there (Truncates es r.body) (λ truncates empties.
       listing_there r node.0 node.1 rules.uses (offset_asked r.body) refl (λ listing lists.
-      none (record { asked = length es; request = r; node = node.0; other = other.0; handle = handle.0; direct = direct; truncates = truncates; listing = listing; answer = None })
-      refl refl refl (record { tree = tree; node = node.1; other = other.1; handle = handle.1; direct = directs; truncates = empties; listing = lists }))))
+      none (record { asked = length es; operation = asks.0; node = node.0; other = other.0; handle = handle.0; direct = direct; truncates = truncates; listing = listing; answer = None })
+      refl asks.1 refl (record { tree = tree; node = node.1; other = other.1; handle = handle.1; direct = directs; truncates = empties; listing = lists }))))

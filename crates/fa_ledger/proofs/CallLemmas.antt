@@ -19,6 +19,7 @@ use Rattle.fa_ledger.specs.Keys.{key_used}
 use Rattle.fa_ledger.specs.Handles.{IsDirect}
 use Rattle.fa_ledger.specs.Listings.{IsListingIfAny}
 use Rattle.fa_ledger.specs.Calls.{PlainAnswer, PlainCall, IsHandleUsed, IsMark, IsAskedCall, IsAnswerOf, HasAnswer, IsCall, AreCallsOf, Truncates, OpensAnew}
+use Rattle.fa_ledger.specs.Operations.{PlainOperation}
 use Rattle.fa_ledger.specs.Laws.{CallsAreOne}
 use Rattle.fa_ledger.proofs.EventLemmas.{element_at, same_places, events_are_one}
 use Rattle.fa_ledger.proofs.HandleLemmas.{handle_is_one, same_mark}
@@ -61,63 +62,73 @@ answers_at c es are q at p r reply there =
     let event = are.each q message.0 (Answered at p r reply) message.1 there in
     (message.0, message.1, event.1)
 
-same_answer : (a b : PlainAnswer) → a.at ≡ b.at → a.reply ≡ b.reply → a.given ≡ b.given → a.opens ≡ b.opens → a ≡ b
-same_answer a b ats replies givens opens =
-    let made : ℕ → PlainReply → List NodeName → Bool → PlainAnswer = λ n r g o. record { at = n; reply = r; given = g; opens = o } in
-    let whole : made a.at a.reply a.given a.opens ≡ made b.at b.reply b.given b.opens = rw (ats, replies, givens, opens) refl in
+same_answer : (a b : PlainAnswer) → a.at ≡ b.at → a.given ≡ b.given → a.opens ≡ b.opens → a ≡ b
+same_answer a b ats givens opens =
+    let made : ℕ → List NodeName → Bool → PlainAnswer = λ n g o. record { at = n; given = g; opens = o } in
+    let whole : made a.at a.given a.opens ≡ made b.at b.given b.opens = rw (ats, givens, opens) refl in
     whole
 
-answer_is_one : (c : List Message) (es : List PlainEvent) → AreEvents c es → (a b : PlainCall) → a.asked ≡ b.asked → a.request ≡ b.request
-    → (x y : PlainAnswer) → IsAnswerOf es a x → IsAnswerOf es b y → x ≡ y
-answer_is_one c es are a b asked requests x y is too =
-    let first = answers_at c es are x.at x.at a.asked a.request x.reply is.there in
-    let second = answers_at c es are y.at y.at b.asked b.request y.reply too.there in
-    let moved : AnswersAt c y.at a.asked b.request = subst (λ p. AnswersAt c y.at p b.request) (sym asked) second in
-    let ats : x.at ≡ y.at = answered_once c x.at y.at a.asked a.request b.request first moved in
-    let here : slice_get es y.at ≡ Some (Answered x.at a.asked a.request x.reply) = subst (λ k. slice_get es k ≡ Some (Answered x.at a.asked a.request x.reply)) ats is.there in
-    let events : Some (Answered x.at a.asked a.request x.reply) ≡ Some (Answered y.at b.asked b.request y.reply) = sym here ∙ too.there in
-    let replies : x.reply ≡ y.reply = cc in
+answer_is_one : (c : List Message) (es : List PlainEvent) → AreEvents c es → (a b : PlainCall) → a.asked ≡ b.asked → (r s : PlainRequest) → r ≡ s
+    → (x y : PlainAnswer) → IsAnswerOf es r a x → IsAnswerOf es s b y → (a.operation ≡ b.operation) × (x ≡ y)
+answer_is_one c es are a b asked r s requests x y is too =
+    let first = answers_at c es are x.at x.at a.asked r is.reply is.there in
+    let second = answers_at c es are y.at y.at b.asked s too.reply too.there in
+    let moved : AnswersAt c y.at a.asked s = subst (λ p. AnswersAt c y.at p s) (sym asked) second in
+    let ats : x.at ≡ y.at = answered_once c x.at y.at a.asked r s first moved in
+    let here : slice_get es y.at ≡ Some (Answered x.at a.asked r is.reply) = subst (λ k. slice_get es k ≡ Some (Answered x.at a.asked r is.reply)) ats is.there in
+    let events : Some (Answered x.at a.asked r is.reply) ≡ Some (Answered y.at b.asked s too.reply) = sym here ∙ too.there in
+    let replies : is.reply ≡ too.reply = cc in
+    let done : a.operation ≡ b.operation = same_Some a.operation b.operation (sym is.does ∙ (rw (requests, replies) refl) ∙ too.does) in
     let one : map (λ n. Some n) x.given ≡ map (λ n. Some n) y.given = sym is.given ∙ (rw (ats, requests, replies) refl) ∙ too.given in
-    same_answer x y ats replies (same_somes x.given y.given one) (same_mark x.opens y.opens (OpensAnew es y.at) (subst (λ k. IsTrue x.opens ↔ OpensAnew es k) ats is.opens) too.opens)
+    (done, same_answer x y ats (same_somes x.given y.given one) (same_mark x.opens y.opens (OpensAnew es y.at) (subst (λ k. IsTrue x.opens ↔ OpensAnew es k) ats is.opens) too.opens))
 
-answers_are_one : (c : List Message) (es : List PlainEvent) → AreEvents c es → (a b : PlainCall) → a.asked ≡ b.asked → a.request ≡ b.request
-    → (x y : Option PlainAnswer) → HasAnswer es a x → HasAnswer es b y → x ≡ y
-answers_are_one c es are a b asked requests None None is too = refl
-answers_are_one c es are a b asked requests None (Some y) is too =
-    let there : slice_get es y.at ≡ Some (Answered y.at a.asked a.request y.reply) = rw (asked, requests) too.there in
-    absurd (is y.at y.reply there)
-answers_are_one c es are a b asked requests (Some x) None is too =
-    let there : slice_get es x.at ≡ Some (Answered x.at b.asked b.request x.reply) = rw (← asked, ← requests) is.there in
-    absurd (too x.at x.reply there)
-answers_are_one c es are a b asked requests (Some x) (Some y) is too =
-    ap (λ answer. Some answer) (answer_is_one c es are a b asked requests x y is too)
+answers_are_one : (c : List Message) (es : List PlainEvent) → AreEvents c es → (a b : PlainCall) → a.asked ≡ b.asked → (r s : PlainRequest) → r ≡ s
+    → (x y : Option PlainAnswer) → HasAnswer es r a x → HasAnswer es s b y → (a.operation ≡ b.operation) × (x ≡ y)
+answers_are_one c es are a b asked r s requests None None is too =
+    (same_Some a.operation b.operation (sym is.does ∙ (rw requests refl) ∙ too.does), refl)
+answers_are_one c es are a b asked r s requests None (Some y) is too =
+    let there : slice_get es y.at ≡ Some (Answered y.at a.asked r too.reply) = rw (asked, requests) too.there in
+    absurd (is.none y.at too.reply there)
+answers_are_one c es are a b asked r s requests (Some x) None is too =
+    let there : slice_get es x.at ≡ Some (Answered x.at b.asked s is.reply) = rw (← asked, ← requests) is.there in
+    absurd (too.none x.at is.reply there)
+answers_are_one c es are a b asked r s requests (Some x) (Some y) is too =
+    let one = answer_is_one c es are a b asked r s requests x y is too in
+    (one.0, ap (λ answer. Some answer) one.1)
 
 -- ---- calls
 
-same_fields : (a b : PlainCall) → a.asked ≡ b.asked → a.request ≡ b.request → a.node ≡ b.node → a.other ≡ b.other → a.handle ≡ b.handle → a.direct ≡ b.direct → a.truncates ≡ b.truncates → a.listing ≡ b.listing → a.answer ≡ b.answer → a ≡ b
-same_fields a b asked request node other handle direct truncates listing answer =
-    let made : ℕ → PlainRequest → NodeName → Option NodeName → Option ℕ → Bool → Bool → Option Listing → Option PlainAnswer → PlainCall =
-    λ n r d o h x t l w. record { asked = n; request = r; node = d; other = o; handle = h; direct = x; truncates = t; listing = l; answer = w } in
-    let whole : made a.asked a.request a.node a.other a.handle a.direct a.truncates a.listing a.answer ≡ made b.asked b.request b.node b.other b.handle b.direct b.truncates b.listing b.answer =
-    rw (asked, request, node, other, handle, direct, truncates, listing, answer) refl in
+same_fields : (a b : PlainCall) → a.asked ≡ b.asked → a.operation ≡ b.operation → a.node ≡ b.node → a.other ≡ b.other → a.handle ≡ b.handle → a.direct ≡ b.direct → a.truncates ≡ b.truncates → a.listing ≡ b.listing → a.answer ≡ b.answer → a ≡ b
+same_fields a b asked operation node other handle direct truncates listing answer =
+    let made : ℕ → PlainOperation → NodeName → Option NodeName → Option ℕ → Bool → Bool → Option Listing → Option PlainAnswer → PlainCall =
+    λ n p d o h x t l w. record { asked = n; operation = p; node = d; other = o; handle = h; direct = x; truncates = t; listing = l; answer = w } in
+    let whole : made a.asked a.operation a.node a.other a.handle a.direct a.truncates a.listing a.answer ≡ made b.asked b.operation b.node b.other b.handle b.direct b.truncates b.listing b.answer =
+    rw (asked, operation, node, other, handle, direct, truncates, listing, answer) refl in
     whole
+
+-- the request of a call is one
+pub request_is_one : (es : List PlainEvent) (a b : PlainCall) (is : IsCall es a) (too : IsCall es b) → a.asked ≡ b.asked → is.request ≡ too.request
+request_is_one es a b is too asked =
+    let here : slice_get es b.asked ≡ Some (Asked a.asked is.request) = subst (λ k. slice_get es k ≡ Some (Asked a.asked is.request)) asked is.there in
+    let events : Some (Asked a.asked is.request) ≡ Some (Asked b.asked too.request) = sym here ∙ too.there in
+    cc
 
 -- the call of a request is one
 pub call_is_one : (c : List Message) (es : List PlainEvent) → AreEvents c es → (a b : PlainCall) → IsCall es a → IsCall es b → a.asked ≡ b.asked → a ≡ b
 call_is_one c es are a b is too asked =
-    let here : slice_get es b.asked ≡ Some (Asked a.asked a.request) = subst (λ k. slice_get es k ≡ Some (Asked a.asked a.request)) asked is.there in
-    let events : Some (Asked a.asked a.request) ≡ Some (Asked b.asked b.request) = sym here ∙ too.there in
-    let requests : a.request ≡ b.request = cc in
+    let r = too.request in
+    let requests : is.request ≡ too.request = request_is_one es a b is too asked in
     let before = take b.asked es in
-    let mine : IsAskedCall (take b.asked es) a = subst (λ k. IsAskedCall (take k es) a) asked is.asked in
+    let mine : IsAskedCall (take b.asked es) is.request a = subst (λ k. IsAskedCall (take k es) is.request a) asked is.asked in
     let yours = too.asked in
     let nodes : a.node ≡ b.node = same_Some a.node b.node (sym mine.node ∙ (rw requests refl) ∙ yours.node) in
     let others : a.other ≡ b.other = same_some a.other b.other (sym mine.other ∙ (rw requests refl) ∙ yours.other) in
-    let handles : a.handle ≡ b.handle = used_is_one before (key_used before b.request) a.handle b.handle (subst (λ r. IsHandleUsed before (key_used before r) a.handle) requests mine.handle) yours.handle in
-    let directs : a.direct ≡ b.direct = mark_is_one (IsDirect before) (key_used before b.request) a.direct b.direct (subst (λ r. IsMark (IsDirect before) (key_used before r) a.direct) requests mine.direct) yours.direct in
-    let truncations : a.truncates ≡ b.truncates = same_mark a.truncates b.truncates (Truncates before b.request.body) (subst (λ r. IsTrue a.truncates ↔ Truncates before r.body) requests mine.truncates) yours.truncates in
-    let listings : a.listing ≡ b.listing = listing_is_one before b.request a.listing b.listing (subst (λ r. IsListingIfAny before r a.listing) requests mine.listing) yours.listing in
-    same_fields a b asked requests nodes others handles directs truncations listings (answers_are_one c es are a b asked requests a.answer b.answer is.answered too.answered)
+    let handles : a.handle ≡ b.handle = used_is_one before (key_used before r) a.handle b.handle (subst (λ q. IsHandleUsed before (key_used before q) a.handle) requests mine.handle) yours.handle in
+    let directs : a.direct ≡ b.direct = mark_is_one (IsDirect before) (key_used before r) a.direct b.direct (subst (λ q. IsMark (IsDirect before) (key_used before q) a.direct) requests mine.direct) yours.direct in
+    let truncations : a.truncates ≡ b.truncates = same_mark a.truncates b.truncates (Truncates before r.body) (subst (λ q. IsTrue a.truncates ↔ Truncates before q.body) requests mine.truncates) yours.truncates in
+    let listings : a.listing ≡ b.listing = listing_is_one before r a.listing b.listing (subst (λ q. IsListingIfAny before q a.listing) requests mine.listing) yours.listing in
+    let ends = answers_are_one c es are a b asked is.request too.request requests a.answer b.answer is.answered too.answered in
+    same_fields a b asked ends.0 nodes others handles directs truncations listings ends.1
 
 -- the numbers of calls
 abbrev pub numbers : List PlainCall → List ℕ
@@ -146,8 +157,8 @@ numbers_kept : (es : List PlainEvent) (calls others : List PlainCall) → AreCal
 numbers_kept es calls others are too z has =
     let found = call_with calls z has in
     let call = call_at es calls are.each found.0 found.1 found.2 in
-    let there : slice_get es z ≡ Some (Asked z found.1.request) = subst (λ n. slice_get es n ≡ Some (Asked n found.1.request)) found.3 call.there in
-    too.complete z found.1.request there call.asked.tree
+    let there : slice_get es z ≡ Some (Asked z call.request) = subst (λ n. slice_get es n ≡ Some (Asked n call.request)) found.3 call.there in
+    too.complete z call.request there call.asked.tree
 
 pub calls_of_are_one : (c : List Message) (es : List PlainEvent) → AreEvents c es → (calls others : List PlainCall) → AreCallsOf es calls → AreCallsOf es others → calls ≡ others
 calls_of_are_one c es are calls others is too =

@@ -14,6 +14,8 @@ use Rattle.fa_ledger.specs.declared.call.Call.{Call}
 use Rattle.fa_ledger.specs.declared.call_list.WaitingCall.{WaitingCall}
 use Rattle.fa_ledger.specs.Calls.{PlainAnswer, PlainCall, answer_shown, call_shown}
 use Rattle.fa_ledger.specs.parts.CallParts.{WaitsAt, IsNewNumber, AreTheirPlaces, waiting_of}
+use Rattle.fa_ledger.specs.declared.operation.Operation.{Operation}
+use Rattle.fa_ledger.specs.Operations.{PlainOperation, operation_shown}
 use Rattle.fa_ledger.specs.parts.Steps.{with_answer}
 
 -- ---- the table
@@ -72,34 +74,34 @@ places_pushed calls items pushed call place old new view added last waits later 
     (subst (λ (k : ℕ). (q : ℕ) → lookup (nat_eq q) new ≡ cond (nat_eq call.asked q) (Some k) (lookup (nat_eq q) old)) at wrote))
 
 -- a call that does not have this number is left as it is
-one_left : (call : PlainCall) (asked : ℕ) (answer : PlainAnswer) → (call.asked ≡ asked → ⊥) → with_answer (call ∷ []) asked answer ≡ call ∷ []
-one_left call asked answer other = rw (other_number asked call.asked (λ same. other (sym same))) refl
+one_left : (call : PlainCall) (asked : ℕ) (o : PlainOperation) (answer : PlainAnswer) → (call.asked ≡ asked → ⊥) → with_answer (call ∷ []) asked o answer ≡ call ∷ []
+one_left call asked o answer other = rw (other_number asked call.asked (λ same. other (sym same))) refl
 
 -- calls of which none has this number are left as they are
-all_left : (calls : List PlainCall) (asked : ℕ) (answer : PlainAnswer) → IsNewNumber calls asked → with_answer calls asked answer ≡ calls
-all_left [] asked answer none = refl
-all_left (call ∷ calls) asked answer none =
-    let first : with_answer (call ∷ []) asked answer ≡ call ∷ [] = one_left call asked answer (none 0 call refl) in
-    let others : with_answer calls asked answer ≡ calls = all_left calls asked answer (λ k. none (suc k)) in
-    ap (λ cs. cs ++ with_answer calls asked answer) first ∙ ap (λ cs. call ∷ cs) others
+all_left : (calls : List PlainCall) (asked : ℕ) (o : PlainOperation) (answer : PlainAnswer) → IsNewNumber calls asked → with_answer calls asked o answer ≡ calls
+all_left [] asked o answer none = refl
+all_left (call ∷ calls) asked o answer none =
+    let first : with_answer (call ∷ []) asked o answer ≡ call ∷ [] = one_left call asked o answer (none 0 call refl) in
+    let others : with_answer calls asked o answer ≡ calls = all_left calls asked o answer (λ k. none (suc k)) in
+    ap (λ cs. cs ++ with_answer calls asked o answer) first ∙ ap (λ cs. call ∷ cs) others
 
 -- the answer of the only call with this number stands at its place
-one_answered : (calls : List PlainCall) (place asked : ℕ) (call new : PlainCall) (answer : PlainAnswer) → slice_get calls place ≡ Some call
+one_answered : (calls : List PlainCall) (place asked : ℕ) (call new : PlainCall) (o : PlainOperation) (answer : PlainAnswer) → slice_get calls place ≡ Some call
     → ((k : ℕ) (other : PlainCall) → slice_get calls k ≡ Some other → other.asked ≡ asked → k ≡ place)
-    → with_answer (call ∷ []) asked answer ≡ new ∷ [] → slice_set calls place new ≡ with_answer calls asked answer
-one_answered [] place asked call new answer there only answered = absurd cc
-one_answered (first ∷ calls) zero asked call new answer there only answered =
+    → with_answer (call ∷ []) asked o answer ≡ new ∷ [] → slice_set calls place new ≡ with_answer calls asked o answer
+one_answered [] place asked call new o answer there only answered = absurd cc
+one_answered (first ∷ calls) zero asked call new o answer there only answered =
     let same : first ≡ call = same_Some first call there in
-    let here : with_answer (first ∷ []) asked answer ≡ new ∷ [] = subst (λ c. with_answer (c ∷ []) asked answer ≡ new ∷ []) (sym same) answered in
-    let others : with_answer calls asked answer ≡ calls = all_left calls asked answer (λ k other at numbered.
+    let here : with_answer (first ∷ []) asked o answer ≡ new ∷ [] = subst (λ c. with_answer (c ∷ []) asked o answer ≡ new ∷ []) (sym same) answered in
+    let others : with_answer calls asked o answer ≡ calls = all_left calls asked o answer (λ k other at numbered.
     let none : suc k ≡ 0 = only (suc k) other at numbered in omega (arith, none)) in
-    sym (ap (λ cs. cs ++ with_answer calls asked answer) here ∙ ap (λ cs. new ∷ cs) others)
-one_answered (first ∷ calls) (suc place) asked call new answer there only answered =
-    let kept : with_answer (first ∷ []) asked answer ≡ first ∷ [] = one_left first asked answer (λ numbered.
+    sym (ap (λ cs. cs ++ with_answer calls asked o answer) here ∙ ap (λ cs. new ∷ cs) others)
+one_answered (first ∷ calls) (suc place) asked call new o answer there only answered =
+    let kept : with_answer (first ∷ []) asked o answer ≡ first ∷ [] = one_left first asked o answer (λ numbered.
     let none : 0 ≡ suc place = only 0 first refl numbered in omega (arith, none)) in
-    let others : slice_set calls place new ≡ with_answer calls asked answer = one_answered calls place asked call new answer there (λ k other at numbered.
+    let others : slice_set calls place new ≡ with_answer calls asked o answer = one_answered calls place asked call new o answer there (λ k other at numbered.
     let later : suc k ≡ suc place = only (suc k) other at numbered in omega (arith, later)) answered in
-    ap (λ cs. first ∷ cs) others ∙ sym (ap (λ cs. cs ++ with_answer calls asked answer) kept)
+    ap (λ cs. first ∷ cs) others ∙ sym (ap (λ cs. cs ++ with_answer calls asked o answer) kept)
 
 -- of rising numbers a later one is larger
 rises_far : (xs : List ℕ) → IsStrictlyIncreasing xs → (k j : ℕ) → k < j → j < length xs → get_or xs k 0 < get_or xs j 0
@@ -189,18 +191,18 @@ waiting_there items calls table asked place call adrift view are found read is =
     let waiting : Bool → WaitingCall = λ b. record { node = call.node; handle = call.handle; adrift = b } in
     (place, call_shown call, the_call items calls table asked place call view are found read, ap waiting is)
 
--- the list after the answer is set at its place
-pub answer_set : (items : List Call) (calls : List PlainCall) (table : List (ℕ × ℕ)) (asked place : ℕ) (call : Call) (answer : Answer) → map call_shown items ≡ calls → AreTheirPlaces (map call_shown items) table
+-- the list after the answer is set at its place, with what it makes of the operation
+pub answer_set : (items : List Call) (calls : List PlainCall) (table : List (ℕ × ℕ)) (asked place : ℕ) (call : Call) (o : Operation) (answer : Answer) → map call_shown items ≡ calls → AreTheirPlaces (map call_shown items) table
     → lookup (nat_eq asked) table ≡ Some place → call ≡ get_or items place call → IsStrictlyIncreasing (map (λ call. call.asked) calls)
-    → map call_shown (slice_set items place (record call { answer = Some answer })) ≡ with_answer calls asked (answer_shown answer)
-answer_set items calls table asked place call answer view are found read rise =
-    let after : Call = record call { answer = Some answer } in
+    → map call_shown (slice_set items place (record call { operation = o; answer = Some answer })) ≡ with_answer calls asked (operation_shown o) (answer_shown answer)
+answer_set items calls table asked place call o answer view are found read rise =
+    let after : Call = record call { operation = o; answer = Some answer } in
     let waits = the_call items calls table asked place call view are found read in
     let only = only_call calls rise place asked (call_shown call) waits.there waits.numbered in
     let test : (call.asked == asked) ≡ true = grind (arith, nat_tests, waits.numbered) in
     map-set call_shown items place after
     ∙ ap (λ cs. slice_set cs place (call_shown after)) view
-    ∙ one_answered calls place asked (call_shown call) (call_shown after) (answer_shown answer) waits.there only (rw test refl)
+    ∙ one_answered calls place asked (call_shown call) (call_shown after) (operation_shown o) (answer_shown answer) waits.there only (rw test refl)
 
 -- ---- the table after an answer
 
@@ -210,49 +212,49 @@ chosen true new call after is = let same : new ≡ after = cc in inl (refl, same
 chosen false new call after is = let same : call ≡ after = cc in inr (refl, same)
 
 -- a call that still waits is as it was, and has another number
-still_waiting : (call after : PlainCall) (asked : ℕ) (answer : PlainAnswer) → with_answer (call ∷ []) asked answer ≡ after ∷ [] → after.answer ≡ None → (call ≡ after) × (call.asked ≡ asked → ⊥)
-still_waiting call after asked answer is waits =
+still_waiting : (call after : PlainCall) (asked : ℕ) (o : PlainOperation) (answer : PlainAnswer) → with_answer (call ∷ []) asked o answer ≡ after ∷ [] → after.answer ≡ None → (call ≡ after) × (call.asked ≡ asked → ⊥)
+still_waiting call after asked o answer is waits =
     elim (chosen (call.asked == asked) _ call after is) [
       | inl answered ↦ let some : Some answer ≡ after.answer = ap (λ (c : PlainCall). c.answer) answered.1 in let none : Some answer ≡ None = some ∙ waits in absurd cc
       | inr kept ↦ (kept.1, λ same. grind (arith, nat_tests, same, kept.0))
     ]
 
 -- what stands at a place after the answer, by what stood there
-stood_at : (calls : List PlainCall) (asked : ℕ) (answer : PlainAnswer) (k : ℕ) (after : PlainCall) → slice_get (with_answer calls asked answer) k ≡ Some after
-    → (call : PlainCall) × (slice_get calls k ≡ Some call) × (with_answer (call ∷ []) asked answer ≡ after ∷ [])
-stood_at [] asked answer k after there = absurd cc
-stood_at (call ∷ calls) asked answer zero after there = (call, refl, ap (λ c. c ∷ []) (same_Some _ after there))
-stood_at (call ∷ calls) asked answer (suc k) after there = stood_at calls asked answer k after there
+stood_at : (calls : List PlainCall) (asked : ℕ) (o : PlainOperation) (answer : PlainAnswer) (k : ℕ) (after : PlainCall) → slice_get (with_answer calls asked o answer) k ≡ Some after
+    → (call : PlainCall) × (slice_get calls k ≡ Some call) × (with_answer (call ∷ []) asked o answer ≡ after ∷ [])
+stood_at [] asked o answer k after there = absurd cc
+stood_at (call ∷ calls) asked o answer zero after there = (call, refl, ap (λ c. c ∷ []) (same_Some _ after there))
+stood_at (call ∷ calls) asked o answer (suc k) after there = stood_at calls asked o answer k after there
 
 -- a call that does not have this number stays at its place
-stays_at : (calls : List PlainCall) (asked : ℕ) (answer : PlainAnswer) (k : ℕ) (call : PlainCall) → slice_get calls k ≡ Some call → (call.asked ≡ asked → ⊥)
-    → slice_get (with_answer calls asked answer) k ≡ Some call
-stays_at [] asked answer k call there other = absurd cc
-stays_at (first ∷ calls) asked answer zero call there other =
+stays_at : (calls : List PlainCall) (asked : ℕ) (o : PlainOperation) (answer : PlainAnswer) (k : ℕ) (call : PlainCall) → slice_get calls k ≡ Some call → (call.asked ≡ asked → ⊥)
+    → slice_get (with_answer calls asked o answer) k ≡ Some call
+stays_at [] asked o answer k call there other = absurd cc
+stays_at (first ∷ calls) asked o answer zero call there other =
     let same : first ≡ call = same_Some first call there in
-    ap (λ cs. slice_get cs 0) (ap (λ c. with_answer (c ∷ []) asked answer) same ∙ one_left call asked answer other)
-stays_at (first ∷ calls) asked answer (suc k) call there other = stays_at calls asked answer k call there other
+    ap (λ cs. slice_get cs 0) (ap (λ c. with_answer (c ∷ []) asked o answer) same ∙ one_left call asked o answer other)
+stays_at (first ∷ calls) asked o answer (suc k) call there other = stays_at calls asked o answer k call there other
 
 -- a call that waits after the answer waited before, under another number
-waited : (calls : List PlainCall) (asked : ℕ) (answer : PlainAnswer) (q place : ℕ) (call : PlainCall) → WaitsAt (with_answer calls asked answer) q place call
+waited : (calls : List PlainCall) (asked : ℕ) (o : PlainOperation) (answer : PlainAnswer) (q place : ℕ) (call : PlainCall) → WaitsAt (with_answer calls asked o answer) q place call
     → WaitsAt calls q place call × (asked ≡ q → ⊥)
-waited calls asked answer q place call waits =
-    let before = stood_at calls asked answer place call waits.there in
-    let still = still_waiting before.0 call asked answer before.2 waits.unanswered in
+waited calls asked o answer q place call waits =
+    let before = stood_at calls asked o answer place call waits.there in
+    let still = still_waiting before.0 call asked o answer before.2 waits.unanswered in
     let number : before.0.asked ≡ q = ap (λ (c : PlainCall). c.asked) still.0 ∙ waits.numbered in
     (record { there = before.1 ∙ ap (λ c. Some c) still.0; numbered = waits.numbered; unanswered = waits.unanswered }, λ same. still.1 (number ∙ sym same))
 
 -- the table after the answer: the place of its call is taken out
-pub places_answered : (calls shown : List PlainCall) (old new : List (ℕ × ℕ)) (asked : ℕ) (answer : PlainAnswer) → shown ≡ calls → AreTheirPlaces shown old
+pub places_answered : (calls shown : List PlainCall) (old new : List (ℕ × ℕ)) (asked : ℕ) (o : PlainOperation) (answer : PlainAnswer) → shown ≡ calls → AreTheirPlaces shown old
     → ((q : ℕ) → lookup (nat_eq q) new ≡ cond (nat_eq asked q) None (lookup (nat_eq q) old))
-    → AreTheirPlaces (with_answer calls asked answer) new
-places_answered calls shown old new asked answer view places wrote q place =
+    → AreTheirPlaces (with_answer calls asked o answer) new
+places_answered calls shown old new asked o answer view places wrote q place =
     let are : AreTheirPlaces calls old = subst (λ cs. AreTheirPlaces cs old) view places in
     elim (eqb_tells asked q) [
       | inl same ↦
           let none : lookup (nat_eq q) new ≡ None = wrote q ∙ ap (λ b. cond b None (lookup (nat_eq q) old)) same.0 in (
             λ found. let clash : None ≡ Some place = sym none ∙ found in absurd cc,
-            λ waiting. absurd ((waited calls asked answer q place waiting.0 waiting.1).1 same.1),
+            λ waiting. absurd ((waited calls asked o answer q place waiting.0 waiting.1).1 same.1),
           )
       | inr other ↦
           let kept : lookup (nat_eq q) new ≡ lookup (nat_eq q) old = wrote q ∙ ap (λ b. cond b None (lookup (nat_eq q) old)) other.0 in (
@@ -260,11 +262,11 @@ places_answered calls shown old new asked answer view places wrote q place =
                 let waiting = (are q place).0 (sym kept ∙ found) in (
                   waiting.0,
                   record {
-                    there = stays_at calls asked answer place waiting.0 waiting.1.there (λ same. other.1 (sym same ∙ waiting.1.numbered));
+                    there = stays_at calls asked o answer place waiting.0 waiting.1.there (λ same. other.1 (sym same ∙ waiting.1.numbered));
                     numbered = waiting.1.numbered;
                     unanswered = waiting.1.unanswered;
                   },
                 ),
-            λ waiting. kept ∙ (are q place).1 (waiting.0, (waited calls asked answer q place waiting.0 waiting.1).0),
+            λ waiting. kept ∙ (are q place).1 (waiting.0, (waited calls asked o answer q place waiting.0 waiting.1).0),
           )
     ]

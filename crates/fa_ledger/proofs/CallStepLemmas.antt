@@ -16,11 +16,12 @@ use Rattle.fa_session.specs.Events.{PlainEvent, IsEvent}
 use Rattle.fa_session.specs.Events.PlainEvent.{Asked, Answered}
 use Rattle.fa_session.proofs.CallerLemmas.{answered_now, answered_still, answer_after, answered_once}
 use Rattle.fa_ledger.specs.Events.{AreEvents}
-use Rattle.fa_ledger.specs.Counts.{nodes_given}
 use Rattle.fa_ledger.specs.Kinds.{IsTreeRequest}
 use Rattle.fa_ledger.specs.Names.{name_at}
 use Rattle.fa_ledger.specs.Handles.{opening, times_opened, times_closed}
-use Rattle.fa_ledger.specs.Calls.{PlainAnswer, PlainCall, IsAskedCall, OpensAnew, IsAnswerOf, HasNoAnswer, HasAnswer, IsCall, AreCallsOf}
+use Rattle.fa_ledger.specs.Calls.{PlainAnswer, PlainCall, IsAskedCall, OpensAnew, IsAnswerOf, HasAnswer, IsCall, AreCallsOf}
+use Rattle.fa_ledger.specs.Counts.{nodes_given}
+use Rattle.fa_ledger.specs.Operations.{PlainOperation, operation_of}
 use Rattle.fa_ledger.specs.parts.Steps.{answered_by, with_answer}
 use Rattle.fa_ledger.proofs.CallLemmas.{numbers, answers_at, call_at, call_with}
 use Rattle.fa_ledger.proofs.EventLemmas.{element_at, event_is_one}
@@ -117,59 +118,67 @@ opens_kept es e at within =
     )
 
 -- the answer of a call stays one
-answer_kept : (es : List PlainEvent) (e : PlainEvent) (call : PlainCall) (answer : PlainAnswer) → IsAnswerOf es call answer → IsAnswerOf (es ++ e ∷ []) call answer
-answer_kept es e call answer is =
+answer_kept : (es : List PlainEvent) (e : PlainEvent) (r : PlainRequest) (call : PlainCall) (answer : PlainAnswer) → IsAnswerOf es r call answer → IsAnswerOf (es ++ e ∷ []) r call answer
+answer_kept es e r call answer is =
     let within : answer.at < length es = slice_get_within es answer.at _ is.there in
     let same : take (answer.at + 1) (es ++ e ∷ []) ≡ take (answer.at + 1) es = take_before es e (answer.at + 1) (omega (arith, within)) in
     let opens = opens_kept es e answer.at within in
     record {
+      reply = is.reply;
       there = get_kept es (e ∷ []) answer.at _ is.there;
-      given = subst (λ x. map (λ node. name_at x node) (nodes_given call.request.body answer.reply) ≡ map (λ name. Some name) answer.given) (sym same) is.given;
+      does = is.does;
+      given = subst (λ x. map (λ node. name_at x node) (nodes_given r.body is.reply) ≡ map (λ name. Some name) answer.given) (sym same) is.given;
       opens = (λ marked. opens.1 (is.opens.0 marked), λ anew. is.opens.1 (opens.0 anew));
     }
 
 -- a call has its answer, or has none still, if the event is no answer of it
-answered_kept : (es : List PlainEvent) (e : PlainEvent) (call : PlainCall) → ((at : ℕ) (reply : PlainReply) → e ≡ Answered at call.asked call.request reply → ⊥)
-    → (answer : Option PlainAnswer) → HasAnswer es call answer → HasAnswer (es ++ e ∷ []) call answer
-answered_kept es e call other None has =
-    λ q reply there. elim (get_cases es e q (Answered q call.asked call.request reply) there) [
-      | inl below ↦ has q reply (get_back es (e ∷ []) q (Answered q call.asked call.request reply) below there)
-      | inr now ↦ other q reply (sym now.1)
-    ]
-answered_kept es e call other (Some answer) has = answer_kept es e call answer has
+answered_kept : (es : List PlainEvent) (e : PlainEvent) (r : PlainRequest) (call : PlainCall) → ((at : ℕ) (reply : PlainReply) → e ≡ Answered at call.asked r reply → ⊥)
+    → (answer : Option PlainAnswer) → HasAnswer es r call answer → HasAnswer (es ++ e ∷ []) r call answer
+answered_kept es e r call other None has = record {
+  none = λ q reply there. elim (get_cases es e q (Answered q call.asked r reply) there) [
+    | inl below ↦ has.none q reply (get_back es (e ∷ []) q (Answered q call.asked r reply) below there)
+    | inr now ↦ other q reply (sym now.1)
+  ];
+  does = has.does;
+}
+answered_kept es e r call other (Some answer) has = answer_kept es e r call answer has
 
 -- what a call says of its request stays
-asked_kept : (es : List PlainEvent) (e : PlainEvent) (call : PlainCall) → IsCall es call → IsAskedCall (take call.asked (es ++ e ∷ [])) call
+asked_kept : (es : List PlainEvent) (e : PlainEvent) (call : PlainCall) (is : IsCall es call) → IsAskedCall (take call.asked (es ++ e ∷ [])) is.request call
 asked_kept es e call is =
     let within : call.asked < length es = slice_get_within es call.asked _ is.there in
-    subst (λ x. IsAskedCall x call) (sym (take_before es e call.asked (omega (arith, within)))) is.asked
+    subst (λ x. IsAskedCall x is.request call) (sym (take_before es e call.asked (omega (arith, within)))) is.asked
 
 -- a call stays one, if the event is no answer of it
-pub call_kept : (es : List PlainEvent) (e : PlainEvent) (call : PlainCall) → IsCall es call → ((at : ℕ) (reply : PlainReply) → e ≡ Answered at call.asked call.request reply → ⊥) → IsCall (es ++ e ∷ []) call
+pub call_kept : (es : List PlainEvent) (e : PlainEvent) (call : PlainCall) (is : IsCall es call) → ((at : ℕ) (reply : PlainReply) → e ≡ Answered at call.asked is.request reply → ⊥) → IsCall (es ++ e ∷ []) call
 call_kept es e call is other = record {
+  request = is.request;
   there = get_kept es (e ∷ []) call.asked _ is.there;
   asked = asked_kept es e call is;
-  answered = answered_kept es e call other call.answer is.answered;
+  answered = answered_kept es e is.request call other call.answer is.answered;
 }
 
--- what was a call of a request that is answered now is one with the answer
-call_answered : (es : List PlainEvent) (p : ℕ) (r : PlainRequest) (reply : PlainReply) (call : PlainCall) (answer : PlainAnswer) → IsCall es call → call.asked ≡ p → call.request ≡ r
-    → answer.at ≡ length es → answer.reply ≡ reply
+-- what was a call of a request that is answered now is one with the answer, and with what the reply makes of its operation
+call_answered : (es : List PlainEvent) (p : ℕ) (r : PlainRequest) (reply : PlainReply) (call : PlainCall) (o : PlainOperation) (answer : PlainAnswer) (is : IsCall es call) → call.asked ≡ p → is.request ≡ r
+    → answer.at ≡ length es → operation_of r.body (Some reply) ≡ Some o
     → (map (λ node. name_at (es ++ Answered (length es) p r reply ∷ []) node) (nodes_given r.body reply) ≡ map (λ name. Some name) answer.given)
     → (IsTrue answer.opens ↔ OpensAnew (es ++ Answered (length es) p r reply ∷ []) (length es))
-    → IsCall (es ++ Answered (length es) p r reply ∷ []) (answered_by answer call)
-call_answered es p r reply call answer is asked request at said given opens =
+    → IsCall (es ++ Answered (length es) p r reply ∷ []) (answered_by o answer call)
+call_answered es p r reply call o answer is asked request at does given opens =
     let e : PlainEvent = Answered (length es) p r reply in
     let more : List PlainEvent = es ++ e ∷ [] in
     let mine = asked_kept es e call is in
     let long : length more ≡ length es + 1 = length-append es (e ∷ []) in
     let whole : take (answer.at + 1) more ≡ more = take_all (answer.at + 1) more (omega (arith, at, long)) in
     record {
+      request = is.request;
       there = get_kept es (e ∷ []) call.asked _ is.there;
       asked = record { tree = mine.tree; node = mine.node; other = mine.other; handle = mine.handle; direct = mine.direct; truncates = mine.truncates; listing = mine.listing };
       answered = record {
-        there = rw (at, said, asked, request) (get_last es e);
-        given = rw (whole, said, request) given;
+        reply = reply;
+        there = rw (at, asked, request) (get_last es e);
+        does = rw request does;
+        given = rw (whole, request) given;
         opens = rw at opens;
       };
     }
@@ -216,7 +225,7 @@ calls_kept es e calls are no_request no_answer = record {
   each = λ k x within.
       let call = get_or calls k x in
       let is : IsCall es call = are.each k x within in
-      call_kept es e call is (λ at reply same. no_answer at call.asked call.request reply same is.asked.tree);
+      call_kept es e call is (λ at reply same. no_answer at call.asked is.request reply same is.asked.tree);
   complete = λ p r there tree.
       elim (get_cases es e p (Asked p r) there) [
         | inl below ↦ are.complete p r (get_back es (e ∷ []) p (Asked p r) below there) tree
@@ -225,34 +234,36 @@ calls_kept es e calls are no_request no_answer = record {
 }
 
 -- the call of a tree request that is asked now
-call_asked : (c : List Message) (es : List PlainEvent) → AreEvents c es → (r : PlainRequest) (call : PlainCall) → call.asked ≡ length es → call.request ≡ r → call.answer ≡ None → IsAskedCall es call
+call_asked : (c : List Message) (es : List PlainEvent) → AreEvents c es → (r : PlainRequest) (call : PlainCall) → call.asked ≡ length es → operation_of r.body None ≡ Some call.operation → call.answer ≡ None → IsAskedCall es r call
     → IsCall (es ++ Asked (length es) r ∷ []) call
-call_asked c es are r call asked request answer is =
+call_asked c es are r call asked does answer is =
     let e : PlainEvent = Asked (length es) r in
-    let none : HasNoAnswer (es ++ e ∷ []) call = λ q reply there.
-    elim (get_cases es e q (Answered q call.asked call.request reply) there) [
+    let none : (q : ℕ) (reply : PlainReply) → slice_get (es ++ e ∷ []) q ≡ Some (Answered q call.asked r reply) → ⊥ = λ q reply there.
+    elim (get_cases es e q (Answered q call.asked r reply) there) [
       | inl below ↦
-          let later : call.asked < q = asked_later c es are q q call.asked call.request reply (get_back es (e ∷ []) q (Answered q call.asked call.request reply) below there) in
+          let later : call.asked < q = asked_later c es are q q call.asked r reply (get_back es (e ∷ []) q (Answered q call.asked r reply) below there) in
           omega (arith, later, below, asked)
-      | inr now ↦ let clash : Answered q call.asked call.request reply ≡ Asked (length es) r = now.1 in absurd cc
+      | inr now ↦ let clash : Answered q call.asked r reply ≡ Asked (length es) r = now.1 in absurd cc
     ] in
     record {
-      there = rw (asked, request) (get_last es e);
-      asked = subst (λ x. IsAskedCall x call) (sym (ap (λ k. take k (es ++ e ∷ [])) asked ∙ take_all_before es e)) is;
-      answered = subst (HasAnswer (es ++ e ∷ []) call) (sym answer) none;
+      request = r;
+      there = rw asked (get_last es e);
+      asked = subst (λ x. IsAskedCall x r call) (sym (ap (λ k. take k (es ++ e ∷ [])) asked ∙ take_all_before es e)) is;
+      answered = subst (HasAnswer (es ++ e ∷ []) r call) (sym answer) (record { none = none; does = does });
     }
 
 -- a tree request adds its call
 pub calls_asked : (c : List Message) (es : List PlainEvent) → AreEvents c es → (r : PlainRequest) (calls : List PlainCall) (call : PlainCall) → AreCallsOf es calls
-    → call.asked ≡ length es → call.request ≡ r → call.answer ≡ None → IsAskedCall es call
+    → call.asked ≡ length es → operation_of r.body None ≡ Some call.operation → call.answer ≡ None → IsAskedCall es r call
     → AreCallsOf (es ++ Asked (length es) r ∷ []) (calls ++ call ∷ [])
-calls_asked c es are r calls call exact asked request answer is =
+calls_asked c es are r calls call exact asked does answer is =
     let e : PlainEvent = Asked (length es) r in
     let split : numbers (calls ++ call ∷ []) ≡ numbers calls ++ call.asked ∷ [] = map-append (λ x. x.asked) calls (call ∷ []) in
     let kept : All (IsCall (es ++ e ∷ [])) calls = λ k x within.
     let old = get_or calls k x in
-    call_kept es e old (exact.each k x within) (λ at reply same. let clash : Asked (length es) r ≡ Answered at old.asked old.request reply = same in absurd cc) in
-    let new : IsCall (es ++ e ∷ []) call = call_asked c es are r call asked request answer is in
+    let is_old : IsCall es old = exact.each k x within in
+    call_kept es e old is_old (λ at reply same. let clash : Asked (length es) r ≡ Answered at old.asked is_old.request reply = same in absurd cc) in
+    let new : IsCall (es ++ e ∷ []) call = call_asked c es are r call asked does answer is in
     let last : All (IsCall (es ++ e ∷ [])) (call ∷ []) = only_one (IsCall (es ++ e ∷ [])) call new in
     record {
       rising = subst IsStrictlyIncreasing (sym split) (rising_more (numbers calls) call.asked exact.rising (λ z has.
@@ -271,11 +282,11 @@ same_number true new call same = same
 same_number false new call same = refl
 
 -- an answer leaves the numbers of the calls
-numbers_answered : (calls : List PlainCall) (p : ℕ) (answer : PlainAnswer) → numbers (with_answer calls p answer) ≡ numbers calls
-numbers_answered [] p answer = refl
-numbers_answered (call ∷ calls) p answer =
-    let first : (if call.asked == p then answered_by answer call else call).asked ≡ call.asked = same_number (call.asked == p) (answered_by answer call) call refl in
-    let later : numbers (with_answer calls p answer) ≡ numbers calls = numbers_answered calls p answer in
+numbers_answered : (calls : List PlainCall) (p : ℕ) (o : PlainOperation) (answer : PlainAnswer) → numbers (with_answer calls p o answer) ≡ numbers calls
+numbers_answered [] p o answer = refl
+numbers_answered (call ∷ calls) p o answer =
+    let first : (if call.asked == p then answered_by o answer call else call).asked ≡ call.asked = same_number (call.asked == p) (answered_by o answer call) call refl in
+    let later : numbers (with_answer calls p o answer) ≡ numbers calls = numbers_answered calls p o answer in
     cc
 
 -- what holds of both choices, by the test, holds of the chosen one
@@ -284,35 +295,35 @@ of_either P true x y first second = first refl
 of_either P false x y first second = second refl
 
 -- the request of the call that has this number
-pub request_there : (es : List PlainEvent) (p : ℕ) (call : PlainCall) (r : PlainRequest) → IsCall es call → call.asked ≡ p → slice_get es p ≡ Some (Asked p r) → call.request ≡ r
+pub request_there : (es : List PlainEvent) (p : ℕ) (call : PlainCall) (r : PlainRequest) (is : IsCall es call) → call.asked ≡ p → slice_get es p ≡ Some (Asked p r) → is.request ≡ r
 request_there es p call r is asked asks =
-    let there : slice_get es p ≡ Some (Asked call.asked call.request) = subst (λ n. slice_get es n ≡ Some (Asked call.asked call.request)) asked is.there in
-    let events : Some (Asked call.asked call.request) ≡ Some (Asked p r) = sym there ∙ asks in
+    let there : slice_get es p ≡ Some (Asked call.asked is.request) = subst (λ n. slice_get es n ≡ Some (Asked call.asked is.request)) asked is.there in
+    let events : Some (Asked call.asked is.request) ≡ Some (Asked p r) = sym there ∙ asks in
     cc
 
 -- an answer is put into its call
 pub calls_answered : (c : List Message) (m : Message) (es : List PlainEvent) → AreEvents c es → (p : ℕ) (r : PlainRequest) (reply : PlainReply) → IsEvent c m (Answered (length es) p r reply)
-    → (calls : List PlainCall) (answer : PlainAnswer) → AreCallsOf es calls → answer.at ≡ length es → answer.reply ≡ reply
+    → (calls : List PlainCall) (o : PlainOperation) (answer : PlainAnswer) → AreCallsOf es calls → answer.at ≡ length es → operation_of r.body (Some reply) ≡ Some o
     → (map (λ node. name_at (es ++ Answered (length es) p r reply ∷ []) node) (nodes_given r.body reply) ≡ map (λ name. Some name) answer.given)
     → (IsTrue answer.opens ↔ OpensAnew (es ++ Answered (length es) p r reply ∷ []) (length es))
-    → AreCallsOf (es ++ Answered (length es) p r reply ∷ []) (with_answer calls p answer)
-calls_answered c m es are p r reply event calls answer exact at said given opens =
+    → AreCallsOf (es ++ Answered (length es) p r reply ∷ []) (with_answer calls p o answer)
+calls_answered c m es are p r reply event calls o answer exact at does given opens =
     let e : PlainEvent = Answered (length es) p r reply in
     let more : List PlainEvent = es ++ e ∷ [] in
     let asks : slice_get es p ≡ Some (Asked p r) = event_asked c m es are (length es) p r reply event in
-    let same : numbers (with_answer calls p answer) ≡ numbers calls = numbers_answered calls p answer in
-    let each : All (λ call. IsCall more (if call.asked == p then answered_by answer call else call)) calls = λ k x within.
+    let same : numbers (with_answer calls p o answer) ≡ numbers calls = numbers_answered calls p o answer in
+    let each : All (λ call. IsCall more (if call.asked == p then answered_by o answer call else call)) calls = λ k x within.
     let call : PlainCall = get_or calls k x in
     let is : IsCall es call = exact.each k x within in
-    of_either (IsCall more) (call.asked == p) (answered_by answer call) call (λ equal.
+    of_either (IsCall more) (call.asked == p) (answered_by o answer call) call (λ equal.
     let asked : call.asked ≡ p = grind (arith, nat_tests, equal) in
-    call_answered es p r reply call answer is asked (request_there es p call r is asked asks) at said given opens) (λ differs.
+    call_answered es p r reply call o answer is asked (request_there es p call r is asked asks) at does given opens) (λ differs.
     call_kept es e call is (λ bt said_then clash.
     let asked : call.asked ≡ p = cc in
     grind (arith, nat_tests, differs, asked))) in
     record {
       rising = subst IsStrictlyIncreasing (sym same) exact.rising;
-      each = All-map (IsCall more) (λ call. (if call.asked == p then answered_by answer call else call)) calls each;
+      each = All-map (IsCall more) (λ call. (if call.asked == p then answered_by o answer call else call)) calls each;
       complete = λ q s there tree.
           subst (λ ns. Contains ns q) (sym same) (elim (get_cases es e q (Asked q s) there) [
             | inl below ↦ exact.complete q s (get_back es (e ∷ []) q (Asked q s) below there) tree
@@ -323,24 +334,23 @@ calls_answered c m es are p r reply event calls answer exact at said given opens
 -- ---- the call that is answered
 
 -- a call whose request is not answered has no answer
-answer_none : (es : List PlainEvent) (call : PlainCall) → ((q : ℕ) (said : PlainReply) → slice_get es q ≡ Some (Answered q call.asked call.request said) → ⊥)
-    → (answer : Option PlainAnswer) → HasAnswer es call answer → answer ≡ None
-answer_none es call unanswered None has = refl
-answer_none es call unanswered (Some answer) has = absurd (unanswered answer.at answer.reply has.there)
+answer_none : (es : List PlainEvent) (r : PlainRequest) (call : PlainCall) → ((q : ℕ) (said : PlainReply) → slice_get es q ≡ Some (Answered q call.asked r said) → ⊥)
+    → (answer : Option PlainAnswer) → HasAnswer es r call answer → answer ≡ None
+answer_none es r call unanswered None has = refl
+answer_none es r call unanswered (Some answer) has = absurd (unanswered answer.at has.reply has.there)
 
 -- the call of a request that is answered now waits for its answer
 pub call_waits : (c : List Message) (m : Message) (es : List PlainEvent) → AreEvents c es → (at p : ℕ) (r : PlainRequest) (reply : PlainReply) → IsEvent c m (Answered at p r reply)
     → (calls : List PlainCall) → AreCallsOf es calls → (k : ℕ) (call : PlainCall) → slice_get calls k ≡ Some call → call.asked ≡ p
-    → (call.request ≡ r) × (call.answer ≡ None) × IsTreeRequest r.body × (name_at (take p es) r.node ≡ Some call.node)
+    → (call.answer ≡ None) × IsAskedCall (take p es) r call
 call_waits c m es are at p r reply event calls exact k call there asked =
     let is : IsCall es call = call_at es calls exact.each k call there in
-    let request : call.request ≡ r = request_there es p call r is asked (event_asked c m es are at p r reply event) in
+    let request : is.request ≡ r = request_there es p call r is asked (event_asked c m es are at p r reply event) in
     let unanswered = event_unanswered c m es are at p r reply event in
-    let waits : call.answer ≡ None = answer_none es call (λ q said answers.
-    unanswered q call.request said (subst (λ n. slice_get es q ≡ Some (Answered q n call.request said)) asked answers)) call.answer is.answered in
-    let tree : IsTreeRequest r.body = subst (λ s. IsTreeRequest s.body) request is.asked.tree in
-    let node : name_at (take p es) r.node ≡ Some call.node = rw (← asked, ← request) is.asked.node in
-    (request, waits, tree, node)
+    let waits : call.answer ≡ None = answer_none es is.request call (λ q said answers.
+    unanswered q is.request said (subst (λ n. slice_get es q ≡ Some (Answered q n is.request said)) asked answers)) call.answer is.answered in
+    let says : IsAskedCall (take p es) is.request call = subst (λ n. IsAskedCall (take n es) is.request call) asked is.asked in
+    (waits, subst (λ s. IsAskedCall (take p es) s call) request says)
 
 -- a tree request that is answered now has a call
 pub waiting_call : (c : List Message) (m : Message) (es : List PlainEvent) → AreEvents c es → (at p : ℕ) (r : PlainRequest) (reply : PlainReply) → IsEvent c m (Answered at p r reply)

@@ -38,8 +38,8 @@ pub use Rattle.fa_ledger.proofs.SoFarLemmas.{calls_list_so_far}
 -- where nodes and open directories come from, and what answers a call
 pub use Rattle.fa_ledger.proofs.NamingLemmas.{IsTreeAnswer, IsNamedSince, IsOpenedBefore, HasReply, name_given, lists_directory, handle_opened, call_replied}
 -- operations, and what comes of those that are answered
-pub use Rattle.fa_ledger.proofs.OperationLemmas.{unanswered_there, ComesTo, action_made, list_made, reads_only}
-pub use Rattle.fa_ledger.proofs.OperationLawLemmas.{answered_operation, calls_have_operations}
+pub use Rattle.fa_ledger.proofs.OperationLemmas.{operation_asked, lost, lost_made, lost_ended, ended_by, not_unanswered, listed_nodes, gives, ComesTo, WroteWithin, reply_comes}
+pub use Rattle.fa_ledger.proofs.OperationLawLemmas.{operation_made, answer_comes, calls_end_where_answered}
 -- items one after the other
 pub use Rattle.fa_ledger.proofs.TakingLemmas.{moved_on}
 

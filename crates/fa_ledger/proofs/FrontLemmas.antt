@@ -12,12 +12,13 @@ use Rattle.fa_session.specs.Events.{PlainEvent}
 use Rattle.fa_session.specs.Events.PlainEvent.{Answered}
 use Rattle.fa_session.proofs.CallerLemmas.{answered_once}
 use Rattle.fa_ledger.specs.Events.{AreEvents}
-use Rattle.fa_ledger.specs.Counts.{nodes_given}
 use Rattle.fa_ledger.specs.Names.{name_at}
 use Rattle.fa_ledger.specs.Handles.{opening, times_opened, times_closed}
 use Rattle.fa_ledger.specs.Passing.{AreGood, Passes}
 use Rattle.fa_ledger.specs.Calls.{PlainAnswer, PlainCall, IsAskedCall, OpensAnew, IsAnswerOf, HasAnswer, IsCall}
+use Rattle.fa_ledger.specs.Counts.{nodes_given}
 use Rattle.fa_ledger.proofs.CallLemmas.{answers_at}
+use Rattle.fa_ledger.proofs.OperationLemmas.{lost, lost_made}
 
 -- ---- messages
 
@@ -51,11 +52,11 @@ good_front c m good i x within there =
 
 -- ---- calls
 
--- the call without its answer
+-- the call without its answer, and so without what came of it
 abbrev pub unanswered : PlainCall → PlainCall
 unanswered call = record {
   asked = call.asked;
-  request = call.request;
+  operation = lost call.operation;
   node = call.node;
   other = call.other;
   handle = call.handle;
@@ -87,10 +88,12 @@ module _ (es : List PlainEvent) (m q : ℕ) (below : q < m) where
   )
 
 -- an answer among the first is one there
-answer_in_front : (es : List PlainEvent) (m : ℕ) (call : PlainCall) (answer : PlainAnswer) → answer.at < m → IsAnswerOf es call answer → IsAnswerOf (take m es) call answer
-answer_in_front es m call answer below is = record {
-  there = get_in_front es m answer.at (Answered answer.at call.asked call.request answer.reply) below is.there;
-  given = subst (λ (b : List PlainEvent). map (λ node. name_at b node) (nodes_given call.request.body answer.reply) ≡ map (λ name. Some name) answer.given)
+answer_in_front : (es : List PlainEvent) (m : ℕ) (r : PlainRequest) (call : PlainCall) (answer : PlainAnswer) → answer.at < m → IsAnswerOf es r call answer → IsAnswerOf (take m es) r call answer
+answer_in_front es m r call answer below is = record {
+  reply = is.reply;
+  there = get_in_front es m answer.at (Answered answer.at call.asked r is.reply) below is.there;
+  does = is.does;
+  given = subst (λ (b : List PlainEvent). map (λ node. name_at b node) (nodes_given r.body is.reply) ≡ map (λ name. Some name) answer.given)
       (sym (take-take (answer.at + 1) m es (omega (arith, below)))) is.given;
   opens = ((λ does. opens_in_front es m answer.at below (is.opens.0 does)), (λ anew. is.opens.1 (opens_of_front es m answer.at below anew)));
 }
@@ -99,26 +102,29 @@ module _ (es : List PlainEvent) (m : ℕ) (call : PlainCall) (is : IsCall es cal
   asked_same : take call.asked (take m es) ≡ take call.asked es
   asked_same = take-take call.asked m es (omega (arith, below))
 
-  asked_front : IsAskedCall (take call.asked (take m es)) call
-  asked_front = subst (λ (b : List PlainEvent). IsAskedCall b call) (sym asked_same) is.asked
+  asked_front : IsAskedCall (take call.asked (take m es)) is.request call
+  asked_front = subst (λ (b : List PlainEvent). IsAskedCall b is.request call) (sym asked_same) is.asked
 
   -- a call that is not answered later is one of the first messages
   pub call_in_front : ((answer : PlainAnswer) → call.answer ≡ Some answer → answer.at < m) → IsCall (take m es) call
   call_in_front early = record {
+    request = is.request;
     there = get_in_front es m call.asked _ below is.there;
     asked = asked_front;
     answered = by call.answer refl is.answered;
   }
     where
-      by : (found : Option PlainAnswer) → call.answer ≡ found → HasAnswer es call found → HasAnswer (take m es) call found
-      by None none has = λ q reply there. has q reply (get_of_front es m q (Answered q call.asked call.request reply) there)
-      by (Some answer) some has = answer_in_front es m call answer (early answer some) has
+      by : (found : Option PlainAnswer) → call.answer ≡ found → HasAnswer es is.request call found → HasAnswer (take m es) is.request call found
+      by None none has = record { none = λ q reply there. has.none q reply (get_of_front es m q (Answered q call.asked is.request reply) there); does = has.does }
+      by (Some answer) some has = answer_in_front es m is.request call answer (early answer some) has
 
   -- one that is answered later is one of them without its answer
   pub call_cut_off : (c : List Message) → AreEvents c es → (answer : PlainAnswer) → call.answer ≡ Some answer → m ≤ answer.at → IsCall (take m es) (unanswered call)
   call_cut_off c are answer some late =
       let asked = asked_front in
+      let has : IsAnswerOf es is.request call answer = subst (HasAnswer es is.request call) some is.answered in
       record {
+        request = is.request;
         there = get_in_front es m call.asked _ below is.there;
         asked = record {
           tree = asked.tree;
@@ -129,12 +135,14 @@ module _ (es : List PlainEvent) (m : ℕ) (call : PlainCall) (is : IsCall es cal
           truncates = asked.truncates;
           listing = asked.listing;
         };
-        answered = λ q reply there.
-            let has : IsAnswerOf es call answer = subst (HasAnswer es call) some is.answered in
-            let first = answers_at c es are answer.at answer.at call.asked call.request answer.reply has.there in
-            let whole : slice_get es q ≡ Some (Answered q call.asked call.request reply) = get_of_front es m q (Answered q call.asked call.request reply) there in
-            let second = answers_at c es are q q call.asked call.request reply whole in
-            let same : answer.at ≡ q = answered_once c answer.at q call.asked call.request call.request first second in
-            let early : q < m = front_below es m q (Answered q call.asked call.request reply) there in
-            omega (arith, same, early, late);
+        answered = record {
+          none = λ q reply there.
+              let first = answers_at c es are answer.at answer.at call.asked is.request has.reply has.there in
+              let whole : slice_get es q ≡ Some (Answered q call.asked is.request reply) = get_of_front es m q (Answered q call.asked is.request reply) there in
+              let second = answers_at c es are q q call.asked is.request reply whole in
+              let same : answer.at ≡ q = answered_once c answer.at q call.asked is.request is.request first second in
+              let early : q < m = front_below es m q (Answered q call.asked is.request reply) there in
+              omega (arith, same, early, late);
+          does = lost_made is.request.body (Some has.reply) call.operation has.does;
+        };
       }

@@ -2,7 +2,7 @@
 use Rattle.std.proofs.Common.{append_assoc, ◌≡◌, ◌≢◌, ℕ, zero, suc, true, false, List, [], ◌∷◌, ◌++◌, Option, None, Some, refl, sym, ap, subst, ◌∙◌, arith}
 use Rattle.std.specs.Prelude.{nat_eq, is_none, map, All, ◌==◌, if◌then◌else◌}
 use Rattle.std.specs.Map.{lookup}
-use Rattle.std.specs.Option.{option_eq}
+use Rattle.std.specs.Option.{option_eq, option_to_list}
 use Rattle.std.proofs.lemmas.Bool.Decides.{nat_tests}
 use Rattle.std.proofs.lemmas.List.{append-nil, map-append}
 use Rattle.std.proofs.lemmas.List.Elements.{All-nil, All-push}
@@ -13,10 +13,11 @@ use Rattle.fa_bodies.specs.Dirents.{PlainDirent}
 use Rattle.fa_ledger.specs.declared.name.NodeName.{NodeName}
 use Rattle.fa_ledger.specs.declared.name.NodeName.TheVariants.{Root, Given}
 use Rattle.fa_ledger.specs.declared.nodes.Lookups.{Lookups}
-use Rattle.fa_ledger.specs.Counts.{is_dots, node_of, nodes_of_entry, nodes_of_listing}
+use Rattle.fa_ledger.specs.Mentions.{node_of}
+use Rattle.fa_ledger.specs.Counts.{is_dots, nodes_of_entry, nodes_of_listing}
 use Rattle.fa_ledger.specs.Passing.{MayBeGiven}
 use Rattle.fa_ledger.proofs.TakingLemmas.{no_item}
-use Rattle.fa_ledger.specs.parts.Steps.{as_list, given_again, times_named, is_new}
+use Rattle.fa_ledger.specs.parts.Steps.{given_again, times_named, is_new}
 
 -- a node that is new after others were given was new before
 pub new_before : (at n : ℕ) (x : Option Lookups) → is_none (given_again at n x) ≡ true → is_none x ≡ true
@@ -63,7 +64,7 @@ entry_not_zero (Some entry) name id is =
     ] is
 
 -- what an entry gives may be given, if it is not the root
-pub entry_may : (o : Option EntryOut) (name : List ℕ) (r : Option ℕ) → as_list r ≡ nodes_of_entry o name → (r ≡ Some ROOT_ID → ⊥) → All MayBeGiven (nodes_of_entry o name)
+pub entry_may : (o : Option EntryOut) (name : List ℕ) (r : Option ℕ) → option_to_list r ≡ nodes_of_entry o name → (r ≡ Some ROOT_ID → ⊥) → All MayBeGiven (nodes_of_entry o name)
 entry_may o name None is other = subst (All MayBeGiven) is (All-nil MayBeGiven)
 entry_may o name (Some id) is other =
     subst (All MayBeGiven) is (All-push MayBeGiven [] id (All-nil MayBeGiven) (entry_not_zero o name id (sym is), λ root. other (ap (λ x. Some x) root)))
@@ -79,10 +80,10 @@ not_the_root None not is = absurd cc
 not_the_root (Some id) not is = let same : id ≡ ROOT_ID = cc in grind (arith, nat_tests, not, same)
 
 -- an entry that gives the root gives what may not be given
-pub root_may_not : (all front rest : List PlainDirent) (d : PlainDirent) (r : Option ℕ) → all ≡ front ++ d ∷ rest → as_list r ≡ nodes_of_entry d.entry d.name → r ≡ Some ROOT_ID
+pub root_may_not : (all front rest : List PlainDirent) (d : PlainDirent) (r : Option ℕ) → all ≡ front ++ d ∷ rest → option_to_list r ≡ nodes_of_entry d.entry d.name → r ≡ Some ROOT_ID
     → All MayBeGiven (nodes_of_listing all) → ⊥
 root_may_not all front rest d r is gives root each =
-    let own : ROOT_ID ∷ [] ≡ nodes_of_entry d.entry d.name = ap as_list (sym root) ∙ gives in
+    let own : ROOT_ID ∷ [] ≡ nodes_of_entry d.entry d.name = ap option_to_list (sym root) ∙ gives in
     let around : nodes_of_listing all ≡ nodes_of_listing front ++ ROOT_ID ∷ nodes_of_listing rest =
     listing_around all front rest d is ∙ ap (λ ns. nodes_of_listing front ++ (ns ++ nodes_of_listing rest)) (sym own) in
     (all_middle MayBeGiven (nodes_of_listing front) (nodes_of_listing rest) ROOT_ID (subst (All MayBeGiven) around each)).1 refl
@@ -91,26 +92,26 @@ root_may_not all front rest d r is gives root each =
 
 -- an entry that gives none adds no name
 pub none_listed : (f : ℕ → NodeName) (front : List PlainDirent) (d : PlainDirent) (r : Option ℕ) (names : List NodeName) → names ≡ map f (nodes_of_listing front)
-    → as_list r ≡ nodes_of_entry d.entry d.name → r ≡ None → names ≡ map f (nodes_of_listing (front ++ d ∷ []))
+    → option_to_list r ≡ nodes_of_entry d.entry d.name → r ≡ None → names ≡ map f (nodes_of_listing (front ++ d ∷ []))
 none_listed f front d r names so_far gives none =
-    let nothing : [] ≡ nodes_of_entry d.entry d.name = ap as_list (sym none) ∙ gives in
+    let nothing : [] ≡ nodes_of_entry d.entry d.name = ap option_to_list (sym none) ∙ gives in
     let whole : nodes_of_listing (front ++ d ∷ []) ≡ nodes_of_listing front =
     listing_more front d ∙ ap (λ ns. nodes_of_listing front ++ ns) (sym nothing) ∙ append-nil (nodes_of_listing front) in
     so_far ∙ ap (map f) (sym whole)
 
 -- an entry that gives a node adds its name
 pub one_listed : (f : ℕ → NodeName) (front : List PlainDirent) (d : PlainDirent) (r : Option ℕ) (id : ℕ) (names : List NodeName) → names ≡ map f (nodes_of_listing front)
-    → as_list r ≡ nodes_of_entry d.entry d.name → r ≡ Some id → names ++ f id ∷ [] ≡ map f (nodes_of_listing (front ++ d ∷ []))
+    → option_to_list r ≡ nodes_of_entry d.entry d.name → r ≡ Some id → names ++ f id ∷ [] ≡ map f (nodes_of_listing (front ++ d ∷ []))
 one_listed f front d r id names so_far gives some =
-    let own : id ∷ [] ≡ nodes_of_entry d.entry d.name = ap as_list (sym some) ∙ gives in
+    let own : id ∷ [] ≡ nodes_of_entry d.entry d.name = ap option_to_list (sym some) ∙ gives in
     let whole : nodes_of_listing (front ++ d ∷ []) ≡ nodes_of_listing front ++ id ∷ [] = listing_more front d ∙ ap (λ ns. nodes_of_listing front ++ ns) (sym own) in
     ap (λ ns. ns ++ f id ∷ []) so_far ∙ sym (map-append f (nodes_of_listing front) (id ∷ [])) ∙ ap (map f) (sym whole)
 
 -- a listing with an entry that gives a node gives some
-pub some_listed : (all front rest : List PlainDirent) (d : PlainDirent) (r : Option ℕ) (id : ℕ) → all ≡ front ++ d ∷ rest → as_list r ≡ nodes_of_entry d.entry d.name → r ≡ Some id
+pub some_listed : (all front rest : List PlainDirent) (d : PlainDirent) (r : Option ℕ) (id : ℕ) → all ≡ front ++ d ∷ rest → option_to_list r ≡ nodes_of_entry d.entry d.name → r ≡ Some id
     → nodes_of_listing all ≢ []
 some_listed all front rest d r id is gives some nothing =
-    let own : id ∷ [] ≡ nodes_of_entry d.entry d.name = ap as_list (sym some) ∙ gives in
+    let own : id ∷ [] ≡ nodes_of_entry d.entry d.name = ap option_to_list (sym some) ∙ gives in
     let around : nodes_of_listing all ≡ nodes_of_listing front ++ id ∷ nodes_of_listing rest =
     listing_around all front rest d is ∙ ap (λ ns. nodes_of_listing front ++ (ns ++ nodes_of_listing rest)) (sym own) in
     no_item (nodes_of_listing front) id (nodes_of_listing rest) (sym nothing ∙ around)

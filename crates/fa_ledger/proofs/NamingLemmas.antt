@@ -271,35 +271,35 @@ handle_opened c es are p key handle kind h =
 -- ---- the answer of a call
 
 -- The call is of this request, and its answer is message q and says this.
-pub record HasReply (es : List PlainEvent) (call : PlainCall) (q : ℕ) (request : PlainRequest) (reply : PlainReply) : Type 0 where
-  pub same : call.request ≡ request
+pub record HasReply (es : List PlainEvent) (call : PlainCall) (is : IsCall es call) (q : ℕ) (request : PlainRequest) (reply : PlainReply) : Type 0 where
+  pub same : is.request ≡ request
   pub answer : PlainAnswer
   pub has : call.answer ≡ Some answer
-  pub of_call : IsAnswerOf es call answer
+  pub of_call : IsAnswerOf es is.request call answer
   pub place : answer.at ≡ q
-  pub says : answer.reply ≡ reply
+  pub says : of_call.reply ≡ reply
 
 -- what answers a call is its answer
-pub call_replied : (c : List Message) (es : List PlainEvent) → AreEvents c es → (call : PlainCall) → IsCall es call → (p q : ℕ) (request : PlainRequest) (reply : PlainReply)
-    → IsTreeAnswer c es p q call.asked request reply → HasReply es call q request reply
+pub call_replied : (c : List Message) (es : List PlainEvent) → AreEvents c es → (call : PlainCall) (is : IsCall es call) (p q : ℕ) (request : PlainRequest) (reply : PlainReply)
+    → IsTreeAnswer c es p q call.asked request reply → HasReply es call is q request reply
 call_replied c es are call is p q request reply answer = by call.answer refl is.answered
   where
     asked : slice_get es call.asked ≡ Some (Asked call.asked request)
     asked = request_event c es are call.asked request (answered_asked c q call.asked request (answers_at c es are q q call.asked request reply answer.there))
 
-    same : call.request ≡ request
+    same : is.request ≡ request
     same = request_there es call.asked call request is refl asked
 
-    there : slice_get es q ≡ Some (Answered q call.asked call.request reply)
+    there : slice_get es q ≡ Some (Answered q call.asked is.request reply)
     there = subst (λ r. slice_get es q ≡ Some (Answered q call.asked r reply)) (sym same) answer.there
 
-    by : (found : Option PlainAnswer) → call.answer ≡ found → HasAnswer es call found → HasReply es call q request reply
-    by None none has = absurd (has q reply there)
+    by : (found : Option PlainAnswer) → call.answer ≡ found → HasAnswer es is.request call found → HasReply es call is q request reply
+    by None none has = absurd (has.none q reply there)
     by (Some a) some has =
-        let first = answers_at c es are a.at a.at call.asked call.request a.reply has.there in
-        let second = answers_at c es are q q call.asked call.request reply there in
-        let place : a.at ≡ q = answered_once c a.at q call.asked call.request call.request first second in
-        let here : slice_get es q ≡ Some (Answered a.at call.asked call.request a.reply) = subst (λ n. slice_get es n ≡ Some (Answered a.at call.asked call.request a.reply)) place has.there in
-        let events : Some (Answered a.at call.asked call.request a.reply) ≡ Some (Answered q call.asked call.request reply) = sym here ∙ there in
-        let says : a.reply ≡ reply = cc in
+        let first = answers_at c es are a.at a.at call.asked is.request has.reply has.there in
+        let second = answers_at c es are q q call.asked is.request reply there in
+        let place : a.at ≡ q = answered_once c a.at q call.asked is.request is.request first second in
+        let here : slice_get es q ≡ Some (Answered a.at call.asked is.request has.reply) = subst (λ n. slice_get es n ≡ Some (Answered a.at call.asked is.request has.reply)) place has.there in
+        let events : Some (Answered a.at call.asked is.request has.reply) ≡ Some (Answered q call.asked is.request reply) = sym here ∙ there in
+        let says : has.reply ≡ reply = cc in
         record { same = same; answer = a; has = some; of_call = has; place = place; says = says }

@@ -12,7 +12,7 @@ use Rattle.fa_bodies.specs.declared.entry.EntryOut.{EntryOut}
 use Rattle.fa_bodies.specs.declared.requests.TheConstants.{ROOT_ID}
 use Rattle.fa_bodies.specs.Dirents.{PlainDirent}
 use Rattle.fa_bodies.specs.Requests.{PlainRequest, PlainBody, IsRequestBody}
-use Rattle.fa_bodies.specs.Requests.PlainBody.{Lookup, Forget, Getattr, Setattr, Readlink, Symlink, Mknod, Mkdir, Unlink, Rmdir, Rename, Link, Open, Read, Write, Release, Flush, Init, Opendir, Readdir, Releasedir, Create, BatchForget, Readdirplus, Passed}
+use Rattle.fa_bodies.specs.Requests.PlainBody.{Lookup, Forget, Getattr, Setattr, Readlink, Symlink, Mknod, Mkdir, Unlink, Rmdir, Rename, Link, Open, Read, Write, Release, Flush, Init, Opendir, Readdir, Releasedir, Create, BatchForget, Readdirplus, Rename2, Passed}
 use Rattle.fa_bodies.specs.Replies.{PlainReply, IsSuccessBody}
 use Rattle.fa_bodies.specs.Replies.PlainReply.{Refused, Empty, Entry, Created, Attributes, Opened, Written, Bytes, Listed, InitAnswer, Skipped}
 use Rattle.fa_bodies.proofs.CallerLemmas.{length-entries}
@@ -23,7 +23,8 @@ use Rattle.fa_ledger.specs.declared.name.NodeName.TheVariants.{Root, Given}
 use Rattle.fa_ledger.specs.declared.nodes.Lookups.{Lookups}
 use Rattle.fa_ledger.specs.Events.{AreEvents}
 use Rattle.fa_ledger.specs.Sums.{sum_behind}
-use Rattle.fa_ledger.specs.Counts.{node_of, is_dots, nodes_of_entry, nodes_of_listing, nodes_of_name, nodes_given, times_given, times_taken, lookups_given, lookups_taken, IsKnown}
+use Rattle.fa_ledger.specs.Mentions.{node_of, mentions}
+use Rattle.fa_ledger.specs.Counts.{is_dots, nodes_of_entry, nodes_of_listing, nodes_given, times_given, times_taken, lookups_given, lookups_taken, IsKnown}
 use Rattle.fa_ledger.specs.Names.{name_at}
 use Rattle.fa_ledger.specs.Shows.{IsLookups, IsNodeOf}
 use Rattle.fa_ledger.specs.parts.Steps.{is_named, given_again, IsTakenFrom}
@@ -169,7 +170,7 @@ listing_few [] = omega arith
 listing_few (d ∷ ds) = omega (arith, listing_few ds, entry_one d.entry d.name, length-append (nodes_of_entry d.entry d.name) (nodes_of_listing ds))
 
 -- the entry of a success gives one node at most
-name_one : (body : PlainBody) (entry : EntryOut) → length (nodes_of_name body entry) ≤ 1
+name_one : (body : PlainBody) (entry : EntryOut) → length ((mentions body).gives entry) ≤ 1
 name_one (Lookup name) entry = node_one entry
 name_one (Forget nlookup) entry = omega arith
 name_one (Getattr g) entry = omega arith
@@ -194,6 +195,7 @@ name_one (Releasedir r) entry = omega arith
 name_one (Create flags mode umask name) entry = omega arith
 name_one (BatchForget count items) entry = omega arith
 name_one (Readdirplus r) entry = omega arith
+name_one (Rename2 newdir flags old_name new_name) entry = omega arith
 name_one Passed entry = omega arith
 
 -- the listing of a reply is one
@@ -230,6 +232,7 @@ listed_few opcode (BatchForget count items) request body ds is says = absurd say
 listed_few opcode (Readdirplus r) request body ds is says =
     let same : ds ≡ says.0 = listed_same ds says.0 says.1 in
     omega (arith, ap length same, length-entries says.0 true body [] says.2, says.3, is.1.3.3.0)
+listed_few opcode (Rename2 newdir flags old_name new_name) request body ds is says = let clash = says.0 in absurd cc
 listed_few opcode Passed request body ds is says = let clash = says.0 in absurd cc
 
 -- a success gives at most 2 ^ 32 nodes

@@ -29,7 +29,7 @@ use Rattle.fa_ledger.specs.Keys.{key_eq, key_at, key_used, handle_used}
 use Rattle.fa_ledger.specs.Handles.{IsOpen, IsHandle}
 use Rattle.fa_ledger.specs.Kinds.{IsTreeRequest}
 use Rattle.fa_ledger.specs.Listings.{UsesHandle, IsListingIfAny, IsListedSoFar, offset_asked, IsNeverReached}
-use Rattle.fa_ledger.specs.Calls.{PlainCall, IsCall, IsAskedCall, IsHandleUsed, AreCallsOf}
+use Rattle.fa_ledger.specs.Calls.{PlainCall, IsAskedCall, IsHandleUsed, AreCallsOf}
 use Rattle.fa_ledger.specs.Refusals.{ListsOn}
 use Rattle.fa_ledger.specs.Shows.{IsKeyOf, IsOpenAs, IsPlaceOf, ArePlaces, place_in}
 use Rattle.fa_ledger.specs.parts.BookParts.{KeysShow, IsUsedIfAny}
@@ -37,7 +37,6 @@ use Rattle.fa_ledger.specs.parts.CallParts.{WaitsAt, waiting_of}
 use Rattle.fa_ledger.specs.parts.ListingParts.{place_of, listed_shown, listing_by, ListsNew, ListsStill, ListsStillIfAny, IsNotedBy}
 use Rattle.fa_ledger.specs.parts.Steps.{closed_once}
 use Rattle.fa_ledger.proofs.HandleLemmas.{key_same, key_self, handle_is_one, since_open}
-use Rattle.fa_ledger.proofs.CallLemmas.{call_at}
 use Rattle.fa_ledger.proofs.CallStepLemmas.{call_waits}
 use Rattle.fa_ledger.proofs.KeyLemmas.{open_is_some}
 use Rattle.fa_ledger.proofs.NodeLemmas.{listed_few}
@@ -176,21 +175,19 @@ lister_handle es key used handle x is named has =
     let there : IsHandleUsed es (Some used) x = subst (λ k. IsHandleUsed es k x) is has in
     there.1 ∙ ap (λ n. Some n) (handle_is_one es used there.0 handle there.2 named)
 
-lister : (before : List PlainEvent) (call : PlainCall) (r : PlainRequest) → call.request ≡ r → IsAskedCall before call → (offset : ℕ) → offset_asked r.body ≡ Some offset → IsLister before r call
-lister before call r same asked offset begins =
-    let is : IsListingIfAny before r call.listing = subst (λ q. IsListingIfAny before q call.listing) same asked.listing in
-    let has : IsHandleUsed before (key_used before r) call.handle = subst (λ q. IsHandleUsed before (key_used before q) call.handle) same asked.handle in
+lister : (before : List PlainEvent) (call : PlainCall) (r : PlainRequest) → IsAskedCall before r call → (offset : ℕ) → offset_asked r.body ≡ Some offset → IsLister before r call
+lister before call r asked offset begins =
     elim call.listing as (λ l. call.listing ≡ l → IsListingIfAny before r l → IsLister before r call) [
       | None ↦ λ none nothing. let clash : None ≡ Some offset = sym nothing ∙ begins in absurd cc
       | Some l ↦ λ some listing. record {
         handle = listing.handle;
         uses = listing.uses;
-        named = lister_handle before (key_used before r) listing.uses.key listing.handle call.handle listing.uses.used listing.uses.named has;
+        named = lister_handle before (key_used before r) listing.uses.key listing.handle call.handle listing.uses.used listing.uses.named asked.handle;
         began = listing.offset;
         begins = listing.asks;
         adrift = subst (λ (o : Option Listing). (entries : List PlainDirent) × IsListedSoFar before listing.handle listing.offset entries (option_map_or (λ x. x.adrift) o false)) (sym some) listing.adrift;
       }
-    ] refl is
+    ] refl asked.listing
 
 -- the key that a request uses, by its parts, and back
 key_parts : (before : List PlainEvent) (id : ℕ) (name : NodeName) (h : Option (ℕ × HandleKind)) (key : Key) → name_at before id ≡ Some name → option_and_then (key_at before id) h ≡ Some key
@@ -340,10 +337,8 @@ module _ (c : List Message) (m : Message) (es : List PlainEvent) (at asked : ℕ
       → IsListingAnswer c m es at asked r call opened ds
   answer_listing ds are event calls exact k call waits opened keys =
       let w = call_waits c m es are at asked r (Listed ds) event calls exact k call waits.there waits.numbered in
-      let is : IsCall es call = call_at es calls exact.each k call waits.there in
-      let says : IsAskedCall (take asked es) call = subst (λ n. IsAskedCall (take n es) call) waits.numbered is.asked in
       let begins = answer_begins c m at asked r ds event in
-      record { are = are; event = event; lister = lister (take asked es) call r w.0 says begins.0 begins.1; node = w.3; keys = keys }
+      record { are = are; event = event; lister = lister (take asked es) call r w.1 begins.0 begins.1; node = w.1.node; keys = keys }
 
   -- the places after an answer
   pub places_answered : (reply : PlainReply) → AreEvents c es → IsEvent c m (Answered at asked r reply)

@@ -1,6 +1,7 @@
 -- The books, and the answer to a request.
 use Rattle.std.proofs.Common.{◌≡◌, ◌≢◌, ℕ, ◌+◌, ◌<◌, ◌≤◌, Bool, cond, List, [], ◌∷◌, ◌++◌, length, take, Option, None, Some, refl, sym, ap, subst, ◌∙◌, inl, inr, arith}
-use Rattle.std.specs.Prelude.{◌↔◌, ◌||◌, ◌==◌, nat_eq, map, count_by, All, IsTrue, IfSome}
+use Rattle.std.specs.Option.{IsSome}
+use Rattle.std.specs.Prelude.{◌↔◌, ◌||◌, ◌==◌, nat_eq, map, count_by, All, IsTrue, IfSome, option_map}
 use Rattle.std.specs.Map.{lookup}
 use Rattle.std.proofs.lemmas.List.{length-map}
 use Rattle.fa_capture.specs.declared.limits.TheConstants.{MAX_MESSAGES}
@@ -40,6 +41,9 @@ use Rattle.fa_ledger.specs.parts.CallParts.{WaitsAt, waiting_of}
 use Rattle.fa_ledger.specs.parts.ListingParts.{place_of, noted, ListsNew, ListsStillIfAny, IsNotedBy}
 use Rattle.fa_ledger.specs.Listings.{count_to}
 use Rattle.fa_ledger.specs.parts.BookParts.{BooksShow, Stands, IsAnsweredRefusal}
+use Rattle.fa_ledger.specs.declared.operation.Operation.{Operation}
+use Rattle.fa_ledger.specs.Operations.{PlainOperation, operation_of, operation_shown}
+use Rattle.fa_ledger.proofs.OperationLemmas.{reply_done}
 use Rattle.fa_ledger.proofs.CallStepLemmas.{calls_kept, calls_answered, call_waits, waiting_call}
 use Rattle.fa_ledger.proofs.KeyLemmas.{opened_within, key_unmoved, none_unopened}
 use Rattle.fa_ledger.proofs.NodeLemmas.{node_kept, given_within, reply_few}
@@ -119,6 +123,17 @@ module _ (c : List Message) (m : Message) (es : List PlainEvent) (at asked : ℕ
 
   -- ---- the answer to a tree request
 
+  -- an answer to a call makes its operation
+  pub operation_there : Stands c m es (Answered at asked r reply) old → (place : ℕ) (call : PlainCall) → WaitsAt old.calls asked place call
+      → (found : Option Operation) → option_map operation_shown found ≡ operation_of r.body (Some reply) → IsSome found
+  operation_there stands place call waits found is =
+      let w = call_waits c m es stands.are at asked r reply stands.event old.calls stands.shown.calls place call waits.there waits.numbered in
+      some_found found (is ∙ (reply_done r m.bytes reply stands.event.2 w.1.tree).1)
+    where
+      some_found : {o : PlainOperation} (x : Option Operation) → option_map operation_shown x ≡ Some o → IsSome x
+      some_found None none = absurd cc
+      some_found (Some y) some = refl
+
   -- the event's place
   event_place : Stands c m es (Answered at asked r reply) old → at ≡ length es
   event_place stands = stands.event.0 ∙ sym stands.are.counted
@@ -128,31 +143,31 @@ module _ (c : List Message) (m : Message) (es : List PlainEvent) (at asked : ℕ
       → (p : IsPrepared c m es at asked r reply old names which) → name_at (take asked es) r.node ≡ Some p.waiting.node
   asked_name names which p =
       let w = call_waits c m es p.stands.are at asked r reply p.stands.event old.calls p.stands.shown.calls p.place p.call p.waits.there p.waits.numbered in
-      w.3 ∙ ap (λ n. Some n) (ap (λ x. x.node) (sym p.own))
+      w.1.node ∙ ap (λ n. Some n) (ap (λ x. x.node) (sym p.own))
 
   tree_asked : (names : List NodeName) (which : Option (Key × OpenOut))
       → IsPrepared c m es at asked r reply old names which → IsTreeRequest r.body
   tree_asked names which p =
-      (call_waits c m es p.stands.are at asked r reply p.stands.event old.calls p.stands.shown.calls p.place p.call p.waits.there p.waits.numbered).2
+      (call_waits c m es p.stands.are at asked r reply p.stands.event old.calls p.stands.shown.calls p.place p.call p.waits.there p.waits.numbered).1.tree
 
   -- the books show the answer
-  pub answer_shows : (new : Books) (names : List NodeName) (which : Option (Key × OpenOut)) (opens : Bool)
-      → (p : IsPrepared c m es at asked r reply old names which) → opens ≡ opens_new old.handles.opened.entries which → new.truncating ≡ old.truncating
+  pub answer_shows : (new : Books) (names : List NodeName) (which : Option (Key × OpenOut)) (opens : Bool) (o : PlainOperation)
+      → (p : IsPrepared c m es at asked r reply old names which) → operation_of r.body (Some reply) ≡ Some o → opens ≡ opens_new old.handles.opened.entries which → new.truncating ≡ old.truncating
       → IsGiven at names old.nodes.known.entries new.nodes.known.entries → IsOpenedBy asked which old.handles.opened.entries new.handles.opened.entries
       → (listed : Option ListedOn) → ListsStillIfAny old.handles.opened.entries p.waiting r.body reply listed → IsNotedBy asked listed old.listings.by_key.entries new.listings.by_key.entries
-      → new.calls ≡ with_answer old.calls asked (record { at = at; reply = reply; given = names; opens = opens }) → BooksShow (es ++ Answered at asked r reply ∷ []) new
-  answer_shows new names which opens p opens_is settled gave noted listed lists listed_so answered =
+      → new.calls ≡ with_answer old.calls asked o (record { at = at; given = names; opens = opens }) → BooksShow (es ++ Answered at asked r reply ∷ []) new
+  answer_shows new names which opens o p does opens_is settled gave noted listed lists listed_so answered =
       let place = event_place p.stands in
       let shown = p.stands.shown in
       let named = names_answered es at asked r reply old.nodes.known.entries names place shown.nodes p.may p.named in
       let opening_is : opening es (Answered at asked r reply) ≡ which =
       opening_answered es at asked r reply p.waiting.node names (asked_name names which p) named ∙ sym p.opens in
       let flag = tree_not_init es at asked r reply (tree_asked names which p) in
-      let answer : PlainAnswer = record { at = at; reply = reply; given = names; opens = opens } in
+      let answer : PlainAnswer = record { at = at; given = names; opens = opens } in
       let here : ℕ → List PlainEvent = λ n. es ++ Answered n asked r reply ∷ [] in
       let anew : IsTrue opens ↔ OpensAnew (here at) (length es) = opens_answered es at asked r reply old.handles.opened.entries place shown.keys which opening_is opens opens_is in
-      let calls : AreCallsOf (here (length es)) (with_answer old.calls asked answer) =
-      calls_answered c m es p.stands.are asked r reply (subst (λ n. IsEvent c m (Answered n asked r reply)) place p.stands.event) old.calls answer shown.calls place refl
+      let calls : AreCallsOf (here (length es)) (with_answer old.calls asked o answer) =
+      calls_answered c m es p.stands.are asked r reply (subst (λ n. IsEvent c m (Answered n asked r reply)) place p.stands.event) old.calls o answer shown.calls place does
       (subst (λ n. map (λ node. name_at (here n) node) (nodes_given r.body reply) ≡ map (λ name. Some name) names) place named)
       (subst (λ n. IsTrue opens ↔ OpensAnew (here n) (length es)) place anew) in
       record {
@@ -164,7 +179,7 @@ module _ (c : List Message) (m : Message) (es : List PlainEvent) (at asked : ℕ
         keys = keys_answered es at asked r reply old.handles.opened.entries new.handles.opened.entries place shown.keys which opening_is noted;
         places = places_answered c m es at asked r reply p.stands.are p.stands.event old.calls shown.calls p.place p.call p.waits old.handles.opened.entries shown.keys listed
             (subst (λ x. ListsStillIfAny old.handles.opened.entries x r.body reply listed) p.own lists) old.listings.by_key.entries new.listings.by_key.entries listed_so shown.places;
-        calls = subst (AreCallsOf (here at)) (sym answered) (subst (λ n. AreCallsOf (here n) (with_answer old.calls asked answer)) (sym place) calls);
+        calls = subst (AreCallsOf (here at)) (sym answered) (subst (λ n. AreCallsOf (here n) (with_answer old.calls asked o answer)) (sym place) calls);
       }
 
   -- what opens a key anew is more to be kept
@@ -203,7 +218,7 @@ module _ (c : List Message) (m : Message) (es : List PlainEvent) (at asked : ℕ
   no_call_waits stands none tree =
       let found = waiting_call c m es stands.are at asked r reply stands.event old.calls stands.shown.calls tree in
       let w = call_waits c m es stands.are at asked r reply stands.event old.calls stands.shown.calls found.0 found.1 found.2 found.3 in
-      none found.0 found.1 (record { there = found.2; numbered = found.3; unanswered = w.1 })
+      none found.0 found.1 (record { there = found.2; numbered = found.3; unanswered = w.0 })
 
   pub plain_shows : (new : Books) (settles : Bool)
       → Stands c m es (Answered at asked r reply) old → (IsTreeRequest r.body → ⊥) → IsTrue settles ↔ SettlesTruncation r.body reply → new.truncating ≡ (old.truncating || settles)

@@ -1,6 +1,6 @@
 -- A request that is noted in the books: what it leaves, what it takes, what it closes and what it adds.
 use Rattle.std.proofs.Common.{◌≡◌, ℕ, ◌<◌, ◌≤◌, Bool, true, false, cond, List, [], ◌∷◌, ◌++◌, length, Option, None, Some, refl, sym, ap, subst, ◌∙◌, inl, inr, arith}
-use Rattle.std.specs.Prelude.{◌↔◌, nat_eq, All, IsTrue, MatchOption, IsSomeAnd, is_none, option_and_then}
+use Rattle.std.specs.Prelude.{◌↔◌, nat_eq, All, IsTrue, MatchOption, IsSomeAnd, is_none, option_map, option_and_then}
 use Rattle.std.specs.Borrow.{Bor}
 use Rattle.std.specs.Map.{lookup}
 use Rattle.fa_capture.specs.declared.codes.TheConstants.{FORGOTTEN_TOO_OFTEN, CLOSED_HANDLE}
@@ -26,11 +26,15 @@ use Rattle.fa_ledger.specs.declared.key.Key.{Key}
 use Rattle.fa_ledger.specs.declared.listings.Listings.{Listings}
 use Rattle.fa_ledger.specs.declared.nodes.Lookups.{Lookups}
 use Rattle.fa_ledger.specs.declared.nodes.Nodes.{Nodes}
-use Rattle.fa_ledger.specs.Counts.{body_takes, request_takes, total_taken, lookups_given, IsKnown}
-use Rattle.fa_ledger.specs.Names.{named_nodes, nodes_named}
+use Rattle.fa_ledger.specs.Mentions.{mentions}
+use Rattle.fa_ledger.specs.Counts.{request_takes, total_taken, lookups_given, IsKnown}
+use Rattle.fa_ledger.specs.Names.{nodes_named}
 use Rattle.fa_ledger.specs.Keys.{key_eq, key_at, key_used, handle_used}
-use Rattle.fa_ledger.specs.Kinds.{IsTreeRequest}
+use Rattle.fa_ledger.specs.Kinds.{IsThere, IsTreeRequest}
 use Rattle.fa_ledger.specs.Handles.{is_closing, closing, IsDirect}
+use Rattle.fa_ledger.specs.declared.operation.Operation.{Operation}
+use Rattle.fa_ledger.specs.Operations.{PlainOperation, operation_of, operation_shown}
+use Rattle.fa_ledger.proofs.OperationLemmas.{operation_asked}
 use Rattle.fa_ledger.specs.Calls.{PlainCall, IsNegotiatedFlag, Truncates, IsHandleUsed, IsMark, IsAskedCall, AreCallsOf}
 use Rattle.fa_ledger.specs.Passing.{NamesKnown, TakesWithin, UsesOpen}
 use Rattle.fa_ledger.specs.Listings.{IsListingIfAny, offset_asked}
@@ -64,15 +68,20 @@ record NamesNone (b : PlainBody) : Type 0 where
   leaves : is_closing b ≡ false
   uses : handle_used b ≡ None
 
-names_none : (node : ℕ) (b : PlainBody) → named_nodes node b ≡ [] → NamesNone b
+names_none : (node : ℕ) (b : PlainBody) → (mentions b).names node ≡ [] → NamesNone b
 names_none node (Forget nlookup) none = record { no_tree = λ tree. tree; leaves = refl; uses = refl }
 names_none node (Init i) none = record { no_tree = λ tree. tree; leaves = refl; uses = refl }
 names_none node (BatchForget count items) none = record { no_tree = λ tree. tree; leaves = refl; uses = refl }
 names_none node Passed none = record { no_tree = λ tree. tree; leaves = refl; uses = refl }
 names_none node other none = absurd cc
 
+-- what is no operation is no tree request
+pub not_tree : (found : Option Operation) (body : PlainBody) → option_map operation_shown found ≡ operation_of body None → ((o : Operation) → found ≡ Some o → ⊥) → IsTreeRequest body → ⊥
+not_tree None body is none tree = subst IsThere (sym is) tree
+not_tree (Some o) body is none tree = none o refl
+
 -- only FORGET and BATCH_FORGET take
-pub takes_none : (node : ℕ) (b : RequestBody) → ((nlookup : ℕ) → b ≡ declared.Forget nlookup → ⊥) → ((count : ℕ) (items : Bor (List ℕ)) → b ≡ declared.BatchForget count items → ⊥) → but_root (body_takes node (body_shown b)) ≡ []
+pub takes_none : (node : ℕ) (b : RequestBody) → ((nlookup : ℕ) → b ≡ declared.Forget nlookup → ⊥) → ((count : ℕ) (items : Bor (List ℕ)) → b ≡ declared.BatchForget count items → ⊥) → but_root ((mentions (body_shown b)).takes node) ≡ []
 takes_none node (declared.Forget nlookup) no_forget no_batch = absurd (no_forget nlookup refl)
 takes_none node (declared.BatchForget count items) no_forget no_batch = absurd (no_batch count items refl)
 takes_none node other no_forget no_batch = refl
@@ -153,10 +162,10 @@ direct_marked es r opened (Some used) direct is has =
     subst (λ k. IsMark (IsDirect es) k direct) (sym is.key) mark
 
 -- the call that a tree request adds
-abbrev pub new_call : ℕ → PlainRequest → Names → Option ℕ → Bool → Bool → Option Listing → PlainCall
-new_call at r names handle direct truncates listing = record {
+abbrev pub new_call : ℕ → PlainOperation → Names → Option ℕ → Bool → Bool → Option Listing → PlainCall
+new_call at o names handle direct truncates listing = record {
   asked = at;
-  request = r;
+  operation = o;
   node = names.node;
   other = names.other;
   handle = handle;
@@ -293,17 +302,18 @@ module _ (c : List Message) (m : Message) (es : List PlainEvent) (at : ℕ) (r :
       }
 
   -- a tree request is one more call
-  pub shows_called : (names : Names) (used : Option Used) (handle : Option ℕ) (direct truncates : Bool) (listing : Option Listing) (calls : CallList)
-      → Stands c m es (Asked at r) b → AreNames es r names → IsUsedIfAny es r b.handles.opened.entries used → request_takes r ≡ [] → IsTreeRequest r.body
+  pub shows_called : (o : PlainOperation) (names : Names) (used : Option Used) (handle : Option ℕ) (direct truncates : Bool) (listing : Option Listing) (calls : CallList)
+      → Stands c m es (Asked at r) b → AreNames es r names → IsUsedIfAny es r b.handles.opened.entries used → request_takes r ≡ [] → operation_of r.body None ≡ Some o
       → MatchOption used (handle ≡ None) (λ u. IsSomeAnd handle (λ name. name ≡ u.handle.name)) → MatchOption used (direct ≡ false) (λ u. direct ≡ u.handle.direct)
       → ((before : List PlainEvent) → IsTrue b.truncating ↔ IsNegotiatedFlag before atomic_o_trunc → IsTrue truncates ↔ Truncates before r.body)
       → listing ≡ listing_by (offset_asked r.body) used (place_of b.listings.by_key.entries)
-      → calls ≡ b.calls ++ new_call at r names handle direct truncates listing ∷ []
+      → calls ≡ b.calls ++ new_call at o names handle direct truncates listing ∷ []
       → BooksShow (es ++ Asked at r ∷ []) (record b { calls = calls })
-  shows_called names used handle direct truncates listing calls stands are uses none tree named marked empties further pushed =
+  shows_called o names used handle direct truncates listing calls stands are uses none does named marked empties further pushed =
+      let tree : IsTreeRequest r.body = operation_asked r.body None o does in
       let number : at ≡ length es = stands.event.0 ∙ sym stands.are.counted in
-      let call : PlainCall = new_call at r names handle direct truncates listing in
-      let says : IsAskedCall es call = record {
+      let call : PlainCall = new_call at o names handle direct truncates listing in
+      let says : IsAskedCall es r call = record {
         tree = tree;
         node = are.node;
         other = are.other;
@@ -312,7 +322,7 @@ module _ (c : List Message) (m : Message) (es : List PlainEvent) (at : ℕ) (r :
         truncates = empties es stands.shown.truncating;
         listing = subst (IsListingIfAny es r) (sym further) (listing_asked es r b.handles.opened.entries used (place_of b.listings.by_key.entries) uses stands.shown.places);
       } in
-      let more : AreCallsOf (es ++ Asked (length es) r ∷ []) (b.calls ++ call ∷ []) = calls_asked c es stands.are r b.calls call stands.shown.calls number refl refl says in
+      let more : AreCallsOf (es ++ Asked (length es) r ∷ []) (b.calls ++ call ∷ []) = calls_asked c es stands.are r b.calls call stands.shown.calls number does refl says in
       record {
         truncating = mark_kept es at r atomic_o_trunc b.truncating stands.shown.truncating;
         nodes = nodes_kept es at r b.nodes.known.entries none stands.shown.nodes;

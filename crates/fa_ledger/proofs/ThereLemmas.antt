@@ -27,6 +27,7 @@ use Rattle.fa_ledger.proofs.EventThereLemmas.{event_there}
 use Rattle.fa_ledger.proofs.BalanceLemmas.{given_names}
 use Rattle.fa_ledger.proofs.AskedThereLemmas.{mark_there, asked_there}
 use Rattle.fa_ledger.proofs.FrontLemmas.{good_front}
+use Rattle.fa_ledger.proofs.OperationLemmas.{reply_done}
 
 -- the nodes that a reply gives may be given, where it passes
 gives_may : (before : List Message) (m : Message) (at p : ℕ) (r : PlainRequest) (reply : PlainReply) → Passes before m → IsEvent before m (Answered at p r reply)
@@ -46,8 +47,8 @@ module _ (c : List Message) (m : Message) (es : List PlainEvent) (calls : List P
   asked_goes : (r : PlainRequest) → IsEvent c m (Asked (length es) r) → Goes es (Asked (length es) r)
   asked_goes r is none =
       let other : ¬ IsTreeRequest r.body = λ tree.
-      asked_there c es are good r (passes_rules c es m r are passes is.1) tree (λ call number request waits says.
-      none (calls ++ call ∷ []) (calls_asked c es are r calls call exact number request waits says)) in
+      asked_there c es are good r (passes_rules c es m r are passes is.1) tree (λ call number does waits says.
+      none (calls ++ call ∷ []) (calls_asked c es are r calls call exact number does waits says)) in
       none calls (calls_kept es (Asked (length es) r) calls exact (λ p s same tree.
       let requests : r ≡ s = cc in
       other (subst (λ (x : PlainRequest). IsTreeRequest x.body) (sym requests) tree)) (λ at p s reply clash tree. absurd cc))
@@ -56,9 +57,14 @@ module _ (c : List Message) (m : Message) (es : List PlainEvent) (calls : List P
   answered_goes p r reply is none =
       let e : PlainEvent = Answered (length es) p r reply in
       let names = given_names c es are good (length es) p r reply (gives_may c m (length es) p r reply passes is) in
+      let other : ¬ IsTreeRequest r.body = λ tree.
+      let done = reply_done r m.bytes reply is.2 tree in
       mark_there (OpensAnew (es ++ e ∷ []) (length es)) (λ opens marks.
-      none (with_answer calls p (record { at = length es; reply = reply; given = names.0; opens = opens }))
-      (calls_answered c m es are p r reply is calls (record { at = length es; reply = reply; given = names.0; opens = opens }) exact refl refl names.1 marks))
+      none (with_answer calls p done.0 (record { at = length es; given = names.0; opens = opens }))
+      (calls_answered c m es are p r reply is calls done.0 (record { at = length es; given = names.0; opens = opens }) exact refl done.1 names.1 marks)) in
+      none calls (calls_kept es e calls exact (λ q s clash tree. absurd cc) (λ at q s said same tree.
+      let requests : r ≡ s = cc in
+      other (subst (λ (x : PlainRequest). IsTreeRequest x.body) (sym requests) tree)))
 
   event_goes : (e : PlainEvent) → IsEvent c m e → Goes es e
   event_goes (Asked at r) is =

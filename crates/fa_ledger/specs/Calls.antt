@@ -6,9 +6,9 @@ use Rattle.fa_bodies.specs.declared.init.InitIn.{InitIn}
 use Rattle.fa_bodies.specs.declared.init.Negotiated.{Negotiated}
 use Rattle.fa_bodies.specs.FlagBits.{atomic_o_trunc, o_trunc}
 use Rattle.fa_bodies.specs.Flags.{HasFlag, init_bits, open_bits}
-use Rattle.fa_bodies.specs.Requests.{PlainRequest, PlainBody, request_shown}
-use Rattle.fa_bodies.specs.Requests.PlainBody.{Lookup, Forget, Getattr, Setattr, Readlink, Symlink, Mknod, Mkdir, Unlink, Rmdir, Rename, Link, Open, Read, Write, Release, Flush, Init, Opendir, Readdir, Releasedir, Create, BatchForget, Readdirplus, Passed}
-use Rattle.fa_bodies.specs.Replies.{PlainReply, reply_shown}
+use Rattle.fa_bodies.specs.Requests.{PlainRequest, PlainBody}
+use Rattle.fa_bodies.specs.Requests.PlainBody.{Open, Init, Create}
+use Rattle.fa_bodies.specs.Replies.{PlainReply}
 use Rattle.fa_bodies.specs.Replies.PlainReply.{InitAnswer}
 use Rattle.fa_capture.specs.Message.{Message}
 use Rattle.fa_session.specs.Events.{PlainEvent}
@@ -21,29 +21,28 @@ use Rattle.fa_ledger.specs.declared.call.GivenNodes.TheVariants.{Nothing, One, S
 use Rattle.fa_ledger.specs.declared.key.Key.{Key}
 use Rattle.fa_ledger.specs.declared.name.NodeName.{NodeName}
 use Rattle.fa_ledger.specs.Events.{AreEvents}
-use Rattle.fa_ledger.specs.Counts.{nodes_given}
 use Rattle.fa_ledger.specs.Kinds.{IsTreeRequest}
 use Rattle.fa_ledger.specs.Names.{name_at, nodes_named}
-use Rattle.fa_ledger.specs.Operations.{PlainOperation, operation_of}
+use Rattle.fa_ledger.specs.Operations.{PlainOperation, operation_of, operation_shown}
+use Rattle.fa_ledger.specs.Counts.{nodes_given}
 use Rattle.fa_ledger.specs.Keys.{key_used}
 use Rattle.fa_ledger.specs.Listings.{IsListingIfAny}
 use Rattle.fa_ledger.specs.Handles.{times_opened, times_closed, OpensAt, IsHandle, IsDirect}
 
--- The answer of a tree request: the number of its message, what it says, the names of the nodes that it gives, and whether
--- it opens a file handle anew.
+-- The answer of a tree request: the number of its message, the names of the nodes that it gives, and whether it opens a file handle anew.
+-- What it says is in the call's operation.
 pub record PlainAnswer : Type 0 where
   pub at : ℕ
-  pub reply : PlainReply
   pub given : List NodeName
   pub opens : Bool
 
--- A tree request as it was sent: the number of its message, what it asks for, the names of the nodes that it names (the
--- second is the new directory of RENAME and the file of LINK), the name of the file handle that it uses, if any, and
--- whether that one is direct; whether its success empties a file that is there; and what it goes on from, if it lists. And
--- its answer, if it has one.
+-- A tree request: the number of its message; what it asks for, with what came of it; the names of the nodes that it names (the second is
+-- the new directory of RENAME and RENAME2, and the file of LINK), the name of the file handle that it uses, if any, and whether that one is direct;
+-- whether its success empties a file that is there; what it goes on from, if it lists; and its answer, if it has one. What came of it is
+-- an error or a success exactly where it has one (`calls_end_where_answered`).
 pub record PlainCall : Type 0 where
   pub asked : ℕ
-  pub request : PlainRequest
+  pub operation : PlainOperation
   pub node : NodeName
   pub other : Option NodeName
   pub handle : Option ℕ
@@ -51,10 +50,6 @@ pub record PlainCall : Type 0 where
   pub truncates : Bool
   pub listing : Option Listing
   pub answer : Option PlainAnswer
-
--- what a call asks for, and what came of it
-abbrev pub operation : PlainCall → Option PlainOperation
-operation call = operation_of call.request.body (option_map (λ answer. answer.reply) call.answer)
 
 -- both sides set this flag at INIT (`flags` of struct fuse_init_in and struct fuse_init_out of fuse.h)
 abbrev pub IsNegotiatedFlag : List PlainEvent → ℕ → Type 0
@@ -66,31 +61,9 @@ IsNegotiatedFlag es flag =
 -- Success empties a file that is there: CREATE with O_TRUNC (POSIX open), and OPEN with O_TRUNC where FUSE_ATOMIC_O_TRUNC
 -- (fuse.h) was negotiated before.
 abbrev pub Truncates : List PlainEvent → PlainBody → Type 0
-Truncates es (Lookup name) = ⊥
-Truncates es (Forget nlookup) = ⊥
-Truncates es (Getattr g) = ⊥
-Truncates es (Setattr s) = ⊥
-Truncates es Readlink = ⊥
-Truncates es (Symlink name target) = ⊥
-Truncates es (Mknod mode rdev umask name) = ⊥
-Truncates es (Mkdir mode umask name) = ⊥
-Truncates es (Unlink name) = ⊥
-Truncates es (Rmdir name) = ⊥
-Truncates es (Rename newdir old_name new_name) = ⊥
-Truncates es (Link oldnodeid new_name) = ⊥
 Truncates es (Open o) = HasFlag (open_bits o.flags) o_trunc × IsNegotiatedFlag es atomic_o_trunc
-Truncates es (Read r) = ⊥
-Truncates es (Write fh offset size write_flags lock_owner flags payload) = ⊥
-Truncates es (Release r) = ⊥
-Truncates es (Flush f) = ⊥
-Truncates es (Init i) = ⊥
-Truncates es (Opendir o) = ⊥
-Truncates es (Readdir r) = ⊥
-Truncates es (Releasedir r) = ⊥
 Truncates es (Create flags mode umask name) = HasFlag (open_bits flags) o_trunc
-Truncates es (BatchForget count items) = ⊥
-Truncates es (Readdirplus r) = ⊥
-Truncates es Passed = ⊥
+Truncates es other = ⊥
 
 -- the file handle that a request uses after these events: its name, or none
 abbrev pub IsHandleUsed : List PlainEvent → Option Key → Option ℕ → Type 0
@@ -102,40 +75,44 @@ abbrev pub IsMark : (Key → Type 0) → Option Key → Bool → Type 0
 IsMark Such None mark = mark ≡ false
 IsMark Such (Some key) mark = IsTrue mark ↔ Such key
 
--- what a call says of its request, after the events before it
-pub record IsAskedCall (before : List PlainEvent) (call : PlainCall) : Type 0 where
-  pub tree : IsTreeRequest call.request.body
-  pub node : name_at before call.request.node ≡ Some call.node
-  pub other : option_map (λ node. name_at before node) (slice_get (nodes_named call.request) 1) ≡ option_map (λ name. Some name) call.other
-  pub handle : IsHandleUsed before (key_used before call.request) call.handle
-  pub direct : IsMark (IsDirect before) (key_used before call.request) call.direct
-  pub truncates : IsTrue call.truncates ↔ Truncates before call.request.body
-  pub listing : IsListingIfAny before call.request call.listing
+-- what a call says of this request, after the events before it
+pub record IsAskedCall (before : List PlainEvent) (r : PlainRequest) (call : PlainCall) : Type 0 where
+  pub tree : IsTreeRequest r.body
+  pub node : name_at before r.node ≡ Some call.node
+  pub other : option_map (λ node. name_at before node) (slice_get (nodes_named r) 1) ≡ option_map (λ name. Some name) call.other
+  pub handle : IsHandleUsed before (key_used before r) call.handle
+  pub direct : IsMark (IsDirect before) (key_used before r) call.direct
+  pub truncates : IsTrue call.truncates ↔ Truncates before r.body
+  pub listing : IsListingIfAny before r call.listing
 
 -- the answer opens a handle anew: its key stood at zero before
 abbrev pub OpensAnew : List PlainEvent → ℕ → Type 0
 OpensAnew es q = (key : Key) × (out : OpenOut) × OpensAt es q key out × (times_opened (take q es) key ≡ times_closed (take q es) key)
 
--- what a call says of the answer to its request
-pub record IsAnswerOf (es : List PlainEvent) (call : PlainCall) (answer : PlainAnswer) : Type 0 where
-  pub there : slice_get es answer.at ≡ Some (Answered answer.at call.asked call.request answer.reply)
-  pub given : map (λ node. name_at (take (answer.at + 1) es) node) (nodes_given call.request.body answer.reply) ≡ map (λ name. Some name) answer.given
+-- what a call says of the answer to this request
+pub record IsAnswerOf (es : List PlainEvent) (r : PlainRequest) (call : PlainCall) (answer : PlainAnswer) : Type 0 where
+  pub reply : PlainReply
+  pub there : slice_get es answer.at ≡ Some (Answered answer.at call.asked r reply)
+  pub does : operation_of r.body (Some reply) ≡ Some call.operation
+  pub given : map (λ node. name_at (take (answer.at + 1) es) node) (nodes_given r.body reply) ≡ map (λ name. Some name) answer.given
   pub opens : IsTrue answer.opens ↔ OpensAnew es answer.at
 
--- the request is not answered
-abbrev pub HasNoAnswer : List PlainEvent → PlainCall → Type 0
-HasNoAnswer es call = (q : ℕ) (reply : PlainReply) → slice_get es q ≡ Some (Answered q call.asked call.request reply) → ⊥
+-- this request is not answered, and the call says so
+pub record HasNoAnswer (es : List PlainEvent) (r : PlainRequest) (call : PlainCall) : Type 0 where
+  pub none : (q : ℕ) (reply : PlainReply) → slice_get es q ≡ Some (Answered q call.asked r reply) → ⊥
+  pub does : operation_of r.body None ≡ Some call.operation
 
 -- this is the answer of the call, or it has none
-abbrev pub HasAnswer : List PlainEvent → PlainCall → Option PlainAnswer → Type 0
-HasAnswer es call None = HasNoAnswer es call
-HasAnswer es call (Some answer) = IsAnswerOf es call answer
+abbrev pub HasAnswer : List PlainEvent → PlainRequest → PlainCall → Option PlainAnswer → Type 0
+HasAnswer es r call None = HasNoAnswer es r call
+HasAnswer es r call (Some answer) = IsAnswerOf es r call answer
 
 -- this is the call of its request
 pub record IsCall (es : List PlainEvent) (call : PlainCall) : Type 0 where
-  pub there : slice_get es call.asked ≡ Some (Asked call.asked call.request)
-  pub asked : IsAskedCall (take call.asked es) call
-  pub answered : HasAnswer es call call.answer
+  pub request : PlainRequest
+  pub there : slice_get es call.asked ≡ Some (Asked call.asked request)
+  pub asked : IsAskedCall (take call.asked es) request call
+  pub answered : HasAnswer es request call call.answer
 
 -- The calls of events: each tree request once, by rising numbers.
 pub record AreCallsOf (es : List PlainEvent) (calls : List PlainCall) : Type 0 where
@@ -160,13 +137,13 @@ given_shown (Several names) = names.items
 
 -- what an answer shows
 abbrev pub answer_shown : Answer → PlainAnswer
-answer_shown a = record { at = a.at; reply = reply_shown a.reply; given = given_shown a.given; opens = a.opens }
+answer_shown a = record { at = a.at; given = given_shown a.given; opens = a.opens }
 
 -- what a call shows
 abbrev pub call_shown : Call → PlainCall
 call_shown c = record {
   asked = c.asked;
-  request = request_shown c.request;
+  operation = operation_shown c.operation;
   node = c.node;
   other = c.other;
   handle = c.handle;

@@ -5,11 +5,11 @@ use Rattle.fa_bodies.specs.declared.handles.OpenOut.{OpenOut}
 use Rattle.fa_bodies.specs.FlagBits.{fopen_direct_io}
 use Rattle.fa_bodies.specs.Flags.{HasFlag, fopen_bits}
 use Rattle.fa_bodies.specs.Requests.{PlainRequest, PlainBody}
-use Rattle.fa_bodies.specs.Requests.PlainBody.{Lookup, Forget, Getattr, Setattr, Readlink, Symlink, Mknod, Mkdir, Unlink, Rmdir, Rename, Link, Open, Read, Write, Release, Flush, Init, Opendir, Readdir, Releasedir, Create, BatchForget, Readdirplus, Passed}
+use Rattle.fa_bodies.specs.Requests.PlainBody.{Open, Release, Opendir, Releasedir, Create}
 use Rattle.fa_bodies.specs.Replies.{PlainReply}
 use Rattle.fa_bodies.specs.Replies.PlainReply.{Created, Opened}
 use Rattle.fa_session.specs.Events.{PlainEvent}
-use Rattle.fa_session.specs.Events.PlainEvent.{Asked, Answered, Notice}
+use Rattle.fa_session.specs.Events.PlainEvent.{Asked, Answered}
 use Rattle.fa_ledger.specs.declared.key.HandleKind.TheVariants.{File, Directory}
 use Rattle.fa_ledger.specs.declared.key.Key.{Key}
 use Rattle.fa_ledger.specs.Sums.{sum_of}
@@ -21,77 +21,28 @@ use Rattle.fa_ledger.specs.Keys.{key_eq, key_at, key_used}
 -- OPENDIR open under the name that their node had when they were asked; CREATE under the name that the node which it gives
 -- has after the answer.
 abbrev pub opened_by : (asked answered : List PlainEvent) → ℕ → PlainBody → PlainReply → Option (Key × OpenOut)
-opened_by asked answered node (Lookup name) reply = None
-opened_by asked answered node (Forget nlookup) reply = None
-opened_by asked answered node (Getattr g) reply = None
-opened_by asked answered node (Setattr s) reply = None
-opened_by asked answered node Readlink reply = None
-opened_by asked answered node (Symlink name target) reply = None
-opened_by asked answered node (Mknod mode rdev umask name) reply = None
-opened_by asked answered node (Mkdir mode umask name) reply = None
-opened_by asked answered node (Unlink name) reply = None
-opened_by asked answered node (Rmdir name) reply = None
-opened_by asked answered node (Rename newdir old_name new_name) reply = None
-opened_by asked answered node (Link oldnodeid new_name) reply = None
 opened_by asked answered node (Open o) (Opened out) = option_map (λ key. (key, out)) (key_at asked node (out.fh, File))
-opened_by asked answered node (Open o) reply = None
-opened_by asked answered node (Read r) reply = None
-opened_by asked answered node (Write fh offset size write_flags lock_owner flags payload) reply = None
-opened_by asked answered node (Release r) reply = None
-opened_by asked answered node (Flush f) reply = None
-opened_by asked answered node (Init i) reply = None
-opened_by asked answered node (Opendir o) (Opened out) =
-    option_map (λ key. (key, out)) (key_at asked node (out.fh, Directory))
-opened_by asked answered node (Opendir o) reply = None
-opened_by asked answered node (Readdir r) reply = None
-opened_by asked answered node (Releasedir r) reply = None
+opened_by asked answered node (Opendir o) (Opened out) = option_map (λ key. (key, out)) (key_at asked node (out.fh, Directory))
 opened_by asked answered node (Create flags mode umask name) (Created entry out) =
     option_map (λ key. (key, out)) (key_at answered entry.nodeid (out.fh, File))
-opened_by asked answered node (Create flags mode umask name) reply = None
-opened_by asked answered node (BatchForget count items) reply = None
-opened_by asked answered node (Readdirplus r) reply = None
-opened_by asked answered node Passed reply = None
+opened_by asked answered node body reply = None
 
 -- the key that an event opens after the events before it, and how
 abbrev pub opening : List PlainEvent → PlainEvent → Option (Key × OpenOut)
-opening before (Asked at r) = None
 opening before (Answered at asked r reply) =
     opened_by (take asked before) (before ++ Answered at asked r reply ∷ []) r.node r.body reply
-opening before (Notice at) = None
+opening before other = None
 
 -- the request closes one opening of its handle (FLUSH, at a descriptor's end, does not)
 abbrev pub is_closing : PlainBody → Bool
-is_closing (Lookup name) = false
-is_closing (Forget nlookup) = false
-is_closing (Getattr g) = false
-is_closing (Setattr s) = false
-is_closing Readlink = false
-is_closing (Symlink name target) = false
-is_closing (Mknod mode rdev umask name) = false
-is_closing (Mkdir mode umask name) = false
-is_closing (Unlink name) = false
-is_closing (Rmdir name) = false
-is_closing (Rename newdir old_name new_name) = false
-is_closing (Link oldnodeid new_name) = false
-is_closing (Open o) = false
-is_closing (Read r) = false
-is_closing (Write fh offset size write_flags lock_owner flags payload) = false
 is_closing (Release r) = true
-is_closing (Flush f) = false
-is_closing (Init i) = false
-is_closing (Opendir o) = false
-is_closing (Readdir r) = false
 is_closing (Releasedir r) = true
-is_closing (Create flags mode umask name) = false
-is_closing (BatchForget count items) = false
-is_closing (Readdirplus r) = false
-is_closing Passed = false
+is_closing other = false
 
 -- the key that an event closes after the events before it: at the request, whatever is answered
 abbrev pub closing : List PlainEvent → PlainEvent → Option Key
 closing before (Asked at r) = (if is_closing r.body then key_used before r else None)
-closing before (Answered at asked r reply) = None
-closing before (Notice at) = None
+closing before other = None
 
 -- once if an event opens or closes the key, and else not at all
 abbrev pub opens_once : Key → List PlainEvent → PlainEvent → ℕ

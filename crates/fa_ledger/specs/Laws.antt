@@ -1,5 +1,5 @@
 -- What holds of names, listings and calls.
-use Rattle.std.specs.Prelude.{◌≡◌, ◌≢◌, ◌↔◌, ℕ, suc, Bool, List, [], ◌∷◌, ◌++◌, slice_get, take, Option, Some}
+use Rattle.std.specs.Prelude.{◌≡◌, ◌≢◌, ◌↔◌, ℕ, suc, Bool, List, [], ◌∷◌, ◌++◌, slice_get, take, Option, Some, None}
 use Rattle.fa_bodies.specs.declared.requests.TheConstants.{ROOT_ID}
 use Rattle.fa_capture.specs.Message.{Message}
 use Rattle.fa_bodies.specs.Dirents.{PlainDirent}
@@ -7,7 +7,7 @@ use Rattle.fa_bodies.specs.Requests.{PlainRequest}
 use Rattle.fa_bodies.specs.Replies.{PlainReply}
 use Rattle.fa_session.specs.Allowed.{EachAllowed}
 use Rattle.fa_session.specs.Events.{PlainEvent}
-use Rattle.fa_session.specs.Events.PlainEvent.{Answered}
+use Rattle.fa_session.specs.Events.PlainEvent.{Asked, Answered}
 use Rattle.fa_ledger.specs.declared.call.Listing.{Listing}
 use Rattle.fa_ledger.specs.declared.key.Key.{Key}
 use Rattle.fa_ledger.specs.declared.name.NodeName.TheVariants.{Given}
@@ -15,10 +15,9 @@ use Rattle.fa_ledger.specs.Events.{AreEvents}
 use Rattle.fa_ledger.specs.Names.{name_at, IsNamedBy}
 use Rattle.fa_ledger.specs.Handles.{IsHandle}
 use Rattle.fa_ledger.specs.Listings.{UsesHandle, IsListedSoFar, IsListingIfAny, IsFirstWith, offset_asked, count_to}
-use Rattle.std.specs.Option.{option_map_or}
 use Rattle.fa_ledger.specs.declared.operation.Outcome.TheVariants.{Unanswered}
-use Rattle.fa_ledger.specs.Calls.{PlainCall, operation, IsCall, AreCalls, AreCallsOf}
-use Rattle.fa_ledger.specs.Operations.{PlainOperation, ended, ended_by}
+use Rattle.fa_ledger.specs.Calls.{PlainCall, IsCall, AreCalls, AreCallsOf}
+use Rattle.fa_ledger.specs.Operations.{ended}
 use Rattle.fa_ledger.specs.Passing.{AreGood}
 use Rattle.fa_ledger.specs.SoFar.{listing_so_far}
 
@@ -57,8 +56,8 @@ NamesLookBack =
 -- A call stays one when messages follow, but for an answer that is among these.
 abbrev pub CallsStay : Type 0
 CallsStay =
-    (es : List PlainEvent) (e : PlainEvent) (call : PlainCall) → IsCall es call
-    → ((at : ℕ) (reply : PlainReply) → e ≡ Answered at call.asked call.request reply → ⊥) → IsCall (es ++ e ∷ []) call
+    (es : List PlainEvent) (e : PlainEvent) (call : PlainCall) (is : IsCall es call)
+    → ((at : ℕ) (reply : PlainReply) → e ≡ Answered at call.asked is.request reply → ⊥) → IsCall (es ++ e ∷ []) call
 
 -- On a handle, after these events, one list of entries at most was listed so far for an offset, and it is adrift or is not.
 abbrev pub ListedIsOne : Type 0
@@ -85,12 +84,12 @@ abbrev pub CallsListSoFar : Type 0
 CallsListSoFar =
     (c : List Message) (es : List PlainEvent) (calls : List PlainCall) → AreEvents c es → AreCallsOf es calls
     → (place : ℕ) (call : PlainCall) (listing : Listing) → slice_get calls place ≡ Some call → call.listing ≡ Some listing
-    → (handle offset : ℕ) → UsesHandle (take call.asked es) call.request handle → offset_asked call.request.body ≡ Some offset
+    → (r : PlainRequest) → slice_get es call.asked ≡ Some (Asked call.asked r)
+    → (handle offset : ℕ) → UsesHandle (take call.asked es) r handle → offset_asked r.body ≡ Some offset
     → IsListedSoFar (take call.asked es) handle offset (listing_so_far calls place) listing.adrift
 
--- Each call of messages has an operation. What came of it is what the call's answer says: its error, or success; nothing where it has no
--- answer.
-abbrev pub CallsHaveOperations : Type 0
-CallsHaveOperations =
+-- What came of a call is an error or a success exactly where it has an answer.
+abbrev pub CallsEndWhereAnswered : Type 0
+CallsEndWhereAnswered =
     (c : List Message) (es : List PlainEvent) (call : PlainCall) → AreEvents c es → IsCall es call
-    → (o : PlainOperation) × (operation call ≡ Some o) × (ended o ≡ option_map_or (λ answer. ended_by answer.reply) call.answer Unanswered)
+    → (ended call.operation ≡ Unanswered) ↔ (call.answer ≡ None)

@@ -3,7 +3,8 @@
 -- the events of messages, and sums over them
 pub mod Events
 pub mod Sums
--- lookup counts, and the names of nodes
+-- what requests mention, lookup counts, and the names of nodes
+pub mod Mentions
 pub mod Counts
 pub mod Names
 -- keys of file handles, and which of them are open
@@ -13,9 +14,9 @@ pub mod Handles
 pub mod Listings
 -- which messages pass, good captures and first faults
 pub mod Passing
--- the calls of messages, and what an order may say of them
-pub mod Kinds
+-- what tree requests ask for, with what came of it, their calls, and what an order may say of them
 pub mod Operations
+pub mod Kinds
 pub mod Calls
 pub mod Choices
 -- the listing so far of a call

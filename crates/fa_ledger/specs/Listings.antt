@@ -4,7 +4,7 @@
 use Rattle.std.specs.Prelude.{◌≡◌, ◌≢◌, ◌↔◌, ℕ, suc, ◌<◌, ◌≤◌, ◌==◌, if◌then◌else◌, Bool, true, false, IsTrue, List, [], ◌∷◌, ◌++◌, slice_get, take, Option, Some, None, option_map}
 use Rattle.fa_bodies.specs.Dirents.{PlainDirent}
 use Rattle.fa_bodies.specs.Requests.{PlainRequest, PlainBody}
-use Rattle.fa_bodies.specs.Requests.PlainBody.{Lookup, Forget, Getattr, Setattr, Readlink, Symlink, Mknod, Mkdir, Unlink, Rmdir, Rename, Link, Open, Read, Write, Release, Flush, Init, Opendir, Readdir, Releasedir, Create, BatchForget, Readdirplus, Passed}
+use Rattle.fa_bodies.specs.Requests.PlainBody.{Readdir, Readdirplus}
 use Rattle.fa_bodies.specs.Replies.PlainReply.{Listed}
 use Rattle.fa_session.specs.Events.{PlainEvent}
 use Rattle.fa_session.specs.Events.PlainEvent.{Answered}
@@ -17,31 +17,9 @@ use Rattle.fa_ledger.specs.Handles.{IsHandle, IsShared}
 
 -- the offset at which a request begins to list, if it lists
 abbrev pub offset_asked : PlainBody → Option ℕ
-offset_asked (Lookup name) = None
-offset_asked (Forget nlookup) = None
-offset_asked (Getattr g) = None
-offset_asked (Setattr s) = None
-offset_asked Readlink = None
-offset_asked (Symlink name target) = None
-offset_asked (Mknod mode rdev umask name) = None
-offset_asked (Mkdir mode umask name) = None
-offset_asked (Unlink name) = None
-offset_asked (Rmdir name) = None
-offset_asked (Rename newdir old_name new_name) = None
-offset_asked (Link oldnodeid new_name) = None
-offset_asked (Open o) = None
-offset_asked (Read r) = None
-offset_asked (Write fh offset size write_flags lock_owner flags payload) = None
-offset_asked (Release r) = None
-offset_asked (Flush f) = None
-offset_asked (Init i) = None
-offset_asked (Opendir o) = None
 offset_asked (Readdir r) = Some r.offset
-offset_asked (Releasedir r) = None
-offset_asked (Create flags mode umask name) = None
-offset_asked (BatchForget count items) = None
 offset_asked (Readdirplus r) = Some r.offset
-offset_asked Passed = None
+offset_asked other = None
 
 -- how many entries there are up to and with the first that has this offset, if one has it
 abbrev pub count_to : ℕ → List PlainDirent → Option ℕ

@@ -1,14 +1,14 @@
 -- Node names: a node id with the reply since which it has been known, so that an id which is used again after it was
 -- forgotten has another name (this profile). And which nodes a request names.
-use Rattle.std.specs.Prelude.{◌≡◌, ℕ, suc, ◌<◌, ◌≤◌, ◌==◌, nat_lt, nat_le, Bool, false, ◌&&◌, ◌||◌, if◌then◌else◌, List, [], ◌∷◌, length, slice_get, take, Option, Some, option_map}
+use Rattle.std.specs.Prelude.{◌≡◌, ℕ, suc, ◌<◌, ◌≤◌, ◌==◌, nat_lt, nat_le, Bool, false, ◌&&◌, ◌||◌, if◌then◌else◌, List, length, slice_get, take, Option, Some, option_map}
 use Rattle.std.specs.Option.{option_map_or}
 use Rattle.fa_bodies.specs.declared.requests.TheConstants.{ROOT_ID}
-use Rattle.fa_bodies.specs.Requests.{PlainRequest, PlainBody}
-use Rattle.fa_bodies.specs.Requests.PlainBody.{Lookup, Forget, Getattr, Setattr, Readlink, Symlink, Mknod, Mkdir, Unlink, Rmdir, Rename, Link, Open, Read, Write, Release, Flush, Init, Opendir, Readdir, Releasedir, Create, BatchForget, Readdirplus, Passed}
+use Rattle.fa_bodies.specs.Requests.{PlainRequest}
 use Rattle.fa_session.specs.Events.{PlainEvent}
 use Rattle.fa_ledger.specs.declared.name.NodeName.{NodeName}
 use Rattle.fa_ledger.specs.declared.name.NodeName.TheVariants.{Root, Given}
 use Rattle.fa_ledger.specs.Sums.{least_below, each_below}
+use Rattle.fa_ledger.specs.Mentions.{mentions}
 use Rattle.fa_ledger.specs.Counts.{times_given, lookups_given, lookups_taken, IsCounted}
 
 -- ---- names
@@ -46,35 +46,6 @@ pub record IsNamedBy (es : List PlainEvent) (node g : ℕ) : Type 0 where
 
 -- ---- what a request names
 
--- the nodes that a request of this body names, where its header has this node: RENAME names the new directory too, and
--- LINK the file. FORGET, BATCH_FORGET, INIT and `Passed` name none.
-abbrev pub named_nodes : ℕ → PlainBody → List ℕ
-named_nodes node (Lookup name) = node ∷ []
-named_nodes node (Forget nlookup) = []
-named_nodes node (Getattr g) = node ∷ []
-named_nodes node (Setattr s) = node ∷ []
-named_nodes node Readlink = node ∷ []
-named_nodes node (Symlink name target) = node ∷ []
-named_nodes node (Mknod mode rdev umask name) = node ∷ []
-named_nodes node (Mkdir mode umask name) = node ∷ []
-named_nodes node (Unlink name) = node ∷ []
-named_nodes node (Rmdir name) = node ∷ []
-named_nodes node (Rename newdir old_name new_name) = node ∷ newdir ∷ []
-named_nodes node (Link oldnodeid new_name) = node ∷ oldnodeid ∷ []
-named_nodes node (Open o) = node ∷ []
-named_nodes node (Read r) = node ∷ []
-named_nodes node (Write fh offset size write_flags lock_owner flags payload) = node ∷ []
-named_nodes node (Release r) = node ∷ []
-named_nodes node (Flush f) = node ∷ []
-named_nodes node (Init i) = []
-named_nodes node (Opendir o) = node ∷ []
-named_nodes node (Readdir r) = node ∷ []
-named_nodes node (Releasedir r) = node ∷ []
-named_nodes node (Create flags mode umask name) = node ∷ []
-named_nodes node (BatchForget count items) = []
-named_nodes node (Readdirplus r) = node ∷ []
-named_nodes node Passed = []
-
 -- the nodes that a request names
 abbrev pub nodes_named : PlainRequest → List ℕ
-nodes_named r = named_nodes r.node r.body
+nodes_named r = (mentions r.body).names r.node

@@ -1,18 +1,18 @@
 -- Operations: what tree requests ask for, and what came of each (the bodies of requests and replies of fuse.h), without what a call has
 -- by name, which is nodes and file handles, and without what the tree does not look at.
-use Rattle.std.specs.Prelude.{ℕ, List, [], ◌∷◌, Option, Some, None, option_map}
+use Rattle.std.specs.Prelude.{ℕ, List, Option, Some, None, option_map}
 use Rattle.fa_bodies.specs.declared.attributes.AttrOut.{AttrOut}
 use Rattle.fa_bodies.specs.declared.entry.EntryOut.{EntryOut}
 use Rattle.fa_bodies.specs.declared.flags.OpenFlags.{OpenFlags}
 use Rattle.fa_bodies.specs.declared.handles.OpenOut.{OpenOut}
 use Rattle.fa_bodies.specs.declared.mode.Mode.{Mode}
+use Rattle.fa_bodies.specs.declared.rename_flags.RenameFlags.{RenameFlags}
 use Rattle.fa_bodies.specs.declared.setattr.SetattrIn.{SetattrIn}
 use Rattle.fa_bodies.specs.Dirents.{PlainDirent}
 use Rattle.fa_bodies.specs.Listing.{entries_left}
 use Rattle.fa_bodies.specs.Replies.{PlainReply}
 use Rattle.fa_bodies.specs.Replies.PlainReply.{Refused, Empty, Entry, Created, Attributes, Opened, Written, Bytes, Listed}
 use Rattle.fa_bodies.specs.Requests.{PlainBody}
-use Rattle.fa_ledger.specs.Counts.{node_of, nodes_of_listing}
 use Rattle.fa_ledger.specs.declared.operation.Action.{Action}
 use Rattle.fa_ledger.specs.declared.operation.Action.TheVariants as declared
 use Rattle.fa_ledger.specs.declared.operation.List.{List as ListRequest}
@@ -34,6 +34,7 @@ pub data PlainAction : Type 0 where
   Unlink : (name : List ℕ) → Outcome (Unit {0}) → PlainAction
   Rmdir : (name : List ℕ) → Outcome (Unit {0}) → PlainAction
   Rename : (old_name new_name : List ℕ) → Outcome (Unit {0}) → PlainAction
+  Rename2 : RenameFlags → (old_name new_name : List ℕ) → Outcome (Unit {0}) → PlainAction
   Link : (new_name : List ℕ) → Outcome EntryOut → PlainAction
   Open : Outcome OpenOut → PlainAction
   Read : (offset size : ℕ) → Outcome (List ℕ) → PlainAction
@@ -51,86 +52,85 @@ pub data PlainOperation : Type 0 where
   Lists : PlainList → PlainOperation
   Acts : PlainAction → PlainOperation
 
--- ---- what a reply, if there is one, comes to. A reply of another form answers no such request (IsSuccessBody of fa_bodies).
+-- ---- what came of a request
 
-abbrev pub done_as : Option PlainReply → Option (Outcome (Unit {0}))
-done_as None = Some Unanswered
-done_as (Some (Refused error)) = Some (Fails error)
-done_as (Some Empty) = Some (Succeeds tt)
-done_as other = None
+-- what a success says, by the form that its request has. A reply of another form answers no such request (IsSuccessBody of fa_bodies).
+abbrev pub done_in : PlainReply → Option (Unit {0})
+done_in Empty = Some tt
+done_in other = None
 
-abbrev pub entry_as : Option PlainReply → Option (Outcome EntryOut)
-entry_as None = Some Unanswered
-entry_as (Some (Refused error)) = Some (Fails error)
-entry_as (Some (Entry entry)) = Some (Succeeds entry)
-entry_as other = None
+abbrev pub entry_in : PlainReply → Option EntryOut
+entry_in (Entry entry) = Some entry
+entry_in other = None
 
-abbrev pub created_as : Option PlainReply → Option (Outcome (EntryOut × OpenOut))
-created_as None = Some Unanswered
-created_as (Some (Refused error)) = Some (Fails error)
-created_as (Some (Created entry handle)) = Some (Succeeds (entry, handle))
-created_as other = None
+abbrev pub created_in : PlainReply → Option (EntryOut × OpenOut)
+created_in (Created entry handle) = Some (entry, handle)
+created_in other = None
 
-abbrev pub attributes_as : Option PlainReply → Option (Outcome AttrOut)
-attributes_as None = Some Unanswered
-attributes_as (Some (Refused error)) = Some (Fails error)
-attributes_as (Some (Attributes attributes)) = Some (Succeeds attributes)
-attributes_as other = None
+abbrev pub attributes_in : PlainReply → Option AttrOut
+attributes_in (Attributes attributes) = Some attributes
+attributes_in other = None
 
-abbrev pub opened_as : Option PlainReply → Option (Outcome OpenOut)
-opened_as None = Some Unanswered
-opened_as (Some (Refused error)) = Some (Fails error)
-opened_as (Some (Opened handle)) = Some (Succeeds handle)
-opened_as other = None
+abbrev pub handle_in : PlainReply → Option OpenOut
+handle_in (Opened handle) = Some handle
+handle_in other = None
 
-abbrev pub written_as : Option PlainReply → Option (Outcome ℕ)
-written_as None = Some Unanswered
-written_as (Some (Refused error)) = Some (Fails error)
-written_as (Some (Written count)) = Some (Succeeds count)
-written_as other = None
+abbrev pub count_in : PlainReply → Option ℕ
+count_in (Written count) = Some count
+count_in other = None
 
-abbrev pub bytes_as : Option PlainReply → Option (Outcome (List ℕ))
-bytes_as None = Some Unanswered
-bytes_as (Some (Refused error)) = Some (Fails error)
-bytes_as (Some (Bytes bytes)) = Some (Succeeds bytes)
-bytes_as other = None
+abbrev pub bytes_in : PlainReply → Option (List ℕ)
+bytes_in (Bytes bytes) = Some bytes
+bytes_in other = None
 
-abbrev pub listed_as : Option PlainReply → Option (Outcome (List PlainDirent))
-listed_as None = Some Unanswered
-listed_as (Some (Refused error)) = Some (Fails error)
-listed_as (Some (Listed entries)) = Some (Succeeds entries)
-listed_as other = None
+abbrev pub dirents_in : PlainReply → Option (List PlainDirent)
+dirents_in (Listed entries) = Some entries
+dirents_in other = None
+
+-- what a reply, if there is one, comes to, where a success of the request says this
+abbrev pub came_to : {A : Type 0} → (PlainReply → Option A) → Option PlainReply → Option (Outcome A)
+came_to says None = Some Unanswered
+came_to says (Some (Refused error)) = Some (Fails error)
+came_to says (Some reply) = option_map (λ success. Succeeds success) (says reply)
 
 -- ---- which operation a request is
 
 -- what a request of this body, with this reply if any, asks for, and what came of it, if it is a tree request that does not list and may
 -- be answered so
 abbrev pub action_of : PlainBody → Option PlainReply → Option PlainAction
-action_of (PlainBody.Lookup name) reply = option_map (λ o. Lookup name o) (entry_as reply)
-action_of (PlainBody.Getattr g) reply = option_map (λ o. Getattr o) (attributes_as reply)
-action_of (PlainBody.Setattr s) reply = option_map (λ o. Setattr s o) (attributes_as reply)
-action_of PlainBody.Readlink reply = option_map (λ o. Readlink o) (bytes_as reply)
-action_of (PlainBody.Symlink name target) reply = option_map (λ o. Symlink name target o) (entry_as reply)
-action_of (PlainBody.Mknod mode rdev umask name) reply = option_map (λ o. Mknod mode umask name o) (entry_as reply)
-action_of (PlainBody.Mkdir mode umask name) reply = option_map (λ o. Mkdir mode umask name o) (entry_as reply)
-action_of (PlainBody.Unlink name) reply = option_map (λ o. Unlink name o) (done_as reply)
-action_of (PlainBody.Rmdir name) reply = option_map (λ o. Rmdir name o) (done_as reply)
-action_of (PlainBody.Rename newdir old_name new_name) reply = option_map (λ o. Rename old_name new_name o) (done_as reply)
-action_of (PlainBody.Link oldnodeid new_name) reply = option_map (λ o. Link new_name o) (entry_as reply)
-action_of (PlainBody.Open o) reply = option_map (λ o. Open o) (opened_as reply)
-action_of (PlainBody.Read r) reply = option_map (λ o. Read r.offset r.size o) (bytes_as reply)
-action_of (PlainBody.Write fh offset size write_flags lock_owner flags payload) reply = option_map (λ o. Write offset size payload o) (written_as reply)
-action_of (PlainBody.Opendir o) reply = option_map (λ o. Opendir o) (opened_as reply)
-action_of (PlainBody.Create flags mode umask name) reply = option_map (λ o. Create flags mode umask name o) (created_as reply)
-action_of other reply = None
+action_of (PlainBody.Lookup name) reply = option_map (λ o. Lookup name o) (came_to entry_in reply)
+action_of (PlainBody.Getattr g) reply = option_map (λ o. Getattr o) (came_to attributes_in reply)
+action_of (PlainBody.Setattr s) reply = option_map (λ o. Setattr s o) (came_to attributes_in reply)
+action_of PlainBody.Readlink reply = option_map (λ o. Readlink o) (came_to bytes_in reply)
+action_of (PlainBody.Symlink name target) reply = option_map (λ o. Symlink name target o) (came_to entry_in reply)
+action_of (PlainBody.Mknod mode rdev umask name) reply = option_map (λ o. Mknod mode umask name o) (came_to entry_in reply)
+action_of (PlainBody.Mkdir mode umask name) reply = option_map (λ o. Mkdir mode umask name o) (came_to entry_in reply)
+action_of (PlainBody.Unlink name) reply = option_map (λ o. Unlink name o) (came_to done_in reply)
+action_of (PlainBody.Rmdir name) reply = option_map (λ o. Rmdir name o) (came_to done_in reply)
+action_of (PlainBody.Rename newdir old_name new_name) reply = option_map (λ o. Rename old_name new_name o) (came_to done_in reply)
+action_of (PlainBody.Rename2 newdir flags old_name new_name) reply = option_map (λ o. Rename2 flags old_name new_name o) (came_to done_in reply)
+action_of (PlainBody.Link oldnodeid new_name) reply = option_map (λ o. Link new_name o) (came_to entry_in reply)
+action_of (PlainBody.Open o) reply = option_map (λ o. Open o) (came_to handle_in reply)
+action_of (PlainBody.Read r) reply = option_map (λ o. Read r.offset r.size o) (came_to bytes_in reply)
+action_of (PlainBody.Write fh offset size write_flags lock_owner flags payload) reply = option_map (λ o. Write offset size payload o) (came_to count_in reply)
+action_of (PlainBody.Opendir o) reply = option_map (λ o. Opendir o) (came_to handle_in reply)
+action_of (PlainBody.Create flags mode umask name) reply = option_map (λ o. Create flags mode umask name o) (came_to created_in reply)
+-- no tree requests, but for the two that list
+action_of (PlainBody.Forget nlookup) reply = None
+action_of (PlainBody.Release r) reply = None
+action_of (PlainBody.Flush f) reply = None
+action_of (PlainBody.Init i) reply = None
+action_of (PlainBody.Readdir r) reply = None
+action_of (PlainBody.Releasedir r) reply = None
+action_of (PlainBody.BatchForget count items) reply = None
+action_of (PlainBody.Readdirplus r) reply = None
+action_of PlainBody.Passed reply = None
 
 -- the same of any tree request
 abbrev pub operation_of : PlainBody → Option PlainReply → Option PlainOperation
-operation_of (PlainBody.Readdir r) reply = option_map (λ o. Lists (record { size = r.size; outcome = o })) (listed_as reply)
-operation_of (PlainBody.Readdirplus r) reply = option_map (λ o. Lists (record { size = r.size; outcome = o })) (listed_as reply)
+operation_of (PlainBody.Readdir r) reply = option_map (λ o. Lists (record { size = r.size; outcome = o })) (came_to dirents_in reply)
+operation_of (PlainBody.Readdirplus r) reply = option_map (λ o. Lists (record { size = r.size; outcome = o })) (came_to dirents_in reply)
 operation_of other reply = option_map (λ action. Acts action) (action_of other reply)
-
--- ---- what came of it
 
 -- what came of a request, where its success shows this
 abbrev pub with_success : {A B : Type 0} → (A → B) → Outcome A → Outcome B
@@ -154,6 +154,7 @@ action_ended (Mkdir mode umask name o) = bare o
 action_ended (Unlink name o) = o
 action_ended (Rmdir name o) = o
 action_ended (Rename old_name new_name o) = o
+action_ended (Rename2 flags old_name new_name o) = o
 action_ended (Link new_name o) = bare o
 action_ended (Open o) = bare o
 action_ended (Read offset size o) = bare o
@@ -164,42 +165,6 @@ action_ended (Create flags mode umask name o) = bare o
 abbrev pub ended : PlainOperation → Outcome (Unit {0})
 ended (Lists l) = bare l.outcome
 ended (Acts a) = action_ended a
-
--- what a reply comes to that answers such a request
-abbrev pub ended_by : PlainReply → Outcome (Unit {0})
-ended_by (Refused error) = Fails error
-ended_by other = Succeeds tt
-
--- the nodes that its success gives, in their order (Counts)
-abbrev pub nodes_of_list : Outcome (List PlainDirent) → List ℕ
-nodes_of_list (Fails error) = []
-nodes_of_list (Succeeds entries) = nodes_of_listing entries
-nodes_of_list Unanswered = []
-
-abbrev pub gives : PlainOperation → List ℕ
-gives (Lists l) = nodes_of_list l.outcome
-gives (Acts (Lookup name (Succeeds entry))) = node_of entry
-gives (Acts (Symlink name target (Succeeds entry))) = entry.nodeid ∷ []
-gives (Acts (Mknod mode umask name (Succeeds entry))) = entry.nodeid ∷ []
-gives (Acts (Mkdir mode umask name (Succeeds entry))) = entry.nodeid ∷ []
-gives (Acts (Link new_name (Succeeds entry))) = entry.nodeid ∷ []
-gives (Acts (Create flags mode umask name (Succeeds made))) = made.0.nodeid ∷ []
-gives other = []
-
--- ---- which only read
-
--- it leaves the tree as it is
-abbrev pub Reads : PlainAction → Type 0
-Reads (Lookup name o) = Unit {0}
-Reads (Getattr o) = Unit {0}
-Reads (Readlink o) = Unit {0}
-Reads (Read offset size o) = Unit {0}
-Reads (Opendir o) = Unit {0}
-Reads other = ⊥
-
-abbrev pub OnlyReads : PlainOperation → Type 0
-OnlyReads (Lists l) = Unit {0}
-OnlyReads (Acts a) = Reads a
 
 -- ---- what the code's words show
 
@@ -214,6 +179,7 @@ action_shown (declared.Mkdir mode umask name o) = Mkdir mode umask name.now o
 action_shown (declared.Unlink name o) = Unlink name.now o
 action_shown (declared.Rmdir name o) = Rmdir name.now o
 action_shown (declared.Rename old_name new_name o) = Rename old_name.now new_name.now o
+action_shown (declared.Rename2 flags old_name new_name o) = Rename2 flags old_name.now new_name.now o
 action_shown (declared.Link new_name o) = Link new_name.now o
 action_shown (declared.Open o) = Open o
 action_shown (declared.Read offset size o) = Read offset size (with_success (λ bytes. bytes.now) o)

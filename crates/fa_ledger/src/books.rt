@@ -27,10 +27,9 @@ use crate::handles::{Handle, Handles};
 use crate::key::Key;
 use crate::listings::{ListedOn, Listings, entries_count};
 use crate::name::NodeName;
-use crate::naming::{
-    handle_used, is_closing, is_tree_request, nodes_named, offset_asked, truncates,
-};
+use crate::naming::{handle_used, is_closing, nodes_named, offset_asked, truncates};
 use crate::nodes::Nodes;
+use crate::operation::Operation;
 use fa_bodies::{Reply, Request, RequestBody};
 use fa_capture::codes;
 use fa_session::Event;
@@ -203,10 +202,10 @@ impl<'a> Books<'a> {
         ensures memory { IfErr result (λ error. (error ≡ Memory) × IsTreeRequest (body_shown request.now.body)) }
         ensures unchanged { OnErr result (AreSame self.old self.new) }
     {
-        if is_tree_request(&request.body) {
+        if let Some(operation) = Operation::of(&request.body, None) {
             let call = Call {
                 asked: at,
-                request: *request,
+                operation,
                 node: names.node,
                 other: names.other,
                 handle: used.map(|used| used.handle.name),
@@ -285,6 +284,7 @@ impl<'a> Books<'a> {
         ensures memory { IfErr result (λ error. (error ≡ Memory) × (WhereStands (Answered at asked (request_shown request.now) (reply_shown reply.entry)) self.old (λ c m es. IsMoreKept es (Answered at asked (request_shown request.now) (reply_shown reply.entry))))) }
         ensures unchanged { OnErr result (AreSame self.old self.new) }
     {
+        let operation = Operation::of(&request.body, Some(&reply)).unwrap();
         let given = names_given(self.alloc, &self.nodes, at, &request.body, &reply)?;
         let names = given.names();
         let opened = opened(waiting.node, names, &request.body, &reply);
@@ -297,13 +297,8 @@ impl<'a> Books<'a> {
         self.nodes.give(names, at);
         let opens = self.handles.note_opened(asked, opened);
         self.listings.note(asked, listed);
-        let answer = Answer {
-            at,
-            reply,
-            given,
-            opens,
-        };
-        self.calls.answer(asked, answer);
+        let answer = Answer { at, given, opens };
+        self.calls.answer(asked, operation, answer);
         Ok(())
     }
 }

@@ -1,15 +1,12 @@
 //! Calls: the requests that act on the tree, each with what it names and with its answer.
 
 ghost use Rattle.std.specs.Prelude.{◌≡◌, ◌↔◌, IsTrue};
-ghost use Rattle.std.specs.Option.{option_map};
-ghost use Rattle.fa_ledger.specs.Calls.{call_shown, given_shown, operation};
+ghost use Rattle.fa_ledger.specs.Calls.{call_shown, given_shown};
 ghost use Rattle.fa_ledger.specs.Choices.{Allows};
-ghost use Rattle.fa_ledger.specs.Operations.{operation_shown};
 
 use crate::name::NodeName;
 use crate::operation::Operation;
 use crate::placing::may_be_placed;
-use fa_bodies::{Reply, Request};
 use std::slice;
 
 /// The names of the nodes that an answer gives, in its order. [`names`](GivenNodes::names) has them as a slice.
@@ -38,13 +35,11 @@ impl GivenNodes {
     }
 }
 
-/// The answer to a tree request.
+/// The answer to a tree request. What it says is in the call's operation.
 #[derive(Debug, Drop)]
-pub struct Answer<'a> {
+pub struct Answer {
     /// The number of its message.
     pub at: u32,
-    /// What the server says.
-    pub reply: Reply<'a>,
     /// The nodes that it gives.
     pub given: GivenNodes,
     /// Whether it opens a file handle that was not open.
@@ -71,11 +66,11 @@ pub struct Listing {
 pub struct Call<'a> {
     /// The number of the request's message.
     pub asked: u32,
-    /// What it asks for.
-    pub request: Request<'a>,
+    /// What it asks for, with what came of it.
+    pub operation: Operation<'a>,
     /// The node of its header, by name.
     pub node: NodeName,
-    /// The new directory of a RENAME, and the file of a LINK.
+    /// The new directory of a RENAME or RENAME2, and the file of a LINK.
     pub other: Option<NodeName>,
     /// The file handle that it uses: the number of the request whose answer opened its key when that last stood at zero.
     pub handle: Option<u32>,
@@ -88,22 +83,10 @@ pub struct Call<'a> {
     /// What a READDIR or READDIRPLUS goes on from, answered or not. None for any other call.
     pub listing: Option<Listing>,
     /// Its answer.
-    pub answer: Option<Answer<'a>>,
+    pub answer: Option<Answer>,
 }
 
-impl<'a> Call<'a> {
-    /// What it asks for, and what came of it. Each call of a ledger has such.
-    ///
-    /// Takes no memory, in constant time.
-    pub fn operation(&self) -> Option<Operation<'a>>
-        ensures { option_map operation_shown result ≡ operation (call_shown self.now) }
-    {
-        Operation::of(
-            &self.request.body,
-            self.answer.as_ref().map(|answer| &answer.reply),
-        )
-    }
-
+impl Call<'_> {
     /// Whether an order may name the request with this count of bytes written, or without one: an answered request
     /// without one; one that was not answered and changes the tree without one as well, but for a WRITE, which has a
     /// count of at most its size; one that only reads, and was not answered, not at all (this profile).
@@ -114,7 +97,7 @@ impl<'a> Call<'a> {
     {
         match &self.answer {
             Some(_) => wrote.is_none(),
-            None => may_be_placed(&self.request.body, wrote),
+            None => may_be_placed(&self.operation, wrote),
         }
     }
 }

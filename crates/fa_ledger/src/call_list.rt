@@ -4,11 +4,13 @@ ghost use Rattle.std.specs.Prelude.{◌≡◌, ℕ, List, [], ◌∷◌, ◌++�
 ghost use Rattle.std.specs.Option.{option_map_or};
 ghost use Rattle.std.specs.List.Sorted.{IsStrictlyIncreasing};
 ghost use Rattle.fa_ledger.specs.Calls.{PlainCall, answer_shown, call_shown};
+ghost use Rattle.fa_ledger.specs.Operations.{operation_shown};
 ghost use Rattle.fa_ledger.specs.parts.CallParts.{IsNewNumber, Waits, WaitsAt, waiting_of};
 ghost use Rattle.fa_ledger.specs.parts.Steps.{with_answer};
 
 use crate::call::{Answer, Call, Listing};
 use crate::name::NodeName;
+use crate::operation::Operation;
 use indexmap::IndexMap;
 use std::alloc::{AllocError, Global};
 use std::marker::Model;
@@ -89,16 +91,18 @@ impl<'a> CallList<'a> {
         })
     }
 
-    /// Notes the answer of the call that waits under this number.
+    /// Notes the answer of the call that waits under this number, and what it makes of its operation.
     ///
     /// Takes no memory, in expected constant time.
-    pub fn answer(&mut self, asked: u32, answer: Answer<'a>)
+    pub fn answer(&mut self, asked: u32, operation: Operation<'a>, answer: Answer)
         requires waits { Waits self.old asked }
         requires rising { IsStrictlyIncreasing (map (λ call. call.asked) self.old) }
-        ensures { self.new ≡ with_answer self.old asked (answer_shown answer.entry) }
+        ensures { self.new ≡ with_answer self.old asked (operation_shown operation.entry) (answer_shown answer) }
     {
         let place = self.waiting.swap_remove(&asked).unwrap();
-        self.list[place].answer = Some(answer);
+        let call = &mut self.list[place];
+        call.operation = operation;
+        call.answer = Some(answer);
     }
 
     /// The calls.

@@ -7,9 +7,11 @@ ghost use Rattle.fa_bodies.specs.Listing.{entries_left};
 ghost use Rattle.fa_bodies.specs.Requests.{body_shown};
 ghost use Rattle.fa_bodies.specs.Replies.{reply_shown};
 ghost use Rattle.fa_ledger.specs.Calls.{given_shown};
-ghost use Rattle.fa_ledger.specs.Counts.{node_of, nodes_given, nodes_of_entry, nodes_of_listing};
+ghost use Rattle.fa_ledger.specs.Mentions.{node_of};
+ghost use Rattle.fa_ledger.specs.Counts.{nodes_given, nodes_of_entry, nodes_of_listing};
 ghost use Rattle.fa_ledger.specs.Passing.{MayBeGiven};
-ghost use Rattle.fa_ledger.specs.parts.Steps.{as_list, opened_with, given_to, SettlesTruncation, IsListedReply};
+ghost use Rattle.std.specs.Option.{option_to_list};
+ghost use Rattle.fa_ledger.specs.parts.Steps.{opened_with, given_to, SettlesTruncation, IsListedReply};
 
 use crate::call::GivenNodes;
 use crate::key::{HandleKind, Key};
@@ -21,7 +23,7 @@ use std::alloc::{AllocError, Global};
 
 /// The node that an entry gives, if any: 0 stands for none.
 fn node_of(entry: &EntryOut) -> Option<u64>
-    ensures { as_list result ≡ node_of entry.now }
+    ensures { option_to_list result ≡ node_of entry.now }
 {
     if entry.nodeid == 0 {
         return None;
@@ -31,7 +33,7 @@ fn node_of(entry: &EntryOut) -> Option<u64>
 
 /// The node that an entry of a listing gives, if any: a READDIR and the entries `.` and `..` give none.
 fn node_listed(dirent: &Dirent<'_>) -> Option<u64>
-    ensures { as_list result ≡ nodes_of_entry (dirent_shown dirent.now).entry (dirent_shown dirent.now).name }
+    ensures { option_to_list result ≡ nodes_of_entry (dirent_shown dirent.now).entry (dirent_shown dirent.now).name }
 {
     let entry = dirent.entry.as_ref()?;
     if dirent.name == b".".as_slice() || dirent.name == b"..".as_slice() {
@@ -42,7 +44,7 @@ fn node_listed(dirent: &Dirent<'_>) -> Option<u64>
 
 /// The node that a reply which is no listing gives, if any.
 fn node_given(body: &RequestBody<'_>, reply: &Reply<'_>) -> Option<u64>
-    ensures { (IsListedReply (reply_shown reply.now) → ⊥) → as_list result ≡ nodes_given (body_shown body.now) (reply_shown reply.now) }
+    ensures { (IsListedReply (reply_shown reply.now) → ⊥) → option_to_list result ≡ nodes_given (body_shown body.now) (reply_shown reply.now) }
 {
     match reply {
         Reply::Entry(entry) => match body {

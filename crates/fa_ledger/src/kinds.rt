@@ -1,35 +1,37 @@
-//! What kind a request is.
+//! What kind an operation is.
 
 ghost use Rattle.std.specs.Prelude.{◌↔◌, IsTrue};
-ghost use Rattle.fa_bodies.specs.Requests.{body_shown, request_shown};
-ghost use Rattle.fa_bodies.specs.Replies.{reply_shown};
-ghost use Rattle.fa_ledger.specs.Kinds.{IsReadingRequest, KeepsTree};
+ghost use Rattle.fa_ledger.specs.Kinds.{OnlyReads, KeepsTree};
+ghost use Rattle.fa_ledger.specs.Operations.{operation_shown};
 
-use fa_bodies::{Reply, Request, RequestBody};
+use crate::operation::{Action, Operation, Outcome};
 
-/// Whether a request of this body is a tree request that only reads: it asks, and leaves the tree as it is (this profile).
-///
-/// Takes no memory, in constant time.
-pub fn only_reads(body: &RequestBody<'_>) -> bool
-    ensures { IsTrue result ↔ IsReadingRequest (body_shown body.now) }
-{
-    matches!(
-        body,
-        RequestBody::Lookup { .. }
-            | RequestBody::Getattr(_)
-            | RequestBody::Readlink
-            | RequestBody::Read(_)
-            | RequestBody::Opendir(_)
-            | RequestBody::Readdir(_)
-            | RequestBody::Readdirplus(_)
-    )
-}
+impl Operation<'_> {
+    /// Whether it asks, and leaves the tree as it is, whatever came of it (this profile).
+    ///
+    /// Takes no memory, in constant time.
+    pub fn only_reads(&self) -> bool
+        ensures { IsTrue result ↔ OnlyReads (operation_shown self.now) }
+    {
+        match self {
+            Operation::List(_) => true,
+            Operation::Act(action) => matches!(
+                action,
+                Action::Lookup { .. }
+                    | Action::Getattr { .. }
+                    | Action::Readlink { .. }
+                    | Action::Read { .. }
+                    | Action::Opendir { .. }
+            ),
+        }
+    }
 
-/// Whether a request that is answered so leaves the tree as it is: the reply is an error, or the request only reads.
-///
-/// Takes no memory, in constant time.
-pub fn keeps_tree(request: &Request<'_>, reply: &Reply<'_>) -> bool
-    ensures { IsTrue result ↔ KeepsTree (request_shown request.now) (reply_shown reply.now) }
-{
-    matches!(reply, Reply::Refused(_)) || only_reads(&request.body)
+    /// Whether a request that came to this leaves the tree as it is: it failed, or it only reads.
+    ///
+    /// Takes no memory, in constant time.
+    pub fn keeps_tree(&self) -> bool
+        ensures { IsTrue result ↔ KeepsTree (operation_shown self.now) }
+    {
+        matches!(self.ended(), Outcome::Fails(_)) || self.only_reads()
+    }
 }

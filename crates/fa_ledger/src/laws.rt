@@ -1,6 +1,6 @@
 //! What holds of names, events, listings and calls. Each function does nothing: its contract is the law.
 
-ghost use Rattle.fa_ledger.specs.Laws.{NameIsLeast, EventsAreOne, EventsAreThere, CallsAreOne, CallsAreThere, NamesLookBack, CallsStay, ListedIsOne, ListedIsThere, CountIsFirst, CallsListSoFar, CallsHaveOperations};
+ghost use Rattle.fa_ledger.specs.Laws.{NameIsLeast, EventsAreOne, EventsAreThere, CallsAreOne, CallsAreThere, NamesLookBack, CallsStay, ListedIsOne, ListedIsThere, CountIsFirst, CallsListSoFar, CallsEndWhereAnswered};
 
 /// A node other than the root has the name of the least event since which it is counted.
 pub fn name_is_least()
@@ -58,7 +58,7 @@ pub fn calls_list_so_far()
     ensures { CallsListSoFar }
 {}
 
-/// Each call of messages has an operation, and what came of it is what the call's answer says.
-pub fn calls_have_operations()
-    ensures { CallsHaveOperations }
+/// What came of a call is an error or a success exactly where it has an answer.
+pub fn calls_end_where_answered()
+    ensures { CallsEndWhereAnswered }
 {}

@@ -23,7 +23,6 @@ mod placing;
 pub use call::{Answer, Call, GivenNodes, Listing};
 pub use calls::Calls;
 pub use error::LedgerError;
-pub use kinds::{keeps_tree, only_reads};
 pub use ledger::Ledger;
 pub use name::NodeName;
 pub use operation::{Action, List, Operation, Outcome};

@@ -9,7 +9,6 @@ ghost use Rattle.fa_ledger.specs.Calls.{IsNegotiatedFlag, Truncates};
 ghost use Rattle.fa_ledger.specs.Handles.{is_closing};
 ghost use Rattle.fa_ledger.specs.Listings.{offset_asked};
 ghost use Rattle.fa_ledger.specs.Keys.{handle_used};
-ghost use Rattle.fa_ledger.specs.Kinds.{IsTreeRequest};
 ghost use Rattle.fa_ledger.specs.Names.{nodes_named};
 ghost use Rattle.fa_ledger.specs.parts.Steps.{named_list};
 
@@ -22,7 +21,7 @@ use fa_bodies::{FattrFlags, GetattrFlags, OpenFlags, Request, RequestBody};
 pub(crate) struct Named {
     /// That of its header.
     pub node: u64,
-    /// The new directory of RENAME, and the file of LINK.
+    /// The new directory of RENAME and RENAME2, and the file of LINK.
     pub other: Option<u64>,
 }
 
@@ -35,7 +34,7 @@ pub(crate) fn nodes_named(request: &Request<'_>) -> Option<Named>
         | RequestBody::Init(_)
         | RequestBody::BatchForget { .. }
         | RequestBody::Passed => return None,
-        RequestBody::Rename { newdir, .. } => Some(*newdir),
+        RequestBody::Rename { newdir, .. } | RequestBody::Rename2 { newdir, .. } => Some(*newdir),
         RequestBody::Link { oldnodeid, .. } => Some(*oldnodeid),
         RequestBody::Lookup { .. }
         | RequestBody::Getattr(_)
@@ -103,22 +102,6 @@ pub(crate) fn is_closing(body: &RequestBody<'_>) -> bool
     ensures { result ≡ is_closing (body_shown body.now) }
 {
     matches!(body, RequestBody::Release(_) | RequestBody::Releasedir(_))
-}
-
-/// Whether a request acts on the tree.
-pub(crate) fn is_tree_request(body: &RequestBody<'_>) -> bool
-    ensures { IsTrue result ↔ IsTreeRequest (body_shown body.now) }
-{
-    !matches!(
-        body,
-        RequestBody::Init(_)
-            | RequestBody::Forget { .. }
-            | RequestBody::BatchForget { .. }
-            | RequestBody::Release(_)
-            | RequestBody::Releasedir(_)
-            | RequestBody::Flush(_)
-            | RequestBody::Passed
-    )
 }
 
 /// Whether success empties a file that is there, where OPEN may do so or not.

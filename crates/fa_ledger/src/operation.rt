@@ -5,10 +5,11 @@ ghost use Rattle.std.specs.Option.{option_map};
 ghost use Rattle.fa_bodies.specs.Listing.{entries_left};
 ghost use Rattle.fa_bodies.specs.Requests.{body_shown};
 ghost use Rattle.fa_bodies.specs.Replies.{reply_shown};
-ghost use Rattle.fa_ledger.specs.Operations.{action_shown, operation_shown, with_success, action_of, operation_of, action_ended, bare, done_as, entry_as, created_as, attributes_as, opened_as, written_as, bytes_as, listed_as};
+ghost use Rattle.fa_ledger.specs.Operations.{action_shown, operation_shown, with_success, action_of, operation_of, action_ended, ended, bare, came_to, done_in, entry_in, created_in, attributes_in, handle_in, count_in, bytes_in, dirents_in};
 
 use fa_bodies::{
-    AttrOut, Entries, EntryOut, Mode, OpenFlags, OpenOut, Reply, RequestBody, SetattrIn,
+    AttrOut, Entries, EntryOut, Mode, OpenFlags, OpenOut, RenameFlags, Reply, RequestBody,
+    SetattrIn,
 };
 
 /// What came of a request whose success says a `T`.
@@ -80,6 +81,13 @@ pub enum Action<'a> {
         new_name: &'a [u8],
         outcome: Outcome<()>,
     },
+    /// The same by RENAME2, or the two names exchange their files, by the flags.
+    Rename2 {
+        flags: RenameFlags,
+        old_name: &'a [u8],
+        new_name: &'a [u8],
+        outcome: Outcome<()>,
+    },
     /// A file, which is the call's `other`, gets a further name in a directory.
     Link {
         new_name: &'a [u8],
@@ -135,7 +143,7 @@ pub enum Operation<'a> {
 
 /// What a reply that says no more than that it is done comes to.
 fn done_as(reply: Option<&Reply<'_>>) -> Option<Outcome<()>>
-    ensures { result ≡ done_as (option_map (λ r. reply_shown r.now) reply.entry) }
+    ensures { result ≡ came_to done_in (option_map (λ r. reply_shown r.now) reply.entry) }
 {
     match reply {
         None => Some(Outcome::Unanswered),
@@ -147,7 +155,7 @@ fn done_as(reply: Option<&Reply<'_>>) -> Option<Outcome<()>>
 
 /// What an entry comes to.
 fn entry_as(reply: Option<&Reply<'_>>) -> Option<Outcome<EntryOut>>
-    ensures { result ≡ entry_as (option_map (λ r. reply_shown r.now) reply.entry) }
+    ensures { result ≡ came_to entry_in (option_map (λ r. reply_shown r.now) reply.entry) }
 {
     match reply {
         None => Some(Outcome::Unanswered),
@@ -159,7 +167,7 @@ fn entry_as(reply: Option<&Reply<'_>>) -> Option<Outcome<EntryOut>>
 
 /// What an entry with an open handle comes to.
 fn created_as(reply: Option<&Reply<'_>>) -> Option<Outcome<(EntryOut, OpenOut)>>
-    ensures { result ≡ created_as (option_map (λ r. reply_shown r.now) reply.entry) }
+    ensures { result ≡ came_to created_in (option_map (λ r. reply_shown r.now) reply.entry) }
 {
     match reply {
         None => Some(Outcome::Unanswered),
@@ -171,7 +179,7 @@ fn created_as(reply: Option<&Reply<'_>>) -> Option<Outcome<(EntryOut, OpenOut)>>
 
 /// What attributes come to.
 fn attributes_as(reply: Option<&Reply<'_>>) -> Option<Outcome<AttrOut>>
-    ensures { result ≡ attributes_as (option_map (λ r. reply_shown r.now) reply.entry) }
+    ensures { result ≡ came_to attributes_in (option_map (λ r. reply_shown r.now) reply.entry) }
 {
     match reply {
         None => Some(Outcome::Unanswered),
@@ -183,7 +191,7 @@ fn attributes_as(reply: Option<&Reply<'_>>) -> Option<Outcome<AttrOut>>
 
 /// What an open handle comes to.
 fn opened_as(reply: Option<&Reply<'_>>) -> Option<Outcome<OpenOut>>
-    ensures { result ≡ opened_as (option_map (λ r. reply_shown r.now) reply.entry) }
+    ensures { result ≡ came_to handle_in (option_map (λ r. reply_shown r.now) reply.entry) }
 {
     match reply {
         None => Some(Outcome::Unanswered),
@@ -195,7 +203,7 @@ fn opened_as(reply: Option<&Reply<'_>>) -> Option<Outcome<OpenOut>>
 
 /// What a count of bytes written comes to.
 fn written_as(reply: Option<&Reply<'_>>) -> Option<Outcome<u32>>
-    ensures { result ≡ written_as (option_map (λ r. reply_shown r.now) reply.entry) }
+    ensures { result ≡ came_to count_in (option_map (λ r. reply_shown r.now) reply.entry) }
 {
     match reply {
         None => Some(Outcome::Unanswered),
@@ -207,7 +215,7 @@ fn written_as(reply: Option<&Reply<'_>>) -> Option<Outcome<u32>>
 
 /// What bytes come to.
 fn bytes_as<'a>(reply: Option<&Reply<'a>>) -> Option<Outcome<&'a [u8]>>
-    ensures { option_map (λ o. with_success (λ bytes. bytes.now) o) result ≡ bytes_as (option_map (λ r. reply_shown r.now) reply.entry) }
+    ensures { option_map (λ o. with_success (λ bytes. bytes.now) o) result ≡ came_to bytes_in (option_map (λ r. reply_shown r.now) reply.entry) }
 {
     match reply {
         None => Some(Outcome::Unanswered),
@@ -219,7 +227,7 @@ fn bytes_as<'a>(reply: Option<&Reply<'a>>) -> Option<Outcome<&'a [u8]>>
 
 /// What entries of a directory come to.
 fn listed_as<'a>(reply: Option<&Reply<'a>>) -> Option<Outcome<Entries<'a>>>
-    ensures { option_map (λ o. with_success entries_left o) result ≡ listed_as (option_map (λ r. reply_shown r.now) reply.entry) }
+    ensures { option_map (λ o. with_success entries_left o) result ≡ came_to dirents_in (option_map (λ r. reply_shown r.now) reply.entry) }
 {
     match reply {
         None => Some(Outcome::Unanswered),
@@ -302,6 +310,17 @@ impl<'a> Action<'a> {
                 new_name: *new_name,
                 outcome: done_as(reply)?,
             }),
+            RequestBody::Rename2 {
+                flags,
+                old_name,
+                new_name,
+                ..
+            } => Some(Action::Rename2 {
+                flags: *flags,
+                old_name: *old_name,
+                new_name: *new_name,
+                outcome: done_as(reply)?,
+            }),
             RequestBody::Link { new_name, .. } => Some(Action::Link {
                 new_name: *new_name,
                 outcome: entry_as(reply)?,
@@ -368,7 +387,8 @@ impl<'a> Action<'a> {
             Action::Readlink { outcome } | Action::Read { outcome, .. } => outcome.bare(),
             Action::Unlink { outcome, .. }
             | Action::Rmdir { outcome, .. }
-            | Action::Rename { outcome, .. } => *outcome,
+            | Action::Rename { outcome, .. }
+            | Action::Rename2 { outcome, .. } => *outcome,
             Action::Open { outcome } | Action::Opendir { outcome } => outcome.bare(),
             Action::Write { outcome, .. } => outcome.bare(),
             Action::Create { outcome, .. } => outcome.bare(),
@@ -377,8 +397,20 @@ impl<'a> Action<'a> {
 }
 
 impl<'a> Operation<'a> {
-    /// What a request of this body asks for that was answered so, or was not answered, if it is a tree request. No reply
-    /// of another form than that of its success answers a request; it would count as none.
+    /// What came of it, but for what its success says.
+    ///
+    /// Takes no memory, in constant time.
+    pub fn ended(&self) -> Outcome<()>
+        ensures { result ≡ ended (operation_shown self.now) }
+    {
+        match self {
+            Operation::List(list) => list.outcome.bare(),
+            Operation::Act(action) => action.ended(),
+        }
+    }
+
+    /// What a request of this body asks for that was answered so, or was not answered, if it is a tree request. A reply
+    /// of another form than that of its success makes no operation; the message grammar refuses it before.
     ///
     /// Takes no memory, in constant time.
     pub(crate) fn of(body: &RequestBody<'a>, reply: Option<&Reply<'a>>) -> Option<Operation<'a>>

@@ -4,7 +4,7 @@ use crate::messages::{answer_code, asked_bytes, said, to_server};
 use bitflags::Flags;
 use fa_bodies::{
     Attributes, EntryOut, FattrFlags, FopenFlags, GetattrFlags, InitFlags, Kind, Mode, OpenFlags,
-    OpenOut, ReadIn, ReleaseIn, Reply, RequestBody, SetattrIn, request,
+    OpenOut, ReadIn, ReleaseIn, RenameFlags, Reply, RequestBody, SetattrIn, request,
 };
 use fa_capture::codes::REPLY_BODY;
 use std::alloc::{AllocError, Global};
@@ -86,6 +86,14 @@ fn of_release(r: &ReleaseIn) -> Numbers {
     numbers(&[r.fh, flags, u64::from(r.release_flags), r.lock_owner])
 }
 
+fn of_rename_flags(flags: RenameFlags) -> u64 {
+    match flags {
+        RenameFlags::Replace => 0,
+        RenameFlags::NoReplace => 1,
+        RenameFlags::Exchange => 2,
+    }
+}
+
 /// The number of a body's operation, and the fields in it that are numbers. READLINK and what is read by the header alone
 /// have none.
 fn of_request(body: &RequestBody<'_>) -> (u32, Numbers) {
@@ -99,6 +107,9 @@ fn of_request(body: &RequestBody<'_>) -> (u32, Numbers) {
         RequestBody::Unlink { .. } => (10, numbers(&[])),
         RequestBody::Rmdir { .. } => (11, numbers(&[])),
         RequestBody::Rename { newdir, .. } => (12, numbers(&[newdir])),
+        RequestBody::Rename2 { newdir, flags, .. } => {
+            (45, numbers(&[newdir, of_rename_flags(flags)]))
+        }
         RequestBody::Link { oldnodeid, .. } => (13, numbers(&[oldnodeid])),
         RequestBody::Open(o) => (14, numbers(&[u64::from(o.flags.bits())])),
         RequestBody::Read(r) => (15, of_read(&r)),
@@ -192,6 +203,11 @@ fn bytes_of<'a>(body: &RequestBody<'a>) -> (&'a [u8], &'a [u8]) {
             old_name,
             new_name,
             ..
+        }
+        | RequestBody::Rename2 {
+            old_name,
+            new_name,
+            ..
         } => (old_name, new_name),
         RequestBody::Link { new_name, .. } => (new_name, b""),
         RequestBody::Write { payload, .. } => (payload, b""),
@@ -279,6 +295,16 @@ const WRITE: [u8; 43] = [
     0x20, 0x21, 0x22, 0x23, 0x24, 0x25, 0x26, 0x27, b'a', 0x00, b'c',
 ];
 
+/// A RENAME2 of these flags. Each byte in front of the names but those of the flags is its own place.
+#[rattlefmt::skip]
+fn rename2(flags: u8) -> [u8; 27] {
+    [
+        // newdir, flags, padding, the names
+        0x00, 0x01, 0x02, 0x03, 0x04, 0x05, 0x06, 0x07, flags, 0x00, 0x00, 0x00, 0x0c, 0x0d, 0x0e, 0x0f,
+        b'n', b'a', b'm', b'e', 0x00, b'o', b't', b'h', b'e', b'r', 0x00,
+    ]
+}
+
 /// A BATCH_FORGET of one item.
 #[rattlefmt::skip]
 const BATCH_FORGET: [u8; 24] = [
@@ -320,6 +346,16 @@ fn fields_of_requests(rt: HostRuntime) {
     }
     let written = is_read(rt.alloc(), 16, &WRITE, READ, (b"a\0c", b""));
     assert!(rt; written == Some(true));
+    for flags in 0..3 {
+        let renamed = is_read(
+            rt.alloc(),
+            45,
+            &rename2(flags),
+            &[(0, 8), (8, 4)],
+            (b"name", b"other"),
+        );
+        assert!(rt; renamed == Some(true), "RENAME2 with the flags {flags}");
+    }
     let forgotten = is_read(
         rt.alloc(),
         42,

@@ -35,7 +35,7 @@ pub fn head_code(bytes: &[u8]) -> u16 {
 }
 
 /// An operation, how many zeros stand before the names in its body, and the names.
-const BODIES: [(u32, usize, &[u8]); 19] = [
+const BODIES: [(u32, usize, &[u8]); 20] = [
     (opcodes::LOOKUP, 0, b"a\0"),
     (opcodes::FORGET, 8, b""),
     (opcodes::GETATTR, 16, b""),
@@ -55,6 +55,7 @@ const BODIES: [(u32, usize, &[u8]); 19] = [
     (opcodes::RELEASEDIR, 24, b""),
     (opcodes::CREATE, 16, b"a\0"),
     (opcodes::BATCH_FORGET, 8, b""),
+    (opcodes::RENAME2, 16, b"a\0b\0"),
 ];
 
 /// The body of such a request as [`asked_bytes`] makes.

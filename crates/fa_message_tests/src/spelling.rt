@@ -49,7 +49,7 @@ const RESIZING: [u8; 88] = [
 ];
 
 /// What a call of a sample adds in `all_requests`: the opcode, the node and the body.
-const REQUESTS: [(u32, u64, &[u8]); 25] = [
+const REQUESTS: [(u32, u64, &[u8]); 26] = [
     (2, 5, b"\x02\0\0\0\0\0\0\0"),
     (3, 5, b"\0\0\0\0\0\0\0\0\0\0\0\0\0\0\0\0"),
     (3, 5, b"\x01\0\0\0\0\0\0\0\x06\0\0\0\0\0\0\0"),
@@ -61,6 +61,7 @@ const REQUESTS: [(u32, u64, &[u8]); 25] = [
     (10, 5, b"a\0"),
     (11, 5, b"a\0"),
     (12, 5, b"\x06\0\0\0\0\0\0\0a\0b\0"),
+    (45, 5, b"\x06\0\0\0\0\0\0\0\x01\0\0\0\0\0\0\0a\0b\0"),
     (13, 5, b"\x06\0\0\0\0\0\0\0a\0"),
     (14, 5, b"\0\0\0\0\0\0\0\0"),
     (14, 5, b"\0\x02\0\0\0\0\0\0"),
@@ -91,6 +92,7 @@ fn all_requests(sample: Sample) -> Sample {
         .unlink(4, 5, b"a")
         .rmdir(4, 5, b"a")
         .rename(4, 5, b"a", 6, b"b")
+        .rename2(4, 5, b"a", 1, 6, b"b")
         .link(4, 5, b"a", 6)
         .open(4, 5)
         .open_with(4, 5, OpenFlags::TRUNC)

@@ -125,7 +125,7 @@ rank_is_there call not = by call.answer refl
     by : (answer : Option PlainAnswer) → call.answer ≡ answer → ⊥
     by None is = not (record { group = Unanswered; position = call.asked }) (is, refl)
     by (Some answer) is =
-        either (KeepsTree call.request answer.reply) (λ known. elim known [
+        either (KeepsTree call.operation) (λ known. elim known [
           | inl keeps ↦ not (record { group = Unchanging; position = answer.at }) (answer, is, keeps, refl)
           | inr changes ↦ not (record { group = Changing; position = answer.at }) (answer, is, changes, refl)
         ])
@@ -178,7 +178,7 @@ module _ (c : List Message) (calls : List PlainCall) (are : AreCalls c calls) wh
   -- each call of the events is in the list
   call_in_list : (call : PlainCall) → IsCall are.events call → Contains calls call
   call_in_list call is =
-      let found = call_with calls call.asked (are.exact.complete call.asked call.request is.there is.asked.tree) in
+      let found = call_with calls call.asked (are.exact.complete call.asked is.request is.there is.asked.tree) in
       let there = call_at are.events calls are.exact.each found.0 found.1 found.2 in
       let same : found.1 ≡ call = call_is_one c are.events are.are found.1 call there is found.3 in
       (found.0, slice_get_within calls found.0 found.1 found.2, get_or_from_slice_get calls found.0 found.1 call found.2 ∙ same)

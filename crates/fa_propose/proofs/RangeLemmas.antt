@@ -1,37 +1,44 @@
 -- The numbers of a proposal's entries are those that an order text can have.
-use Rattle.std.proofs.Common.{◌≡◌, ℕ, ◌≤◌, List, [], ◌∷◌, ◌++◌, length, Option, None, Some, arith}
+use Rattle.std.proofs.Common.{◌≡◌, ℕ, ◌<◌, ◌≤◌, ◌^◌, List, length, Option, None, Some, arith}
 use Rattle.std.specs.Prelude.{All}
 use Rattle.std.proofs.lemmas.Option.{slice_get_within}
 use Rattle.std.proofs.lemmas.List.Elements.{All-nil, All-push}
 use Rattle.fa_capture.specs.declared.limits.TheConstants.{MAX_MESSAGES}
 use Rattle.fa_capture.specs.Message.{Message}
 use Rattle.fa_bodies.specs.Requests.{PlainBody, IsWithinLimit}
-use Rattle.fa_bodies.specs.Requests.PlainBody.{Write}
+use Rattle.fa_bodies.specs.Replies.{PlainReply}
 use Rattle.fa_session.specs.Events.PlainEvent.{Asked}
-use Rattle.fa_ledger.specs.Calls.{PlainAnswer, PlainCall}
-use Rattle.fa_ledger.proofs.CallerLemmas.{message_of}
+use Rattle.fa_ledger.specs.declared.operation.Outcome.TheVariants.{Unanswered}
+use Rattle.fa_ledger.specs.Calls.{PlainCall}
+use Rattle.fa_ledger.specs.Operations.{PlainOperation, operation_of}
+use Rattle.fa_ledger.specs.Operations.PlainAction.{Write}
+use Rattle.fa_ledger.specs.Operations.PlainOperation.{Acts}
+use Rattle.fa_ledger.proofs.CallerLemmas.{message_of, lost_made, operation_made}
 use Rattle.fa_tree.specs.State.{TreeState}
 use Rattle.fa_order.specs.declared.entry.Entry.{Entry}
 use Rattle.fa_order.specs.Order.{IsCount, IsInRange}
-use Rattle.fa_propose.specs.Proposals.{whole_count, count_proposed, entry_of, IsCandidate, IsProposedSoFar, IsProposal}
+use Rattle.fa_propose.specs.Proposals.{count_proposed, entry_of, IsCandidate, IsProposedSoFar, IsProposal}
 use Rattle.fa_propose.specs.Proposals.IsProposedSoFar.{begun, further}
 use Rattle.fa_propose.proofs.PlacedLemmas.{tried_is_candidate}
 
--- the count that is proposed for a request which stays within the file limit
-whole_within : (body : PlainBody) → IsWithinLimit body → IsCount (whole_count body)
-whole_within (Write fh offset size write_flags lock_owner flags payload) limit = omega (arith, limit)
-whole_within other limit = tt
+-- a WRITE that stays within the file limit
+write_within : (body : PlainBody) (offset size : ℕ) (payload : List ℕ) → IsWithinLimit body → operation_of body None ≡ Some (Acts (Write offset size payload Unanswered)) → size < 2 ^ 32
+write_within (PlainBody.Write fh at count write_flags lock_owner flags bytes) offset size payload limit is = let same : count ≡ size = cc in omega (arith, same, limit)
+write_within other offset size payload limit is = absurd cc
 
-count_within : (answer : Option PlainAnswer) (body : PlainBody) → IsWithinLimit body → IsCount (count_proposed answer body)
-count_within None body limit = whole_within body limit
-count_within (Some answer) body limit = tt
+-- the count that is proposed for a request within it
+count_within : (body : PlainBody) (reply : Option PlainReply) → IsWithinLimit body → (o : PlainOperation) → operation_of body reply ≡ Some o → IsCount (count_proposed o)
+count_within body reply limit (Acts (Write offset size payload Unanswered)) is = write_within body offset size payload limit (lost_made body reply (Acts (Write offset size payload Unanswered)) is)
+count_within body reply limit other is = tt
 
 -- the entry of a call that may come next
 candidate_within : (c : List Message) (es : List Entry) (call : PlainCall) → length c ≤ MAX_MESSAGES → IsCandidate c es call → IsInRange (entry_of call)
 candidate_within c es call short may =
-    let message = message_of c may.events may.are call.asked (Asked call.asked call.request) may.exact.there in
+    let is = may.exact in
+    let message = message_of c may.events may.are call.asked (Asked call.asked is.request) is.there in
     let within = slice_get_within c call.asked message.0 message.1 in
-    record { at = omega (arith, within, short); wrote = count_within call.answer call.request.body message.2.1.1.limit }
+    let made = operation_made may.events call is in
+    record { at = omega (arith, within, short); wrote = count_within is.request.body made.0 message.2.1.1.limit call.operation made.1 }
 
 -- the entries that were proposed so far
 proposed_within : (c : List Message) (start : TreeState) {es : List Entry} {tree : TreeState} → length c ≤ MAX_MESSAGES → IsProposedSoFar c start es tree → All IsInRange es

@@ -1,10 +1,9 @@
 -- Ranks: a call has one, and two calls of the same messages have different ones.
-use Rattle.std.proofs.Common.{◌≡◌, ℕ, List, Some, None, refl, sym, ap, subst, ◌∙◌}
+use Rattle.std.proofs.Common.{◌≡◌, ℕ, List, Some, None, refl, sym, ap, ◌∙◌}
 use Rattle.std.specs.Prelude.{slice_get}
 use Rattle.std.proofs.lemmas.Option.{same_Some}
 use Rattle.fa_capture.specs.Message.{Message}
 use Rattle.fa_ledger.specs.Calls.{PlainAnswer, PlainCall, AreCalls}
-use Rattle.fa_ledger.specs.Kinds.{KeepsTree}
 use Rattle.fa_check.proofs.CallerLemmas.{one_answered, one_place}
 use Rattle.fa_propose.specs.declared.rank.Group.{Group}
 use Rattle.fa_propose.specs.declared.rank.Group.TheVariants.{Unchanging, Changing, Unanswered}
@@ -18,9 +17,9 @@ use Rattle.fa_propose.proofs.RankOrderLemmas.{rank_of_parts}
 pub rank_parts : (g h : Group) (p q : ℕ) (call : PlainCall) → IsRankIn g p call → IsRankIn h q call → (g ≡ h) × (p ≡ q)
 rank_parts Unchanging Unchanging p q call is too =
     (refl, is.3 ∙ ap (λ (x : PlainAnswer). x.at) (same_Some is.0 too.0 (sym is.1 ∙ too.1)) ∙ sym too.3)
-rank_parts Unchanging Changing p q call is too = absurd (too.2 (subst (λ (x : PlainAnswer). KeepsTree call.request x.reply) (same_Some is.0 too.0 (sym is.1 ∙ too.1)) is.2))
+rank_parts Unchanging Changing p q call is too = absurd (too.2 is.2)
 rank_parts Unchanging Unanswered p q call is too = let clash : Some is.0 ≡ None = sym is.1 ∙ too.0 in absurd cc
-rank_parts Changing Unchanging p q call is too = absurd (is.2 (subst (λ (x : PlainAnswer). KeepsTree call.request x.reply) (same_Some too.0 is.0 (sym too.1 ∙ is.1)) too.2))
+rank_parts Changing Unchanging p q call is too = absurd (is.2 too.2)
 rank_parts Changing Changing p q call is too =
     (refl, is.3 ∙ ap (λ (x : PlainAnswer). x.at) (same_Some is.0 too.0 (sym is.1 ∙ too.1)) ∙ sym too.3)
 rank_parts Changing Unanswered p q call is too = let clash : Some is.0 ≡ None = sym is.1 ∙ too.0 in absurd cc

@@ -13,7 +13,11 @@ use Rattle.fa_session.specs.Answers.{IsAnsweredBy, IsUnanswered}
 use Rattle.fa_ledger.specs.Calls.{PlainAnswer, PlainCall, IsCall, AreCalls}
 use Rattle.fa_ledger.specs.Passing.{AreGood}
 use Rattle.fa_ledger.specs.SoFar.{listing_so_far}
-use Rattle.fa_ledger.proofs.CallerLemmas.{events_are_one, call_is_one, calls_are_there}
+use Rattle.fa_ledger.specs.declared.operation.Outcome.TheVariants.{Unanswered}
+use Rattle.fa_ledger.specs.Operations.{PlainOperation, ended}
+use Rattle.fa_ledger.specs.Operations.PlainAction.{Write}
+use Rattle.fa_ledger.specs.Operations.PlainOperation.{Acts}
+use Rattle.fa_ledger.proofs.CallerLemmas.{events_are_one, call_at, call_is_one, calls_are_there, calls_end_where_answered}
 use Rattle.fa_tree.specs.State.{TreeState}
 use Rattle.fa_order.specs.declared.entry.Entry.{Entry}
 use Rattle.fa_order.proofs.CallerLemmas.{same_entry}
@@ -25,6 +29,13 @@ use Rattle.fa_propose.specs.Proposals.{count_proposed, entry_of, IsCandidate, Ha
 use Rattle.fa_propose.specs.Proposals.IsProposedSoFar.{begun, further}
 use Rattle.fa_propose.specs.Laws.{IsSerial, SerialProposalIsLegal}
 use Rattle.fa_propose.proofs.PlacedLemmas.{tried_is_candidate, proposed_placed, whole_proposal_is_legal}
+
+-- ---- counts
+
+-- none is proposed for what was answered
+none_proposed : (o : PlainOperation) → (ended o ≡ Unanswered → ⊥) → count_proposed o ≡ None
+none_proposed (Acts (Write offset size payload Unanswered)) answered = absurd (answered refl)
+none_proposed other answered = refl
 
 -- ---- entries
 
@@ -104,11 +115,12 @@ module _ (c : List Message) (serial : IsSerial c) (es : List Entry) where
       → (place : ℕ) (call : PlainCall) → slice_get calls place ≡ Some call → call.asked ≡ e.at → entry_of call ≡ e
   entry_proposes calls are e may left place call there number = same_entry (entry_of call) e number (by call.answer refl)
     where
-      by : (answer : Option PlainAnswer) → call.answer ≡ answer → count_proposed call.answer call.request.body ≡ e.wrote
+      by : (answer : Option PlainAnswer) → call.answer ≡ answer → count_proposed call.operation ≡ e.wrote
       by None is = absurd (left (unanswered_is_last e may (subst (IsUnanswered c) number (call_unanswered c calls are place call there is))))
       by (Some answer) is =
           let answered : IsAnsweredBy c e.at answer.at = subst (λ (k : ℕ). IsAnsweredBy c k answer.at) number (call_answered c calls are place call answer there is) in
-          let none : count_proposed call.answer call.request.body ≡ None = ap (λ a. count_proposed a call.request.body) is in
+          let waits : ended call.operation ≡ Unanswered → call.answer ≡ None = (calls_end_where_answered c are.events call are.are (call_at are.events calls are.exact.each place call there)).0 in
+          let none : count_proposed call.operation ≡ None = none_proposed call.operation (λ ends. let clash : Some answer ≡ None = sym is ∙ waits ends in absurd cc) in
           none ∙ sym (may.1.1.1.0.answered answer.at answered)
 
   -- where none that is tried has a step, but the one that may come next has, all answered requests are placed

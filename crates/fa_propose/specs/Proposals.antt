@@ -5,12 +5,14 @@
 use Rattle.std.specs.Prelude.{◌≡◌, ◌⊎◌, ℕ, ◌<◌, List, [], ◌∷◌, ◌++◌, take, All, AllPairs, Contains, Option, None, Some}
 use Rattle.fa_capture.specs.Checks.{AllHold}
 use Rattle.fa_capture.specs.Message.{Message}
-use Rattle.fa_bodies.specs.Requests.{PlainBody}
-use Rattle.fa_bodies.specs.Requests.PlainBody.{Lookup, Forget, Getattr, Setattr, Readlink, Symlink, Mknod, Mkdir, Unlink, Rmdir, Rename, Link, Open, Read, Write, Release, Flush, Init, Opendir, Readdir, Releasedir, Create, BatchForget, Readdirplus, Passed}
 use Rattle.fa_session.specs.Events.{PlainEvent}
 use Rattle.fa_ledger.specs.Events.{AreEvents}
 use Rattle.fa_ledger.specs.Calls.{PlainAnswer, PlainCall, IsCall}
+use Rattle.fa_ledger.specs.declared.operation.Outcome.TheVariants as Outcomes
 use Rattle.fa_ledger.specs.Kinds.{KeepsTree}
+use Rattle.fa_ledger.specs.Operations.{PlainOperation}
+use Rattle.fa_ledger.specs.Operations.PlainAction.{Write}
+use Rattle.fa_ledger.specs.Operations.PlainOperation.{Acts}
 use Rattle.fa_tree.specs.State.{TreeState}
 use Rattle.fa_order.specs.declared.entry.Entry.{Entry}
 use Rattle.fa_check.specs.Runs.{EntrySteps}
@@ -22,47 +24,19 @@ use Rattle.fa_propose.specs.declared.proposing.TheConstants.{MAX_TRIED}
 
 -- ---- how a call is proposed
 
--- the count of bytes that is proposed for a request of this body without an answer: all of a WRITE, and none for others
-abbrev pub whole_count : PlainBody → Option ℕ
-whole_count (Lookup name) = None
-whole_count (Forget nlookup) = None
-whole_count (Getattr g) = None
-whole_count (Setattr s) = None
-whole_count Readlink = None
-whole_count (Symlink name target) = None
-whole_count (Mknod mode rdev umask name) = None
-whole_count (Mkdir mode umask name) = None
-whole_count (Unlink name) = None
-whole_count (Rmdir name) = None
-whole_count (Rename newdir old_name new_name) = None
-whole_count (Link oldnodeid new_name) = None
-whole_count (Open o) = None
-whole_count (Read r) = None
-whole_count (Write fh offset size write_flags lock_owner flags payload) = Some size
-whole_count (Release r) = None
-whole_count (Flush f) = None
-whole_count (Init i) = None
-whole_count (Opendir o) = None
-whole_count (Readdir r) = None
-whole_count (Releasedir r) = None
-whole_count (Create flags mode umask name) = None
-whole_count (BatchForget count items) = None
-whole_count (Readdirplus r) = None
-whole_count Passed = None
-
--- the count of bytes that is proposed for a call: none where it was answered
-abbrev pub count_proposed : Option PlainAnswer → PlainBody → Option ℕ
-count_proposed (Some answer) body = None
-count_proposed None body = whole_count body
+-- the count of bytes that is proposed for a call: all of a WRITE without an answer, and none for others
+abbrev pub count_proposed : PlainOperation → Option ℕ
+count_proposed (Acts (Write offset size payload Outcomes.Unanswered)) = Some size
+count_proposed other = None
 
 -- the entry that proposes a call
 abbrev pub entry_of : PlainCall → Entry
-entry_of call = record { at = call.asked; wrote = count_proposed call.answer call.request.body }
+entry_of call = record { at = call.asked; wrote = count_proposed call.operation }
 
 -- ---- candidates
 
 -- The call may come next after these entries: its entry passes the checks of its place. So it is in none of them, each tree
--- request that was answered before it was sent is in one, and it is no reading request without an answer.
+-- request that was answered before it was sent is in one, and it has an answer where it only reads.
 pub record IsCandidate (c : List Message) (es : List Entry) (call : PlainCall) : Type 0 where
   pub events : List PlainEvent
   pub are : AreEvents c events
@@ -74,8 +48,8 @@ pub record IsCandidate (c : List Message) (es : List Entry) (call : PlainCall) :
 -- The rank of a call. Answered calls that leave the tree as it is are tried first, then the other answered ones, both by the
 -- places of their answers; and last those without an answer, by their own places.
 abbrev pub IsRankIn : Group → (position : ℕ) → PlainCall → Type 0
-IsRankIn Unchanging position call = (answer : PlainAnswer) × (call.answer ≡ Some answer) × KeepsTree call.request answer.reply × (position ≡ answer.at)
-IsRankIn Changing position call = (answer : PlainAnswer) × (call.answer ≡ Some answer) × (KeepsTree call.request answer.reply → ⊥) × (position ≡ answer.at)
+IsRankIn Unchanging position call = (answer : PlainAnswer) × (call.answer ≡ Some answer) × KeepsTree call.operation × (position ≡ answer.at)
+IsRankIn Changing position call = (answer : PlainAnswer) × (call.answer ≡ Some answer) × (KeepsTree call.operation → ⊥) × (position ≡ answer.at)
 IsRankIn Unanswered position call = (call.answer ≡ None) × (position ≡ call.asked)
 
 abbrev pub IsRank : Rank → PlainCall → Type 0

@@ -3,7 +3,7 @@
 ghost use Rattle.fa_ledger.specs.Calls.{call_shown};
 ghost use Rattle.fa_propose.specs.Proposals.{IsRank};
 
-use fa_ledger::{Call, keeps_tree};
+use fa_ledger::Call;
 
 /// The groups of calls, in the order in which they are tried.
 #[derive(Clone, Copy, Debug, PartialEq, Eq, PartialOrd, Ord, Hash)]
@@ -35,7 +35,7 @@ impl Rank {
                 position: call.asked,
             };
         };
-        let group = if keeps_tree(&call.request, &answer.reply) {
+        let group = if call.operation.keeps_tree() {
             Group::Unchanging
         } else {
             Group::Changing

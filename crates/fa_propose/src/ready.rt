@@ -3,6 +3,7 @@
 ghost use Rattle.std.specs.Prelude.{◌≡◌, ◌∷◌, ◌++◌, [], List, map, AllPairs, IfOk, IfSome, OnOk};
 ghost use Rattle.fa_capture.specs.Message.{Message};
 ghost use Rattle.fa_ledger.specs.Calls.{call_shown};
+ghost use Rattle.fa_ledger.specs.Operations.{operation_shown};
 ghost use Rattle.fa_ledger.specs.declared.calls.Calls.{Calls as TheCalls};
 ghost use Rattle.fa_tree.specs.State.{TreeState};
 ghost use Rattle.fa_order.specs.declared.entry.Entry.{Entry as TheEntry};
@@ -13,9 +14,8 @@ ghost use Rattle.fa_propose.specs.parts.Ready.{IsReady, AreAllSeen, IsOffered, M
 
 use crate::proposing::MAX_TRIED;
 use crate::rank::Rank;
-use fa_bodies::RequestBody;
 use fa_check::Placing;
-use fa_ledger::{Call, Calls};
+use fa_ledger::{Action, Call, Calls, Operation, Outcome};
 use fa_order::Entry;
 use fa_tree::{StepError, Tree};
 use std::alloc::{AllocError, Global};
@@ -125,16 +125,22 @@ fn entry_of(call: &Call<'_>) -> Entry
 {
     Entry {
         at: call.asked,
-        wrote: count_proposed(call),
+        wrote: count_proposed(&call.operation),
     }
 }
 
 /// The count of bytes that is proposed for a call: all of a WRITE without an answer.
-fn count_proposed(call: &Call<'_>) -> Option<u32>
-    ensures { result ≡ proposals.count_proposed (call_shown call.now).answer (call_shown call.now).request.body }
+fn count_proposed(operation: &Operation<'_>) -> Option<u32>
+    ensures { result ≡ proposals.count_proposed (operation_shown operation.now) }
 {
-    match (&call.answer, &call.request.body) {
-        (None, RequestBody::Write { size, .. }) => Some(*size),
+    match operation {
+        Operation::Act(
+            Action::Write {
+                size,
+                outcome: Outcome::Unanswered,
+                ..
+            },
+        ) => Some(*size),
         _ => None,
     }
 }

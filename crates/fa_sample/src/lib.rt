@@ -297,6 +297,30 @@ impl Sample {
         )
     }
 
+    /// `> uU RENAME2 N old flags F to M new`
+    pub fn rename2<'a>(
+        self,
+        unique: u64,
+        node: u64,
+        old_name: &'a [u8],
+        flags: u32,
+        newdir: u64,
+        new_name: &'a [u8],
+    ) -> Sample {
+        self.request_of(
+            unique,
+            opcodes::RENAME2,
+            node,
+            &[
+                U64(newdir),
+                U32(flags),
+                Zeros(4),
+                Name(old_name),
+                Name(new_name),
+            ],
+        )
+    }
+
     /// `> uU LINK N name oldnodeid M`: the file of M gets this name in the directory N.
     pub fn link(self, unique: u64, node: u64, new_name: &[u8], oldnodeid: u64) -> Sample {
         self.request_of(

@@ -51,8 +51,8 @@ AreFlagsRight (Init i) (InitAnswer n) =
     × (HasFlag (init_bits i.flags) posix_acl → HasFlag (init_bits n.flags) posix_acl → ⊥)
 AreFlagsRight other reply = Unit {0}
 
--- The answer of a changer, as IOCTL or RENAME2, is no success: those change files in ways that this profile does not
--- judge. A success of an operation that is read by its header alone is read as `Skipped`.
+-- The answer of a changer whose request is not judged, as IOCTL or a RENAME2 with flags that are not judged, is no success: those change
+-- files in ways that this profile does not judge. A success of such a request is read as `Skipped`.
 abbrev pub IsLeftOutRefused : PlainRequest → PlainReply → Type 0
 IsLeftOutRefused r Skipped = IsOneOf changers r.opcode → ⊥
 IsLeftOutRefused r other = Unit {0}

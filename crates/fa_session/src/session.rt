@@ -94,7 +94,8 @@ impl<'a> Session<'a> {
     ///   no request, and then for the reply to a request `REPLY_BODY` as [`fa_bodies::reply_body`] tells it,
     ///   `INIT_REFUSED` for an error to INIT, `VERSION` where a major is not 7 or the least of the minors is not 31,
     ///   `NEGOTIATED_FLAGS` where both sides set WRITEBACK_CACHE or POSIX_ACL, `LEFT_OUT_SUCCEEDED` for a success of
-    ///   IOCTL, FALLOCATE, RENAME2 or COPY_FILE_RANGE, and `OPEN_WITHOUT_HANDLE` for ENOSYS to OPEN or OPENDIR.
+    ///   IOCTL, FALLOCATE, COPY_FILE_RANGE or a RENAME2 with flags that are not judged, and `OPEN_WITHOUT_HANDLE` for
+    ///   ENOSYS to OPEN or OPENDIR.
     /// - [`SessionError::Memory`] where memory for one more outstanding request was refused. The message is allowed, and
     ///   may be handed in again.
     ///

@@ -7,11 +7,10 @@ use crate::sent::{CREAT, with, with_all};
 use Mark::*;
 use NodeName::{Given, Root};
 use bitflags::Flags;
-use fa_bodies::Reply;
 use fa_bodies::errno::{EACCES, EIO, ENOENT};
 use fa_capture::codes::{CLOSED_HANDLE, FORGOTTEN_NODE, FORGOTTEN_TOO_OFTEN, NODE_ID_NOT_ALLOWED};
 use fa_capture::{Direction, read_capture};
-use fa_ledger::{Call, Calls, NodeName};
+use fa_ledger::{Call, Calls, NodeName, Outcome};
 use fa_sample::Sample;
 use std::alloc::Global;
 
@@ -55,7 +54,7 @@ const OPENED: &[Sent] = &[Lookup(2, 1), Entry(2, 5), Open(4, 5, 0), Opened(4, 7,
 /// refused change nothing.
 type Course = &'static [(Sent, u16)];
 
-const COURSES: [Course; 7] = [
+const COURSES: [Course; 8] = [
     &[
         (BatchForget(6, TWICE), FORGOTTEN_TOO_OFTEN),
         (Forget(6, 5, 1), 0),
@@ -78,6 +77,12 @@ const COURSES: [Course; 7] = [
         (Rename(6, 5, 1), 0),
         (Done(6), 0),
         (Rename(8, 9, 1), FORGOTTEN_NODE),
+    ],
+    &[
+        (Rename2(6, 5, 2, 9), FORGOTTEN_NODE),
+        (Rename2(6, 5, 2, 1), 0),
+        (Done(6), 0),
+        (Rename2(8, 9, 1, 1), FORGOTTEN_NODE),
     ],
     &[
         (Release(6, 5, 8), CLOSED_HANDLE),
@@ -242,6 +247,8 @@ const OTHERS: Called = (
         Rename(8, 5, 1),
         Error(8, EACCES),
         Link(10, 5, 6),
+        Rename2(12, 5, 1, 6),
+        Done(12),
     ],
     &[
         (2, Root, &[Answer(3), Gives(&[FIVE])]),
@@ -253,6 +260,7 @@ const OTHERS: Called = (
         ),
         (8, FIVE, &[Other(Root), Answer(9), Refusal(EACCES)]),
         (10, FIVE, &[Other(Given { id: 6, by: 7 })]),
+        (11, FIVE, &[Other(Given { id: 6, by: 7 }), Answer(12)]),
     ],
 );
 
@@ -401,27 +409,27 @@ const CALLS: [Called; 10] = [
     ((ATOMIC_O_TRUNC, ATOMIC_O_TRUNC), TRUNCATING, BY_OPEN),
 ];
 
-/// The error of an answer, or 0.
-fn error_of(answer: &fa_ledger::Answer<'_>) -> i32 {
-    match answer.reply {
-        Reply::Refused(error) => error,
-        _ => 0,
+/// The error that came of a call, or 0 where none did, and whether it was answered.
+fn ended(call: &Call<'_>) -> (i32, bool) {
+    match call.operation.ended() {
+        Outcome::Fails(error) => (error, true),
+        Outcome::Succeeds(()) => (0, true),
+        Outcome::Unanswered => (0, false),
     }
 }
 
 /// Whether an answer shows this.
-fn is_answer(found: &fa_ledger::Answer<'_>, at: u32, marks: &[Mark]) -> bool {
-    let mut shown = (at, 0, false);
+fn is_answer(found: &fa_ledger::Answer, at: u32, marks: &[Mark]) -> bool {
+    let mut shown = (at, false);
     let mut given: &[NodeName] = &[];
     for mark in marks {
         match mark {
-            Refusal(error) => shown.1 = *error,
-            Opens => shown.2 = true,
+            Opens => shown.1 = true,
             Gives(names) => given = names,
             _ => {}
         }
     }
-    (found.at, error_of(found), found.opens) == shown && found.given.names() == given
+    (found.at, found.opens) == shown && found.given.names() == given
 }
 
 /// Whether a call shows this.
@@ -430,8 +438,10 @@ fn is_call(found: &Call<'_>, shows: &Shows) -> bool {
     let (mut other, mut handle, mut answer) = (None, None, None);
     let mut listing = None;
     let mut flags = (false, false);
+    let mut error = 0;
     for mark in *marks {
         match mark {
+            Refusal(number) => error = *number,
             Other(name) => other = Some(*name),
             Handle(name) => handle = Some(*name),
             Direct => flags.0 = true,
@@ -454,7 +464,8 @@ fn is_call(found: &Call<'_>, shows: &Shows) -> bool {
     };
     let is_request = (found.asked, found.node, found.other) == (*asked, *node, other);
     let is_use = (found.handle, found.direct, found.truncates) == (handle, flags.0, flags.1);
-    is_answered && is_request && is_use && found.listing == listing
+    let is_end = ended(found) == (error, answer.is_some());
+    is_answered && is_end && is_request && is_use && found.listing == listing
 }
 
 /// Whether the calls of messages behind INIT and its answer are these.
@@ -513,7 +524,7 @@ const IN_FRONT: [Sent; 4] = [
 ];
 
 /// Each tree request, and what an order may name it with where it is not answered. These stand behind `IN_FRONT`.
-const CHOICES: [(Sent, Choices); 18] = [
+const CHOICES: [(Sent, Choices); 19] = [
     (Lookup(10, 1), LEFT_OUT),
     (Getattr(11, 5, 0, 0), LEFT_OUT),
     (Setattr(12, 5, 0, 0), ALONE),
@@ -524,6 +535,7 @@ const CHOICES: [(Sent, Choices); 18] = [
     (Unlink(17, 1), ALONE),
     (Rmdir(18, 1), ALONE),
     (Rename(19, 1, 1), ALONE),
+    (Rename2(28, 1, 2, 1), ALONE),
     (Link(20, 1, 5), ALONE),
     (Open(21, 5, 0), ALONE),
     (Read(22, 5, 7), LEFT_OUT),

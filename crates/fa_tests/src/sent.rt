@@ -34,6 +34,8 @@ pub enum Sent {
     Rmdir(u64, u64),
     /// To this directory.
     Rename(u64, u64, u64),
+    /// With these flags, to this directory.
+    Rename2(u64, u64, u32, u64),
     /// Of this file.
     Link(u64, u64, u64),
     /// With these flags.
@@ -96,6 +98,9 @@ pub fn with(sample: Sample, message: Sent) -> Sample {
         Unlink(unique, node) => sample.unlink(unique, node, b"a"),
         Rmdir(unique, node) => sample.rmdir(unique, node, b"a"),
         Rename(unique, node, newdir) => sample.rename(unique, node, b"a", newdir, b"b"),
+        Rename2(unique, node, flags, newdir) => {
+            sample.rename2(unique, node, b"a", flags, newdir, b"b")
+        }
         Link(unique, node, old) => sample.link(unique, node, b"b", old),
         Open(unique, node, flags) => with_open(sample, unique, node, flags),
         Create(unique, node, flags) => with_create(sample, unique, node, flags),

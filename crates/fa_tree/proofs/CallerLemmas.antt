@@ -9,4 +9,4 @@ pub use Rattle.fa_tree.proofs.KnownLemmas.{IsKnownIn, IsOpenedIn, UsesOpened, st
 -- a step where all checks hold
 pub use Rattle.fa_tree.proofs.LawLemmas.{steps_where_all_hold, step_is_one}
 -- the rule of an operation is that of its request
-pub use Rattle.fa_tree.proofs.ChangeLemmas.{same_rule}
+pub use Rattle.fa_tree.proofs.ChangeLemmas.{lost_rule, same_rule}

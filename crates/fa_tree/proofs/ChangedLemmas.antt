@@ -6,8 +6,11 @@ use Rattle.fa_bodies.specs.declared.flags.OpenFlags.{OpenFlags}
 use Rattle.fa_bodies.specs.declared.attributes.AttrOut.{AttrOut}
 use Rattle.fa_bodies.specs.declared.handles.OpenOut.{OpenOut}
 use Rattle.fa_bodies.specs.declared.setattr.SetattrIn.{SetattrIn}
+use Rattle.fa_bodies.specs.declared.rename_flags.RenameFlags.{RenameFlags}
+use Rattle.fa_bodies.specs.declared.rename_flags.RenameFlags.TheVariants.{Replace, NoReplace, Exchange}
 use Rattle.fa_ledger.specs.declared.operation.Outcome.{Outcome}
-use Rattle.fa_ledger.specs.Operations.{PlainAction, Reads}
+use Rattle.fa_ledger.specs.Kinds.{Reads}
+use Rattle.fa_ledger.specs.Operations.{PlainAction}
 use Rattle.fa_ledger.specs.Operations.PlainAction.{Lookup, Getattr, Setattr, Readlink, Open, Read, Write, Opendir}
 use Rattle.fa_tree.specs.State.{File, Store, OpenDirectory, IsFree}
 use Rattle.fa_tree.specs.Resolved.{Resolved, OfOther}
@@ -15,6 +18,7 @@ use Rattle.fa_tree.specs.Edits.{open_after, handles_after}
 use Rattle.fa_tree.specs.Opening.{opened}
 use Rattle.fa_tree.specs.Lookups.{file_set}
 use Rattle.fa_tree.specs.Rules.{with_file}
+use Rattle.fa_tree.specs.Renaming.{rename2_rule}
 use Rattle.fa_tree.specs.Contents.{file_written}
 use Rattle.fa_tree.specs.Making.{MayBeMade, MayBeCreated, emptied, files_created}
 use Rattle.fa_tree.specs.parts.StoredParts.{StoredShown, stored_changed, stored_created, stored_with, stored_opened, stored_noted}
@@ -26,6 +30,17 @@ other_is other file Such is may = subst (λ o. OfOther o Such) is may
 
 pub none_is : (other : Option ℕ) (Such : ℕ → Type 0) → other ≡ None → OfOther other Such → ⊥
 none_is other Such is may = subst (λ o. OfOther o Such) is may
+
+-- RENAME2 may not succeed without one
+pub rename2_of_none : (s : Store) (old_directory : ℕ) (old_name : List ℕ) (flags : RenameFlags) (other : Option ℕ) (new_name : List ℕ) → other ≡ None
+    → (rename2_rule s old_directory old_name flags other new_name).needs → ⊥
+rename2_of_none s old_directory old_name flags other new_name is may =
+    by flags (subst (λ o. (rename2_rule s old_directory old_name flags o new_name).needs) is may)
+  where
+    by : (flags : RenameFlags) → (rename2_rule s old_directory old_name flags None new_name).needs → ⊥
+    by Replace may = may
+    by NoReplace may = may.0
+    by Exchange may = may
 
 -- what CREATE asks for where the name is not there
 pub created_made : (s : Store) (directory : ℕ) (name : List ℕ) (flags : OpenFlags) → MayBeCreated s directory name flags → IsFree s directory name → MayBeMade s directory name

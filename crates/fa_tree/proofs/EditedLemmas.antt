@@ -15,7 +15,7 @@ use Rattle.fa_tree.specs.State.{place_cmp, name_cmp, OpenDirectory}
 use Rattle.fa_tree.specs.Edits.{Edit, names_after, each_open, open_after, open_after_one}
 use Rattle.fa_tree.specs.Edits.Edit.{Added, Removed}
 use Rattle.fa_tree.specs.Opening.{opened}
-use Rattle.fa_tree.specs.Renaming.{moved}
+use Rattle.fa_tree.specs.Renaming.{moved, exchanged}
 use Rattle.fa_tree.specs.parts.PlaceLaws.{place_cmp_total, places_apart, names_apart, same_place, place_tests}
 use Rattle.fa_tree.specs.parts.NameParts.{NamesShown, no_names, edited, opened_by, StaysThere}
 use Rattle.fa_tree.proofs.NameLemmas.{get-each_open, get-opened}
@@ -298,3 +298,31 @@ edited_moved n stays old_directory old_name new_directory new_name file there fo
         let apart : last ≢ file = λ same. differs (ap (λ k. Some k) same) in
         let test : (last == file) ≡ false = grind (arith, nat_tests) in
         sym (ap (λ b. edited (if b then [] else Removed old_directory old_name ∷ Removed new_directory new_name ∷ Added new_directory new_name file ∷ []) n) test)
+
+-- RENAME2 with RENAME_EXCHANGE: each name is put for the other's file, where they are not of one file
+pub edited_exchanged : (n : NamesShown) (old_directory : ℕ) (old_name : List ℕ) (new_directory : ℕ) (new_name : List ℕ) (file other : ℕ)
+    → (other == file) ≡ false
+    → edited (Removed new_directory new_name ∷ Added new_directory new_name file ∷ []) (edited (Removed old_directory old_name ∷ Added old_directory old_name other ∷ []) n)
+    ≡ edited (exchanged old_directory old_name new_directory new_name file other) n
+edited_exchanged n old_directory old_name new_directory new_name file other test =
+    edited_both (Removed old_directory old_name ∷ Added old_directory old_name other ∷ []) (Removed new_directory new_name ∷ Added new_directory new_name file ∷ []) n
+    ∙ sym (ap (λ b. edited (if b then [] else Removed old_directory old_name ∷ Added old_directory old_name other ∷ Removed new_directory new_name ∷ Added new_directory new_name file ∷ []) n) test)
+
+-- of one file they stay
+pub edited_of_one : (n : NamesShown) (old_directory : ℕ) (old_name : List ℕ) (new_directory : ℕ) (new_name : List ℕ) (file other : ℕ)
+    → (other == file) ≡ true → n ≡ edited (exchanged old_directory old_name new_directory new_name file other) n
+edited_of_one n old_directory old_name new_directory new_name file other test =
+    (λ i. record { names = n.names; handles = sym (each_same (open_after []) n.handles (λ asked h is. refl)) i })
+    ∙ sym (ap (λ b. edited (if b then [] else Removed old_directory old_name ∷ Added old_directory old_name other ∷ Removed new_directory new_name ∷ Added new_directory new_name file ∷ []) n) test)
+
+-- a name that is there is there after another is put
+pub there_after_put : (n : NamesShown) (directory : ℕ) (name : List ℕ) (file : ℕ) (place : state.Place) → map.get n.names place ≢ None
+    → map.get (edited (Removed directory name ∷ Added directory name file ∷ []) n).names place ≢ None
+there_after_put n directory name file place there none =
+    by (eq_by_cmp place_cmp place (directory, name))
+    (sym (map.get-insert place_cmp_total (map.remove n.names (directory, name)) (directory, name) file place
+    ∙ ap (cond (eq_by_cmp place_cmp place (directory, name)) (Some file)) (map.get-remove place_cmp_total n.names (directory, name) place)) ∙ none)
+  where
+    by : (b : Bool) → cond b (Some file) (cond b None (map.get n.names place)) ≡ None → ⊥
+    by true clash = absurd (let some : Some file ≡ None = clash in cc)
+    by false none = there none

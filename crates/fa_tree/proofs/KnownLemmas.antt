@@ -20,9 +20,11 @@ use Rattle.fa_ledger.specs.declared.name.NodeName.{NodeName}
 use Rattle.fa_ledger.specs.declared.name.NodeName.TheVariants.{Root, Given}
 use Rattle.fa_ledger.specs.declared.operation.Outcome.{Outcome}
 use Rattle.fa_ledger.specs.declared.operation.Outcome.TheVariants.{Fails, Succeeds, Unanswered}
-use Rattle.fa_ledger.specs.Calls.{PlainCall, operation}
-use Rattle.fa_ledger.specs.Counts.{is_dots, node_of, nodes_of_entry, nodes_of_listing}
-use Rattle.fa_ledger.specs.Operations.{PlainOperation, bare, ended, gives, nodes_of_list}
+use Rattle.fa_ledger.specs.Calls.{PlainCall}
+use Rattle.fa_ledger.specs.Mentions.{node_of}
+use Rattle.fa_ledger.specs.Counts.{is_dots, nodes_of_entry, nodes_of_listing}
+use Rattle.fa_ledger.specs.Operations.{PlainOperation, bare, ended}
+use Rattle.fa_ledger.proofs.CallerLemmas.{gives, listed_nodes}
 use Rattle.fa_ledger.specs.Operations.PlainAction.{Lookup, Symlink, Mknod, Mkdir, Link, Opendir, Create}
 use Rattle.fa_ledger.specs.Operations.PlainOperation.{Lists, Acts}
 use Rattle.fa_tree.specs.State.{OpenDirectory, Store, TreeState, place_cmp, node_cmp, root, file_of}
@@ -32,7 +34,7 @@ use Rattle.fa_tree.specs.Opening.{opened, with_opened}
 use Rattle.fa_tree.specs.Directories.{judged, IsThereIfLookedUp, file_if, files_listed, files_on, EntriesAre, list_said}
 use Rattle.fa_tree.specs.Operations.{Setting, rule, changed, said, directory_opened, count_written}
 use Rattle.fa_tree.specs.Bindings.{bound, nodes_after}
-use Rattle.fa_tree.specs.Steps.{names_given, opens_anew, setting, given_in, tree_done, tree_by, operation_checks, checks_of_files, checks_of, step_checks, Steps}
+use Rattle.fa_tree.specs.Steps.{names_given, opens_anew, setting, given_in, tree_done, tree_by, operation_checks, checks_of_files, step_checks, Steps}
 use Rattle.fa_tree.proofs.NodeLemmas.{node_total}
 use Rattle.fa_tree.proofs.NameLemmas.{get-each_open}
 use Rattle.fa_tree.proofs.NamedLemmas.{checks_hold}
@@ -89,15 +91,15 @@ pub step_keeps_node : (old new : TreeState) (call : PlainCall) (wrote : Option �
     → IsKnownIn name old → IsKnownIn name new
 step_keeps_node old new call wrote so_far Root s known = (root, refl)
 step_keeps_node old new call wrote so_far (Given id by) s known =
-    subst (IsKnownIn (Given id by)) (sym s.after) (after (ended s.asks))
+    subst (IsKnownIn (Given id by)) (sym s.after) (after (ended call.operation))
   where
     count : ℕ
-    count = count_written s.asks wrote
+    count = count_written call.operation wrote
 
-    done : IsKnownIn (Given id by) (tree_done old s.files call s.asks count)
-    done = nodes_keep (given_in (setting old.store s.files call s.asks count []) call s.asks) old.nodes (Given id by) known
+    done : IsKnownIn (Given id by) (tree_done old s.files call call.operation count)
+    done = nodes_keep (given_in (setting old.store s.files call call.operation count []) call call.operation) old.nodes (Given id by) known
 
-    after : (e : Outcome (Unit {0})) → IsKnownIn (Given id by) (tree_by old (tree_done old s.files call s.asks count) e)
+    after : (e : Outcome (Unit {0})) → IsKnownIn (Given id by) (tree_by old (tree_done old s.files call call.operation count) e)
     after (Fails error) = known
     after (Succeeds success) = done
     after Unanswered = done
@@ -116,18 +118,18 @@ opening_keeps names None asked opens handles q has = has
 pub step_keeps_open : (old new : TreeState) (call : PlainCall) (wrote : Option ℕ) (so_far : List PlainDirent) (asked : ℕ) → Steps old new call wrote so_far
     → IsOpenedIn asked old → IsOpenedIn asked new
 step_keeps_open old new call wrote so_far asked s known =
-    subst (IsOpenedIn asked) (sym s.after) (after (ended s.asks))
+    subst (IsOpenedIn asked) (sym s.after) (after (ended call.operation))
   where
     count : ℕ
-    count = count_written s.asks wrote
+    count = count_written call.operation wrote
 
-    done : IsOpenedIn asked (tree_done old s.files call s.asks count)
+    done : IsOpenedIn asked (tree_done old s.files call call.operation count)
     done =
-        opening_keeps (changed old.store s.files call.truncates s.asks count).names (directory_opened s.files s.asks) call.asked (opens_anew call)
-        (handles_after (rule old.store s.files s.asks).edits old.handles) asked
-        (each_keeps (open_after (rule old.store s.files s.asks).edits) old.handles asked known)
+        opening_keeps (changed old.store s.files call.truncates call.operation count).names (directory_opened s.files call.operation) call.asked (opens_anew call)
+        (handles_after (rule old.store s.files call.operation).edits old.handles) asked
+        (each_keeps (open_after (rule old.store s.files call.operation).edits) old.handles asked known)
 
-    after : (e : Outcome (Unit {0})) → IsOpenedIn asked (tree_by old (tree_done old s.files call s.asks count) e)
+    after : (e : Outcome (Unit {0})) → IsOpenedIn asked (tree_by old (tree_done old s.files call call.operation count) e)
     after (Fails error) = known
     after (Succeeds success) = done
     after Unanswered = done
@@ -135,7 +137,7 @@ step_keeps_open old new call wrote so_far asked s known =
 -- ---- the nodes that a success gives have files
 
 -- an error gives none
-list_error_gives : (o : Outcome (List PlainDirent)) (error : ℤ) → bare o ≡ Fails error → nodes_of_list o ≡ []
+list_error_gives : (o : Outcome (List PlainDirent)) (error : ℤ) → bare o ≡ Fails error → listed_nodes o ≡ []
 list_error_gives (Fails e) error is = refl
 list_error_gives (Succeeds entries) error is = absurd cc
 list_error_gives Unanswered error is = refl
@@ -202,7 +204,7 @@ on_open_have s size (Some h) (Some listing) so_far entries are = listed_have s h
 on_open_have s size handle listing so_far entries are = absurd are
 
 list_has : (s : Store) (size : ℕ) (handle : Option OpenDirectory) (listing : Option Listing) (so_far : List PlainDirent) (o : Outcome (List PlainDirent))
-    → (list_said s size handle listing so_far o).listing → HaveFiles (nodes_of_list o) (list_said s size handle listing so_far o).files
+    → (list_said s size handle listing so_far o).listing → HaveFiles (listed_nodes o) (list_said s size handle listing so_far o).files
 list_has s size handle listing so_far (Fails error) are = tt
 list_has s size handle listing so_far (Succeeds entries) are = on_open_have s size handle listing so_far entries are
 list_has s size handle listing so_far Unanswered are = tt
@@ -247,26 +249,26 @@ name_bound name_of (n ∷ nodes) (m ∷ names) (Some file ∷ files) node name h
 
 -- the step of a success knows the names of the nodes that its answer gives
 pub step_gives : (old new : TreeState) (call : PlainCall) (wrote : Option ℕ) (so_far : List PlainDirent) (name_of : ℕ → Option NodeName) (node id by : ℕ)
-    → (s : Steps old new call wrote so_far) → map name_of (gives s.asks) ≡ map (λ n. Some n) (names_given call)
-    → Contains (gives s.asks) node → name_of node ≡ Some (Given id by) → IsKnownIn (Given id by) new
+    → (s : Steps old new call wrote so_far) → map name_of (gives call.operation) ≡ map (λ n. Some n) (names_given call)
+    → Contains (gives call.operation) node → name_of node ≡ Some (Given id by) → IsKnownIn (Given id by) new
 step_gives old new call wrote so_far name_of node id by s named there is =
-    subst (IsKnownIn (Given id by)) (sym s.after) (after s.asks refl (ended s.asks) refl)
+    subst (IsKnownIn (Given id by)) (sym s.after) (after call.operation refl (ended call.operation) refl)
   where
     count : ℕ
-    count = count_written s.asks wrote
+    count = count_written call.operation wrote
 
     g : Setting
-    g = setting old.store s.files call s.asks count so_far
+    g = setting old.store s.files call call.operation count so_far
 
-    done : IsKnownIn (Given id by) (tree_done old s.files call s.asks count)
+    done : IsKnownIn (Given id by) (tree_done old s.files call call.operation count)
     done =
         let hold = checks_hold old new call wrote so_far s in
-        let have = success_has g s.asks hold.1.1.0 hold.1.1.1.1.1.0 in
-        let found = name_bound name_of (gives s.asks) (names_given call) (said g s.asks).files node (Given id by) have named there is in
-        nodes_have (given_in (setting old.store s.files call s.asks count []) call s.asks) old.nodes (Given id by) found.0
-        (subst (λ (given : List (NodeName × ℕ)). Contains given (Given id by, found.0)) (given_whatever old.store s.files call s.asks count so_far) found.1)
+        let have = success_has g call.operation hold.1.1.0 hold.1.1.1.1.1.0 in
+        let found = name_bound name_of (gives call.operation) (names_given call) (said g call.operation).files node (Given id by) have named there is in
+        nodes_have (given_in (setting old.store s.files call call.operation count []) call call.operation) old.nodes (Given id by) found.0
+        (subst (λ (given : List (NodeName × ℕ)). Contains given (Given id by, found.0)) (given_whatever old.store s.files call call.operation count so_far) found.1)
 
-    after : (o : PlainOperation) → s.asks ≡ o → (e : Outcome (Unit {0})) → ended o ≡ e → IsKnownIn (Given id by) (tree_by old (tree_done old s.files call s.asks count) e)
+    after : (o : PlainOperation) → call.operation ≡ o → (e : Outcome (Unit {0})) → ended o ≡ e → IsKnownIn (Given id by) (tree_by old (tree_done old s.files call call.operation count) e)
     after o asks (Fails error) fails =
         let none : gives o ≡ [] = errors_give_no_node o error fails in
         let nowhere : Contains [] node = subst (λ (nodes : List ℕ). Contains nodes node) (ap gives asks ∙ none) there in
@@ -285,19 +287,19 @@ opened_there names directory asked number opens handles is does = (
 )
 
 pub step_opens : (old new : TreeState) (call : PlainCall) (wrote : Option ℕ) (so_far : List PlainDirent) (o : Outcome OpenOut) → (s : Steps old new call wrote so_far)
-    → s.asks ≡ Acts (Opendir o) → ((error : ℤ) → ended s.asks ≡ Fails error → ⊥) → opens_anew call ≡ true → IsOpenedIn call.asked new
+    → call.operation ≡ Acts (Opendir o) → ((error : ℤ) → ended call.operation ≡ Fails error → ⊥) → opens_anew call ≡ true → IsOpenedIn call.asked new
 step_opens old new call wrote so_far o s is not does =
-    subst (IsOpenedIn call.asked) (sym s.after) (after (ended s.asks) refl)
+    subst (IsOpenedIn call.asked) (sym s.after) (after (ended call.operation) refl)
   where
     count : ℕ
-    count = count_written s.asks wrote
+    count = count_written call.operation wrote
 
-    done : IsOpenedIn call.asked (tree_done old s.files call s.asks count)
+    done : IsOpenedIn call.asked (tree_done old s.files call call.operation count)
     done =
-        opened_there (changed old.store s.files call.truncates s.asks count).names (directory_opened s.files s.asks) call.asked s.files.node (opens_anew call)
-        (handles_after (rule old.store s.files s.asks).edits old.handles) (ap (directory_opened s.files) is) does
+        opened_there (changed old.store s.files call.truncates call.operation count).names (directory_opened s.files call.operation) call.asked s.files.node (opens_anew call)
+        (handles_after (rule old.store s.files call.operation).edits old.handles) (ap (directory_opened s.files) is) does
 
-    after : (e : Outcome (Unit {0})) → ended s.asks ≡ e → IsOpenedIn call.asked (tree_by old (tree_done old s.files call s.asks count) e)
+    after : (e : Outcome (Unit {0})) → ended call.operation ≡ e → IsOpenedIn call.asked (tree_by old (tree_done old s.files call call.operation count) e)
     after (Fails error) fails = absurd (not error fails)
     after (Succeeds success) ends = done
     after Unanswered ends = done
@@ -335,19 +337,17 @@ all_known t call node others handles none =
 
 -- a call that names what the tree does not know fails with it
 pub unknown_fails : (t : TreeState) (call : PlainCall) (wrote : Option ℕ) (so_far : List PlainDirent) → resolved t call ≡ None → FirstFailure (step_checks t call wrote so_far) UNKNOWN_HERE
-unknown_fails t call wrote so_far is = by (operation call)
-  where
-    by : (found : Option PlainOperation) → FirstFailure (checks_of t call wrote so_far found) UNKNOWN_HERE
-    by None = inl ((λ none. none), refl)
-    by (Some o) =
-        subst (λ (files : Option Resolved). FirstFailure (checks_of_files t call o (count_written o wrote) so_far files) UNKNOWN_HERE) (sym is) (inl ((λ none. none), refl))
+unknown_fails t call wrote so_far is =
+    subst (λ (files : Option Resolved). FirstFailure (checks_of_files t call call.operation (count_written call.operation wrote) so_far files) UNKNOWN_HERE) (sym is) (inl ((λ none. none), refl))
 
--- it is told of a call with an operation that names something which the tree does not know
-pub told_unknown : (t : TreeState) (call : PlainCall) (wrote : Option ℕ) (so_far : List PlainDirent) (o : PlainOperation) → operation call ≡ Some o
+-- it is told of a call that names something which the tree does not know
+pub told_unknown : (t : TreeState) (call : PlainCall) (wrote : Option ℕ) (so_far : List PlainDirent)
     → FirstFailure (step_checks t call wrote so_far) UNKNOWN_HERE → resolved t call ≡ None
-told_unknown t call wrote so_far o asks fails =
-    by (resolved t call) refl (subst (λ (w : Option PlainOperation). FirstFailure (checks_of t call wrote so_far w) UNKNOWN_HERE) asks fails)
+told_unknown t call wrote so_far fails = by (resolved t call) refl fails
   where
+    o : PlainOperation
+    o = call.operation
+
     count : ℕ
     count = count_written o wrote
 

@@ -4,12 +4,12 @@ use Rattle.std.proofs.lemmas.Option.{slice_get_within, same_Some}
 use Rattle.fa_capture.specs.Checks.{AllHold}
 use Rattle.fa_capture.proofs.CallerLemmas.{no_failure}
 use Rattle.fa_bodies.specs.Dirents.{PlainDirent}
-use Rattle.fa_ledger.specs.Calls.{PlainCall, operation}
+use Rattle.fa_ledger.specs.Calls.{PlainCall}
 use Rattle.fa_ledger.specs.Operations.{PlainOperation}
 use Rattle.fa_tree.specs.State.{TreeState, IsDirectory}
 use Rattle.fa_tree.specs.Resolved.{Resolved, resolved}
 use Rattle.fa_tree.specs.Operations.{count_written}
-use Rattle.fa_tree.specs.Steps.{checks_of_files, checks_of, step_checks, tree_after, Steps}
+use Rattle.fa_tree.specs.Steps.{checks_of_files, step_checks, tree_after, Steps}
 use Rattle.fa_tree.specs.Building.{file_of_kind, IsNonDirectory}
 use Rattle.fa_tree.specs.Laws.{StepIsOne, StepsWhereAllHold, NoStepWhereOneFails, BuildingKeepsTrees}
 use Rattle.fa_tree.proofs.ShapeLemmas.{empty_is_tree, making_keeps_tree, linking_keeps_tree}
@@ -17,17 +17,14 @@ use Rattle.fa_tree.proofs.ShapeLemmas.{empty_is_tree, making_keeps_tree, linking
 -- where all checks hold there is a next tree
 next_tree : (old : TreeState) (call : PlainCall) (wrote : Option ℕ) (so_far : List PlainDirent) → AllHold (step_checks old call wrote so_far)
     → (new : TreeState) × Steps old new call wrote so_far
-next_tree old call wrote so_far all = by (operation call) refl all
+next_tree old call wrote so_far all = by (resolved old call) refl all
   where
-    by_files : (o : PlainOperation) → operation call ≡ Some o → (files : Option Resolved) → resolved old call ≡ files
-        → AllHold (checks_of_files old call o (count_written o wrote) so_far files) → (new : TreeState) × Steps old new call wrote so_far
-    by_files o asks None is none = absurd none.0
-    by_files o asks (Some files) is hold =
-        (tree_after old files call o (count_written o wrote), record { allowed = all; asks = o; is = asks; files = files; named = is; after = refl })
+    o : PlainOperation
+    o = call.operation
 
-    by : (found : Option PlainOperation) → operation call ≡ found → AllHold (checks_of old call wrote so_far found) → (new : TreeState) × Steps old new call wrote so_far
+    by : (files : Option Resolved) → resolved old call ≡ files → AllHold (checks_of_files old call o (count_written o wrote) so_far files) → (new : TreeState) × Steps old new call wrote so_far
     by None is none = absurd none.0
-    by (Some o) is hold = by_files o is (resolved old call) refl hold
+    by (Some files) is hold = (tree_after old files call o (count_written o wrote), record { allowed = all; files = files; named = is; after = refl })
 
 pub steps_where_all_hold : StepsWhereAllHold
 steps_where_all_hold old call wrote so_far = (next_tree old call wrote so_far, λ next. next.1.allowed)
@@ -35,9 +32,8 @@ steps_where_all_hold old call wrote so_far = (next_tree old call wrote so_far, �
 -- a step is one
 pub step_is_one : StepIsOne
 step_is_one old new other call wrote so_far s t =
-    let asks : s.asks ≡ t.asks = same_Some s.asks t.asks (sym s.is ∙ t.is) in
     let files : s.files ≡ t.files = same_Some s.files t.files (sym s.named ∙ t.named) in
-    s.after ∙ (λ i. tree_after old (files i) call (asks i) (count_written (asks i) wrote)) ∙ sym t.after
+    s.after ∙ ap (λ x. tree_after old x call call.operation (count_written call.operation wrote)) files ∙ sym t.after
 
 pub no_step_where_one_fails : NoStepWhereOneFails
 no_step_where_one_fails old new call wrote so_far code failure steps = no_failure (step_checks old call wrote so_far) code steps.allowed failure

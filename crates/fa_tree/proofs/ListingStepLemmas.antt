@@ -9,7 +9,7 @@ use Rattle.fa_ledger.specs.declared.call.Listing.{Listing}
 use Rattle.fa_ledger.specs.declared.name.NodeName.{NodeName}
 use Rattle.fa_ledger.specs.declared.operation.Outcome.{Outcome}
 use Rattle.fa_ledger.specs.declared.operation.Outcome.TheVariants.{Fails, Succeeds, Unanswered}
-use Rattle.fa_ledger.specs.Calls.{PlainCall, operation}
+use Rattle.fa_ledger.specs.Calls.{PlainCall}
 use Rattle.fa_ledger.specs.Operations.{PlainList, PlainOperation, bare}
 use Rattle.fa_ledger.specs.Operations.PlainOperation.{Lists}
 use Rattle.fa_tree.specs.State.{Store, OpenDirectory, TreeState, IsDirectory, node_cmp}
@@ -21,8 +21,9 @@ use Rattle.fa_tree.specs.Bindings.{AreBound, nodes_after}
 use Rattle.fa_tree.specs.Operations.{count_written}
 use Rattle.fa_tree.specs.declared.error.StepError.{StepError}
 use Rattle.fa_tree.specs.declared.error.StepError.TheVariants.{Refused, Memory}
-use Rattle.fa_tree.specs.Steps.{names_given, setting, given_in, operation_checks, checks_of_files, checks_of, step_checks, tree_after, Steps}
+use Rattle.fa_tree.specs.Steps.{names_given, setting, given_in, operation_checks, checks_of_files, step_checks, tree_after, Steps}
 use Rattle.fa_tree.specs.Refusals.{DoneAnd, TellsBy, TellsOf}
+use Rattle.fa_tree.proofs.StepLemmas.{refused_so, steps_so}
 use Rattle.fa_tree.proofs.ChangedLemmas.{stays_open}
 use Rattle.fa_tree.proofs.BindingLemmas.{bound_to_none}
 use Rattle.fa_tree.proofs.OutcomeLemmas.{none_bound}
@@ -141,7 +142,7 @@ after_by t x call l count so_far = by l.outcome
     by (Succeeds entries) = λ i. record { store = t.store; nodes = nodes_after (given_in (settled t.store x call.listing so_far) call (of (Succeeds entries))) t.nodes; handles = stays_open t.handles i }
     by Unanswered = λ i. record { store = t.store; nodes = nodes_after (given_in (settled t.store x call.listing so_far) call (of Unanswered)) t.nodes; handles = stays_open t.handles i }
 
-module _ (t : TreeState) (call : PlainCall) (l : PlainList) (asks : operation call ≡ Some (Lists l)) (wrote : Option ℕ) (so_far : List PlainDirent) where
+module _ (t : TreeState) (call : PlainCall) (l : PlainList) (asks : call.operation ≡ Lists l) (wrote : Option ℕ) (so_far : List PlainDirent) where
   -- a call that lists leaves the store, so it is judged as it is
   judged_so : (x : Resolved) → AllHold (operation_checks t.nodes (settled t.store x call.listing so_far) call (Lists l))
       → AllHold (operation_checks t.nodes (setting t.store x call (Lists l) (count_written (Lists l) wrote) so_far) call (Lists l))
@@ -151,32 +152,22 @@ module _ (t : TreeState) (call : PlainCall) (l : PlainList) (asks : operation ca
   pub refused_by : (e : StepError) (x : Resolved) → resolved t call ≡ Some x
       → TellsSuch e (FirstFailure (operation_checks t.nodes (settled t.store x call.listing so_far) call (Lists l))) (DoneAnd (bare l.outcome) (Unit {0}))
       → TellsOf e call (step_checks t call wrote so_far)
-  refused_by (Refused code) x is failure =
-      subst (λ (o : Option PlainOperation). FirstFailure (checks_of t call wrote so_far o) code) (sym asks)
-      (subst (λ (files : Option Resolved). FirstFailure (checks_of_files t call (Lists l) (count_written (Lists l) wrote) so_far files) code) (sym is) (inr (tt, failure)))
+  refused_by (Refused code) x is failure = refused_so t call (Lists l) asks wrote so_far x is code failure
   refused_by Memory x is may =
-      subst (λ (o : Option PlainOperation). TellsBy Memory o (step_checks t call wrote so_far)) (sym asks) may
+      subst (λ (o : PlainOperation). TellsBy Memory o (step_checks t call wrote so_far)) (sym asks) may
 
   -- a call that names what the tree does not know
   pub unknown_by : resolved t call ≡ None → FirstFailure (step_checks t call wrote so_far) UNKNOWN_HERE
   unknown_by is =
-      subst (λ (o : Option PlainOperation). FirstFailure (checks_of t call wrote so_far o) UNKNOWN_HERE) (sym asks)
+      subst (λ (o : PlainOperation). FirstFailure (checks_of_files t call o (count_written o wrote) so_far (resolved t call)) UNKNOWN_HERE) (sym asks)
       (subst (λ (files : Option Resolved). FirstFailure (checks_of_files t call (Lists l) (count_written (Lists l) wrote) so_far files) UNKNOWN_HERE) (sym is) (inl ((λ none. none), refl)))
 
   -- a call that lists leads from one tree to another
   pub lists_to : (new : TreeState) (x : Resolved) (given : List (NodeName × ℕ)) → resolved t call ≡ Some x
       → AllHold (operation_checks t.nodes (settled t.store x call.listing so_far) call (Lists l))
       → given ≡ given_in (settled t.store x call.listing so_far) call (Lists l) → new ≡ listed_after t given → Steps t new call wrote so_far
-  lists_to new x given is hold comes left = record {
-    allowed =
-        subst (λ (o : Option PlainOperation). AllHold (checks_of t call wrote so_far o)) (sym asks)
-        (subst (λ (files : Option Resolved). AllHold (checks_of_files t call (Lists l) (count_written (Lists l) wrote) so_far files)) (sym is) (tt, judged_so x hold));
-    asks = Lists l;
-    is = asks;
-    files = x;
-    named = is;
-    after = left ∙ ap (listed_after t) comes ∙ sym (after_by t x call l (count_written (Lists l) wrote) so_far);
-  }
+  lists_to new x given is hold comes left =
+      steps_so t call (Lists l) asks wrote so_far x is new (judged_so x hold) (left ∙ ap (listed_after t) comes ∙ sym (after_by t x call l (count_written (Lists l) wrote) so_far))
 
 -- names of nodes that are bound in the tree's fields are bound in the tree
 pub bound_tree : (old : TreeState) (stored : StoredShown) (before between nodes : FinMap node_cmp ℕ) (given items : List (NodeName × ℕ))

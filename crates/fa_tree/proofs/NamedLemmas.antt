@@ -12,13 +12,13 @@ use Rattle.fa_ledger.specs.declared.name.NodeName.{NodeName}
 use Rattle.fa_ledger.specs.declared.operation.Outcome.{Outcome}
 use Rattle.fa_ledger.specs.declared.operation.Outcome.TheVariants.{Fails, Succeeds, Unanswered}
 use Rattle.fa_ledger.specs.Calls.{PlainCall}
-use Rattle.fa_ledger.specs.Operations.{PlainOperation, ended}
+use Rattle.fa_ledger.specs.Operations.{ended}
 use Rattle.fa_tree.specs.State.{TreeState, node_cmp}
 use Rattle.fa_tree.specs.Resolved.{Resolved}
 use Rattle.fa_tree.specs.Operations.{count_written}
 use Rattle.fa_tree.specs.Edits.{open_after}
 use Rattle.fa_tree.specs.Bindings.{AreBound, nodes_after}
-use Rattle.fa_tree.specs.Steps.{setting, given_in, operation_checks, checks_of_files, checks_of, tree_done, tree_by, Steps}
+use Rattle.fa_tree.specs.Steps.{setting, given_in, operation_checks, checks_of_files, tree_done, tree_by, Steps}
 use Rattle.fa_tree.specs.Laws.{WithoutEditsOpenStays, EachOpenByItself, NamesKeepFiles, GivenNamesStand}
 use Rattle.fa_tree.proofs.NodeLemmas.{node_total, name_same}
 use Rattle.fa_tree.proofs.NameLemmas.{get-each_open}
@@ -80,22 +80,21 @@ given_stands (one ∷ given) nodes may name file (suc k, within, is) =
 
 module _ (old new : TreeState) (call : PlainCall) (wrote : Option ℕ) (so_far : List PlainDirent) (s : Steps old new call wrote so_far) where
   -- the checks of its operation hold
-  pub checks_hold : AllHold (operation_checks old.nodes (setting old.store s.files call s.asks (count_written s.asks wrote) so_far) call s.asks)
+  pub checks_hold : AllHold (operation_checks old.nodes (setting old.store s.files call call.operation (count_written call.operation wrote) so_far) call call.operation)
   checks_hold =
-      let of_files : AllHold (checks_of_files old call s.asks (count_written s.asks wrote) so_far (Some s.files)) =
-      subst (λ (files : Option Resolved). AllHold (checks_of_files old call s.asks (count_written s.asks wrote) so_far files)) s.named
-      (subst (λ (o : Option PlainOperation). AllHold (checks_of old call wrote so_far o)) s.is s.allowed) in of_files.1
+      let of_files : AllHold (checks_of_files old call call.operation (count_written call.operation wrote) so_far (Some s.files)) =
+      subst (λ (files : Option Resolved). AllHold (checks_of_files old call call.operation (count_written call.operation wrote) so_far files)) s.named s.allowed in of_files.1
 
   -- the names that it gives, each with its file
   abbrev pub given : List (NodeName × ℕ)
-  given = given_in (setting old.store s.files call s.asks (count_written s.asks wrote) []) call s.asks
+  given = given_in (setting old.store s.files call call.operation (count_written call.operation wrote) []) call call.operation
 
   -- they may be given
   pub may_be_given : AreBound old.nodes given
-  may_be_given = subst (AreBound old.nodes) (given_whatever old.store s.files call s.asks (count_written s.asks wrote) so_far) checks_hold.1.1.1.0
+  may_be_given = subst (AreBound old.nodes) (given_whatever old.store s.files call call.operation (count_written call.operation wrote) so_far) checks_hold.1.1.1.0
 
   -- what was known stays so
-  keeps : (e : Outcome (Unit {0})) → NodesWithin old.nodes (tree_by old (tree_done old s.files call s.asks (count_written s.asks wrote)) e).nodes
+  keeps : (e : Outcome (Unit {0})) → NodesWithin old.nodes (tree_by old (tree_done old s.files call call.operation (count_written call.operation wrote)) e).nodes
   keeps (Fails error) = λ name file is. is
   keeps (Succeeds success) =
       nodes_grown given old.nodes may_be_given
@@ -103,7 +102,7 @@ module _ (old new : TreeState) (call : PlainCall) (wrote : Option ℕ) (so_far :
       nodes_grown given old.nodes may_be_given
 
   step_keeps : NodesWithin old.nodes new.nodes
-  step_keeps = subst (λ (t : TreeState). NodesWithin old.nodes t.nodes) (sym s.after) (keeps (ended s.asks))
+  step_keeps = subst (λ (t : TreeState). NodesWithin old.nodes t.nodes) (sym s.after) (keeps (ended call.operation))
 
 pub names_keep_files : NamesKeepFiles
 names_keep_files old new call wrote so_far name file s is = step_keeps old new call wrote so_far s name file is
@@ -111,19 +110,19 @@ names_keep_files old new call wrote so_far name file s is = step_keeps old new c
 -- where it did not fail, each name that is given stands for its file; an error gives none
 pub given_names_stand : GivenNamesStand
 given_names_stand old new call wrote so_far s name file has =
-    subst (λ (t : TreeState). get t.nodes name ≡ Some file) (sym s.after) (by (ended s.asks) refl)
+    subst (λ (t : TreeState). get t.nodes name ≡ Some file) (sym s.after) (by (ended call.operation) refl)
   where
     count : ℕ
-    count = count_written s.asks wrote
+    count = count_written call.operation wrote
 
-    stands : get (tree_done old s.files call s.asks count).nodes name ≡ Some file
+    stands : get (tree_done old s.files call call.operation count).nodes name ≡ Some file
     stands =
         given_stands (given old new call wrote so_far s) old.nodes (may_be_given old new call wrote so_far s) name file
-        (subst (λ (these : List (NodeName × ℕ)). Contains these (name, file)) (given_whatever old.store s.files call s.asks count so_far) has)
+        (subst (λ (these : List (NodeName × ℕ)). Contains these (name, file)) (given_whatever old.store s.files call call.operation count so_far) has)
 
-    by : (e : Outcome (Unit {0})) → ended s.asks ≡ e → get (tree_by old (tree_done old s.files call s.asks count) e).nodes name ≡ Some file
+    by : (e : Outcome (Unit {0})) → ended call.operation ≡ e → get (tree_by old (tree_done old s.files call call.operation count) e).nodes name ≡ Some file
     by (Fails error) fails =
-        let none = errors_give_nothing (setting old.store s.files call s.asks count so_far) call s.asks error fails in
+        let none = errors_give_nothing (setting old.store s.files call call.operation count so_far) call call.operation error fails in
         let nowhere : Contains [] (name, file) = subst (λ (given : List (NodeName × ℕ)). Contains given (name, file)) none has in
         absurd (omega (arith, nowhere.1))
     by (Succeeds success) is = stands

@@ -15,9 +15,10 @@ use Rattle.fa_ledger.specs.declared.name.NodeName.{NodeName}
 use Rattle.fa_ledger.specs.declared.name.NodeName.TheVariants.{Root, Given}
 use Rattle.fa_ledger.specs.declared.operation.Outcome.{Outcome}
 use Rattle.fa_ledger.specs.declared.operation.Outcome.TheVariants.{Fails, Succeeds, Unanswered}
-use Rattle.fa_ledger.specs.Calls.{PlainCall, operation}
-use Rattle.fa_ledger.specs.Operations.{PlainOperation, ended, OnlyReads}
-use Rattle.fa_ledger.proofs.CallerLemmas.{unanswered}
+use Rattle.fa_ledger.specs.Calls.{PlainCall}
+use Rattle.fa_ledger.specs.Kinds.{OnlyReads}
+use Rattle.fa_ledger.specs.Operations.{PlainOperation, ended}
+use Rattle.fa_ledger.proofs.CallerLemmas.{unanswered, lost, lost_ended}
 use Rattle.fa_tree.specs.State.{OpenDirectory, Store, TreeState, place_cmp, node_cmp, file_of}
 use Rattle.fa_tree.specs.Resolved.{Resolved, other_of, handle_of, resolved_with, resolved_on, resolved}
 use Rattle.fa_tree.specs.Edits.{Edit, names_after, open_after, handles_after}
@@ -25,10 +26,10 @@ use Rattle.fa_tree.specs.Opening.{opened, with_opened}
 use Rattle.fa_tree.specs.Operations.{rule, changed, said, directory_opened, count_written}
 use Rattle.fa_tree.specs.Bindings.{AreBound, bound, nodes_after}
 use Rattle.fa_tree.specs.Rules.{Rule, Said, HasCause}
-use Rattle.fa_tree.specs.Steps.{UnlessFailed, IfFailed, names_given, opens_anew, setting, given_in, tree_done, tree_by, tree_after, operation_checks, checks_of_files, checks_of, Steps}
+use Rattle.fa_tree.specs.Steps.{UnlessFailed, IfFailed, names_given, opens_anew, setting, given_in, tree_done, tree_by, tree_after, operation_checks, checks_of_files, Steps}
 use Rattle.fa_tree.proofs.NodeLemmas.{node_total}
 use Rattle.fa_tree.proofs.NameLemmas.{get-each_open}
-use Rattle.fa_tree.proofs.ChangeLemmas.{reading_changes_nothing, reading_edits_nothing}
+use Rattle.fa_tree.proofs.ChangeLemmas.{reading_changes_nothing, reading_edits_nothing, lost_rule}
 use Rattle.fa_tree.proofs.ChangedLemmas.{stays_open}
 use Rattle.fa_tree.proofs.NamedLemmas.{NodesWithin, nodes_grown, checks_hold, may_be_given}
 use Rattle.fa_tree.proofs.BindingLemmas.{bound_to_none}
@@ -271,77 +272,75 @@ IsFollowed Kept new part call wrote so_far = (after : TreeState) × Steps part a
 module _ (Kept : ℕ → Type 0) (whole part new : TreeState) (call : PlainCall) (wrote : Option ℕ) (so_far : List PlainDirent)
     (p : IsPartOf Kept whole part) (s : Steps whole new call wrote so_far) where
   abbrev written_count : ℕ
-  written_count = count_written s.asks wrote
+  written_count = count_written call.operation wrote
 
-  after_part : (e : Outcome (Unit {0})) → IsPartOf Kept (tree_by whole (tree_done whole s.files call s.asks written_count) e) (tree_by part (tree_done part s.files call s.asks written_count) e)
+  after_part : (e : Outcome (Unit {0})) → IsPartOf Kept (tree_by whole (tree_done whole s.files call call.operation written_count) e) (tree_by part (tree_done part s.files call call.operation written_count) e)
   after_part (Fails error) = p
-  after_part (Succeeds success) = done_part Kept whole part p s.files call s.asks written_count
-  after_part Unanswered = done_part Kept whole part p s.files call s.asks written_count
+  after_part (Succeeds success) = done_part Kept whole part p s.files call call.operation written_count
+  after_part Unanswered = done_part Kept whole part p s.files call call.operation written_count
 
   -- the same call makes the same step
   pub step_same : (resolved part call ≡ None → ⊥) → UsesKept Kept call → IsFollowed Kept new part call wrote so_far
   step_same known kept =
       let named : resolved part call ≡ Some s.files = resolved_part Kept whole part p call kept s.files s.named known in
-      let there : AllHold (checks_of_files part call s.asks written_count so_far (Some s.files)) =
-      (tt, part_checks Kept whole part p s.files call s.asks written_count so_far (checks_hold whole new call wrote so_far s)) in (
-        tree_after part s.files call s.asks written_count,
+      let there : AllHold (checks_of_files part call call.operation written_count so_far (Some s.files)) =
+      (tt, part_checks Kept whole part p s.files call call.operation written_count so_far (checks_hold whole new call wrote so_far s)) in (
+        tree_after part s.files call call.operation written_count,
         record {
-          allowed = subst (λ (o : Option PlainOperation). AllHold (checks_of part call wrote so_far o)) (sym s.is)
-              (subst (λ (files : Option Resolved). AllHold (checks_of_files part call s.asks written_count so_far files)) (sym named) there);
-          asks = s.asks;
-          is = s.is;
+          allowed = subst (λ (files : Option Resolved). AllHold (checks_of_files part call call.operation written_count so_far files)) (sym named) there;
           files = s.files;
           named = named;
           after = refl;
         },
-        subst (λ (t : TreeState). IsPartOf Kept t (tree_after part s.files call s.asks written_count)) (sym s.after) (after_part (ended s.asks)),
+        subst (λ (t : TreeState). IsPartOf Kept t (tree_after part s.files call call.operation written_count)) (sym s.after) (after_part (ended call.operation)),
       )
 
   -- an error leaves the part a part
-  pub step_failed : (error : ℤ) → ended s.asks ≡ Fails error → IsPartOf Kept new part
+  pub step_failed : (error : ℤ) → ended call.operation ≡ Fails error → IsPartOf Kept new part
   step_failed error fails =
-      subst (λ (t : TreeState). IsPartOf Kept t part) (sym (s.after ∙ ap (tree_by whole (tree_done whole s.files call s.asks written_count)) fails)) p
+      subst (λ (t : TreeState). IsPartOf Kept t part) (sym (s.after ∙ ap (tree_by whole (tree_done whole s.files call call.operation written_count)) fails)) p
 
-  module _ (success : ended s.asks ≡ Succeeds tt) (none : OpensNone Kept call) where
-    is : new ≡ tree_done whole s.files call s.asks written_count
-    is = s.after ∙ ap (tree_by whole (tree_done whole s.files call s.asks written_count)) success
+  module _ (success : ended call.operation ≡ Succeeds tt) (none : OpensNone Kept call) where
+    is : new ≡ tree_done whole s.files call call.operation written_count
+    is = s.after ∙ ap (tree_by whole (tree_done whole s.files call call.operation written_count)) success
 
     -- so does one that only reads
-    pub step_read : OnlyReads s.asks → IsPartOf Kept new part
+    pub step_read : OnlyReads call.operation → IsPartOf Kept new part
     step_read reads =
         subst (λ (t : TreeState). IsPartOf Kept t part) (sym is)
-        (read_part Kept whole part p s.files call s.asks written_count (may_be_given whole new call wrote so_far s) none reads)
+        (read_part Kept whole part p s.files call call.operation written_count (may_be_given whole new call wrote so_far s) none reads)
 
     -- a change whose answer is lost makes the same step unanswered
-    pub step_lost : (u : PlainOperation) → operation (unanswered call) ≡ Some u → ended u ≡ Unanswered → ((t : Store) → ◌≡◌ {A = Rule} (rule t s.files u) (rule t s.files s.asks))
-        → (other : Option ℕ) → count_written u other ≡ written_count → (resolved part call ≡ None → ⊥) → UsesKept Kept call
+    pub step_lost : (other : Option ℕ) → count_written (lost call.operation) other ≡ written_count → (resolved part call ≡ None → ⊥) → UsesKept Kept call
         → IsFollowed Kept new part (unanswered call) other so_far
-    step_lost u asks lost alike other same known kept =
+    step_lost other same known kept =
         let named : resolved part call ≡ Some s.files = resolved_part Kept whole part p call kept s.files s.named known in
-        let may : (rule part.store s.files u).needs = needs in
         let there : AllHold (checks_of_files part (unanswered call) u (count_written u other) so_far (Some s.files)) =
-        (tt, lost_checks part (unanswered call) u (count_written u other) so_far s.files lost may) in (
+        (tt, lost_checks part (unanswered call) u (count_written u other) so_far s.files ends needs) in (
           tree_after part s.files (unanswered call) u (count_written u other),
           record {
-            allowed = subst (λ (o : Option PlainOperation). AllHold (checks_of part (unanswered call) other so_far o)) (sym asks)
-                (subst (λ (files : Option Resolved). AllHold (checks_of_files part (unanswered call) u (count_written u other) so_far files)) (sym named) there);
-            asks = u;
-            is = asks;
+            allowed = subst (λ (files : Option Resolved). AllHold (checks_of_files part (unanswered call) u (count_written u other) so_far files)) (sym named) there;
             files = s.files;
             named = named;
             after = refl;
           },
           subst (λ (t : TreeState). IsPartOf Kept t (tree_after part s.files (unanswered call) u (count_written u other))) (sym is)
-              (subst (λ (t : TreeState). IsPartOf Kept (tree_done whole s.files call s.asks written_count) t)
-              (sym (ap (tree_by part (tree_done part s.files (unanswered call) u (count_written u other))) lost))
-              (subst (λ (n : ℕ). IsPartOf Kept (tree_done whole s.files call s.asks written_count) (tree_done part s.files (unanswered call) u n)) (sym same)
-              (lost_part Kept whole part p s.files call s.asks written_count (may_be_given whole new call wrote so_far s) none u alike))),
+              (subst (λ (t : TreeState). IsPartOf Kept (tree_done whole s.files call call.operation written_count) t)
+              (sym (ap (tree_by part (tree_done part s.files (unanswered call) u (count_written u other))) ends))
+              (subst (λ (n : ℕ). IsPartOf Kept (tree_done whole s.files call call.operation written_count) (tree_done part s.files (unanswered call) u n)) (sym same)
+              (lost_part Kept whole part p s.files call call.operation written_count (may_be_given whole new call wrote so_far s) none u (λ t. lost_rule t s.files call.operation)))),
         )
       where
+        u : PlainOperation
+        u = lost call.operation
+
+        ends : ended u ≡ Unanswered
+        ends = lost_ended call.operation
+
         -- what the whole asked for, the part has too
         needs : (rule part.store s.files u).needs
         needs =
-            let whole_needs : (rule whole.store s.files s.asks).needs =
-            (subst (λ (e : Outcome (Unit {0})). UnlessFailed e ((rule whole.store s.files s.asks).needs × (said (setting whole.store s.files call s.asks written_count so_far) s.asks).found)) success
+            let whole_needs : (rule whole.store s.files call.operation).needs =
+            (subst (λ (e : Outcome (Unit {0})). UnlessFailed e ((rule whole.store s.files call.operation).needs × (said (setting whole.store s.files call call.operation written_count so_far) call.operation).found)) success
             (checks_hold whole new call wrote so_far s).0).0 in
-            subst (λ (r : Rule). r.needs) (sym (alike part.store)) (subst (λ (t : Store). (rule t s.files s.asks).needs) (sym p.store) whole_needs)
+            subst (λ (r : Rule). r.needs) (sym (lost_rule part.store s.files call.operation)) (subst (λ (t : Store). (rule t s.files call.operation).needs) (sym p.store) whole_needs)

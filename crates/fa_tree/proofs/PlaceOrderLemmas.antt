@@ -1,10 +1,10 @@
 -- The names after an edit.
-use Rattle.std.proofs.Common.{◌≡◌, ◌≢◌, ◌⊎◌, ℕ, Bool, true, false, cond, None, Some, refl, sym, ap, subst, ◌∙◌, inl, inr}
+use Rattle.std.proofs.Common.{◌≡◌, ◌≢◌, ◌⊎◌, ℕ, Bool, true, false, cond, Option, None, Some, refl, sym, ap, subst, ◌∙◌, inl, inr}
 use Rattle.std.specs.Ordering.{eq_by_cmp, is_eq}
 use Rattle.std.specs.Cmp.{tied_itself}
-use Rattle.std.specs.FinMap.{FinMap, get, insert, remove, get-insert, get-remove}
+use Rattle.std.specs.FinMap.{FinMap, get, insert, remove, get-insert, get-remove, same_map}
 use Rattle.fa_tree.specs.State.{Place, place_cmp}
-use Rattle.fa_tree.specs.parts.PlaceLaws.{place_cmp_total, same_place}
+use Rattle.fa_tree.specs.parts.PlaceLaws.{place_cmp_total, places_apart, same_place}
 
 -- a place ties with itself
 pub place_self : (a : Place) → eq_by_cmp place_cmp a a ≡ true
@@ -29,3 +29,19 @@ name_left names removed q x is =
     by : (b : Bool) → eq_by_cmp place_cmp q removed ≡ b → cond b None (get names q) ≡ Some x → (q ≢ removed) × (get names q ≡ Some x)
     by true tie is = absurd cc
     by false apart is = ((λ same. let tie : eq_by_cmp place_cmp q removed ≡ true = subst (λ (p : Place). eq_by_cmp place_cmp q p ≡ true) same (place_self q) in absurd cc), is)
+
+-- a name that goes after one is added at another place may go before it
+pub name_goes_first : (names : FinMap place_cmp ℕ) (added removed : Place) (file : ℕ) → added ≢ removed
+    → remove (insert names added file) removed ≡ insert (remove names removed) added file
+name_goes_first names added removed file apart = same_map place_cmp_total places_apart _ _ (λ q.
+    get-remove place_cmp_total (insert names added file) removed q
+    ∙ ap (cond (eq_by_cmp place_cmp q removed) None) (get-insert place_cmp_total names added file q)
+    ∙ either (eq_by_cmp place_cmp q removed) (eq_by_cmp place_cmp q added)
+    (λ goes comes. apart (sym (same_place q added comes) ∙ same_place q removed goes)) (get names q)
+    ∙ sym (get-insert place_cmp_total (remove names removed) added file q
+    ∙ ap (cond (eq_by_cmp place_cmp q added) (Some file)) (get-remove place_cmp_total names removed q)))
+  where
+    either : (a b : Bool) → (a ≡ true → b ≡ true → ⊥) → (x : Option ℕ) → cond a None (cond b (Some file) x) ≡ cond b (Some file) (cond a None x)
+    either true true clash x = absurd (clash refl refl)
+    either true false clash x = refl
+    either false b clash x = refl

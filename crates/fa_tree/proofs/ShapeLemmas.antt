@@ -6,8 +6,10 @@ use Rattle.std.proofs.lemmas.Bool.{eqb-false}
 use Rattle.std.proofs.lemmas.Option.{slice_get_within, slice_get-get_or}
 use Rattle.fa_bodies.specs.declared.mode.Kind.{Kind}
 use Rattle.fa_bodies.specs.declared.mode.Kind.TheVariants.{Directory}
+use Rattle.fa_bodies.specs.declared.rename_flags.RenameFlags.{RenameFlags}
+use Rattle.fa_bodies.specs.declared.rename_flags.RenameFlags.TheVariants.{Replace, NoReplace, Exchange}
 use Rattle.fa_ledger.specs.Operations.{PlainOperation}
-use Rattle.fa_ledger.specs.Operations.PlainAction.{Setattr, Symlink, Mknod, Mkdir, Unlink, Rmdir, Rename, Link, Open, Write, Create}
+use Rattle.fa_ledger.specs.Operations.PlainAction.{Setattr, Symlink, Mknod, Mkdir, Unlink, Rmdir, Rename, Rename2, Link, Open, Write, Create}
 use Rattle.fa_ledger.specs.Operations.PlainOperation.{Acts}
 use Rattle.fa_tree.specs.State.{File, Store, Place, place_cmp, root, HasName, IsOfKind, IsDirectory, IsLinked, IsParent, IsBelow}
 use Rattle.fa_tree.specs.State.IsBelow.{child, further}
@@ -17,7 +19,7 @@ use Rattle.fa_tree.specs.Edits.Edit.{Added, Removed}
 use Rattle.fa_tree.specs.Lookups.{file_set}
 use Rattle.fa_tree.specs.Contents.{file_written}
 use Rattle.fa_tree.specs.Making.{emptied, new_symlink, new_node, new_directory as made_directory, new_regular, files_created}
-use Rattle.fa_tree.specs.Renaming.{MayBeRenamed, moved, moved_if_any, rename_edits}
+use Rattle.fa_tree.specs.Renaming.{MayBeRenamed, moved, rename_edits, MayComeInto, MayBeExchanged, exchanged, exchange_edits, rename2_rule}
 use Rattle.fa_tree.specs.Linking.{MayBeLinked}
 use Rattle.fa_tree.specs.Rules.{with_file}
 use Rattle.fa_tree.specs.Operations.{rule}
@@ -25,7 +27,7 @@ use Rattle.fa_tree.specs.Shape.{IsRooted, IsTree}
 use Rattle.fa_tree.specs.Shape.IsRooted.{rooted}
 use Rattle.fa_tree.specs.Building.{empty_tree}
 use Rattle.fa_tree.specs.Laws.{ChangesKeepTrees, FilesStay}
-use Rattle.fa_tree.proofs.PlaceOrderLemmas.{name_added, name_left}
+use Rattle.fa_tree.proofs.PlaceOrderLemmas.{name_added, name_left, name_goes_first}
 
 -- ---- files and their kinds
 
@@ -97,6 +99,13 @@ opened_stay : (files : List File) (truncates : Bool) (number : ℕ) → Stay fil
 opened_stay files true number = with_stay files number emptied (λ file. refl)
 opened_stay files false number = all_stay files
 
+-- RENAME2 leaves files as they are
+rename2_stay : (s : Store) (old_directory : ℕ) (old_name : List ℕ) (flags : RenameFlags) (other : Option ℕ) (new_name : List ℕ) (truncates : Bool) (count : ℕ)
+    → Stay s.files ((rename2_rule s old_directory old_name flags other new_name).files truncates count)
+rename2_stay s old_directory old_name Replace other new_name truncates count = all_stay s.files
+rename2_stay s old_directory old_name NoReplace other new_name truncates count = all_stay s.files
+rename2_stay s old_directory old_name Exchange other new_name truncates count = all_stay s.files
+
 -- what an operation leaves
 files_stay_after : (s : Store) (x : Resolved) (truncates : Bool) (count : ℕ) (o : PlainOperation) → Stay s.files ((rule s x o).files truncates count)
 files_stay_after s x truncates count (Acts (Setattr a o)) = with_stay s.files x.node (file_set a) (λ file. refl)
@@ -107,6 +116,7 @@ files_stay_after s x truncates count (Acts (Open o)) = opened_stay s.files trunc
 files_stay_after s x truncates count (Acts (Write offset size payload o)) = with_stay s.files x.node (file_written offset payload count) (λ file. refl)
 files_stay_after s x truncates count (Acts (Create flags mode umask name o)) =
     created_stay s.files truncates (new_regular mode umask) (get s.names (x.node, name))
+files_stay_after s x truncates count (Acts (Rename2 flags old_name new_name o)) = rename2_stay s x.node old_name flags x.other new_name truncates count
 files_stay_after s x truncates count other = all_stay s.files
 
 -- each file keeps its number and its kind
@@ -362,8 +372,130 @@ pub renaming_keeps_tree : (s : Store) (old_directory : ℕ) (old_name : List ℕ
     → MayBeRenamed s old_directory old_name new_directory new_name
     → IsTree (record { names = names_after (rename_edits s old_directory old_name new_directory new_name) s.names; files = s.files })
 renaming_keeps_tree s old_directory old_name new_directory new_name tree may =
-    subst (λ found. IsTree (record { names = names_after (moved_if_any s old_directory old_name new_directory new_name found) s.names; files = s.files })) (sym may.there)
+    subst (λ found. IsTree (record { names = names_after (option_map_or (λ file. moved old_directory old_name new_directory new_name file (get s.names (new_directory, new_name))) found []) s.names; files = s.files })) (sym may.there)
     (moved_keeps_tree s old_directory old_name new_directory new_name may.file tree may.there may.to.0 may.moves (get s.names (new_directory, new_name)) refl)
+
+-- ---- an exchange
+
+-- one way goes on where another ends
+below_through : (s : Store) (above between below : ℕ) → IsBelow s above between → IsBelow s between below → IsBelow s above below
+below_through s above between below first (child _ _ is) = further above between below is first
+below_through s above between below first (further _ last _ is way) = further above last below is (below_through s above between last first way)
+
+-- no way leads round
+no_round : (s : Store) (file : ℕ) → IsRooted s file → IsBelow s file file → ⊥
+no_round s file (rooted _ up) (child _ _ is) = no_round s file (up file is) (child file file is)
+no_round s file (rooted _ up) (further _ between _ is way) =
+    no_round s between (up between is) (below_through s between file between (child between file is) way)
+
+-- what is below once a name came: it was before, or the directory of the name is what is above it, or below that
+below_then : (s : Store) (directory : ℕ) (name : List ℕ) (file above below : ℕ) → IsBelow (with_name s directory name file) above below
+    → IsBelow s above below ⊎ ((directory ≡ above) ⊎ IsBelow s above directory)
+below_then s directory name file above below (child _ _ is) =
+    elim (parent_then s directory name file above below is) [
+      | inl new ↦ inr (inl (sym new.0))
+      | inr old ↦ inl (child above below old)
+    ]
+below_then s directory name file above below (further _ between _ is way) =
+    elim (below_then s directory name file above between way) [
+      | inl before ↦ elim (parent_then s directory name file between below is) [
+        | inl new ↦ inr (inr (subst (λ d. IsBelow s above d) new.0 before))
+        | inr old ↦ inl (further above between below old before)
+      ]
+      | inr through ↦ inr through
+    ]
+
+-- both names go, and come again for the other's file
+module _ (s : Store) (old_directory : ℕ) (old_name : List ℕ) (new_directory : ℕ) (new_name : List ℕ) (file other : ℕ) (tree : IsTree s)
+    (there : HasName s old_directory old_name file) (also : HasName s new_directory new_name other) (apart : other ≢ file)
+    (goes : MayComeInto s new_directory file) (comes : MayComeInto s old_directory other) where
+  -- without the two
+  abbrev left : Store
+  left = without (without s (old_directory, old_name)) (new_directory, new_name)
+
+  was : (directory : ℕ) (name : List ℕ) (f : ℕ) → HasName left directory name f
+      → ◌≢◌ {A = Place} (directory, name) (new_directory, new_name) × ◌≢◌ {A = Place} (directory, name) (old_directory, old_name) × HasName s directory name f
+  was directory name f has =
+      let one = name_left (without s (old_directory, old_name)).names (new_directory, new_name) (directory, name) f has in
+      let two = name_left s.names (old_directory, old_name) (directory, name) f one.1 in
+      (one.0, two.0, two.1)
+
+  left_is_tree : IsTree left
+  left_is_tree = removal_keeps_tree (without s (old_directory, old_name)) (new_directory, new_name) (removal_keeps_tree s (old_directory, old_name) tree)
+
+  -- with the old one for the other's file
+  abbrev half : Store
+  half = with_name left old_directory old_name other
+
+  half_is_tree : IsTree half
+  half_is_tree =
+      addition_keeps_tree left old_directory old_name other left_is_tree
+      (move_comes s left new_directory new_name old_directory other tree
+      (record { there = also; to = tree.inside old_directory old_name file there; moves = comes }) refl
+      (λ directory name f has. let one = was directory name f has in (one.0, one.2)))
+
+  -- it was not below the file that it is in
+  not_above_itself : (old_directory ≡ file) ⊎ IsBelow left file old_directory → ⊥
+  not_above_itself (inl same) =
+      no_round s file (tree.ends file) (child file file (old_name, subst (λ d. HasName s d old_name file) same there))
+  not_above_itself (inr below) =
+      no_round s file (tree.ends file) (below_through s file old_directory file
+      (fewer_below s left (λ parent x is. (is.0, (was parent is.0 x is.1).2)) file old_directory below) (child old_directory file (old_name, there)))
+
+  half_not_above : IsBelow half file new_directory → ⊥
+  half_not_above below =
+      elim (below_then left old_directory old_name other file new_directory below) [
+        | inl before ↦
+            let in_s = fewer_below s left (λ parent x is. (is.0, (was parent is.0 x is.1).2)) file new_directory before in
+            (goes (above_is_directory s tree file new_directory in_s)).1 in_s
+        | inr through ↦ not_above_itself through
+      ]
+
+  half_unnamed : IsDirectory s file → (directory : ℕ) (name : List ℕ) → HasName half directory name file → ⊥
+  half_unnamed kind directory name has =
+      elim (name_added left.names (old_directory, old_name) (directory, name) other file has) [
+        | inl new ↦ apart (sym new.1)
+        | inr before ↦
+            let one = was directory name file before in
+            let same = tree.one_name directory old_directory name old_name file one.2 there kind in
+            one.1 (λ i. (same.0 i, same.1 i))
+      ]
+
+  both_come : IsTree (with_name half new_directory new_name file)
+  both_come =
+      let to = tree.inside new_directory new_name other also in
+      addition_keeps_tree half new_directory new_name file half_is_tree (record {
+        in_directory = to;
+        there = tree.there old_directory old_name file there;
+        unnamed = half_unnamed;
+        not_itself = λ itself. (goes (subst (IsDirectory s) itself to)).0 itself;
+        not_above = half_not_above;
+      })
+
+  exchange_keeps_tree : ◌≢◌ {A = Place} (old_directory, old_name) (new_directory, new_name)
+      → IsTree (record { names = names_after (Removed old_directory old_name ∷ Added old_directory old_name other ∷ Removed new_directory new_name ∷ Added new_directory new_name file ∷ []) s.names; files = s.files })
+  exchange_keeps_tree places =
+      subst (λ names. IsTree (record { names = insert names (new_directory, new_name) file; files = s.files }))
+      (sym (name_goes_first (remove s.names (old_directory, old_name)) (old_directory, old_name) (new_directory, new_name) other places)) both_come
+
+-- the edits are those of the files that have the names
+pub exchanging_keeps_tree : (s : Store) (old_directory : ℕ) (old_name : List ℕ) (new_directory : ℕ) (new_name : List ℕ) → IsTree s
+    → MayBeExchanged s old_directory old_name new_directory new_name
+    → IsTree (record { names = names_after (exchange_edits s old_directory old_name new_directory new_name) s.names; files = s.files })
+exchanging_keeps_tree s old_directory old_name new_directory new_name tree may =
+    subst (λ found. IsTree (after found (get s.names (new_directory, new_name)))) (sym may.there)
+    (subst (λ found. IsTree (after (Some may.file) found)) (sym may.also) (by (may.other == may.file) refl))
+  where
+    after : Option ℕ → Option ℕ → Store
+    after found taken = record { names = names_after (option_map_or (λ file. option_map_or (exchanged old_directory old_name new_directory new_name file) taken []) found []) s.names; files = s.files }
+
+    by : (b : Bool) → (may.other == may.file) ≡ b
+        → IsTree (record { names = names_after (if b then [] else Removed old_directory old_name ∷ Added old_directory old_name may.other ∷ Removed new_directory new_name ∷ Added new_directory new_name may.file ∷ []) s.names; files = s.files })
+    by true test = tree
+    by false test =
+        let apart : may.other ≢ may.file = λ same. eqb-false may.other may.file test same in
+        exchange_keeps_tree s old_directory old_name new_directory new_name may.file may.other tree may.there may.also apart may.goes may.comes
+        (λ same. let one : Some may.file ≡ Some may.other = sym may.there ∙ ap (get s.names) same ∙ may.also in let is : may.other ≡ may.file = cc in apart is)
 
 -- ---- RENAME, LINK and CREATE, by what they find
 
@@ -373,6 +505,15 @@ renamed_tree : (s : Store) (old_directory : ℕ) (old_name new_name : List ℕ) 
     → IsTree (record { names = names_after (option_map_or (λ directory. rename_edits s old_directory old_name directory new_name) other []) s.names; files = s.files })
 renamed_tree s old_directory old_name new_name None tree may = absurd may
 renamed_tree s old_directory old_name new_name (Some directory) tree may = renaming_keeps_tree s old_directory old_name directory new_name tree may
+
+-- RENAME2, by its flags
+rename2_tree : (s : Store) (old_directory : ℕ) (old_name : List ℕ) (flags : RenameFlags) (other : Option ℕ) (new_name : List ℕ) (truncates : Bool) (count : ℕ) → IsTree s
+    → (rename2_rule s old_directory old_name flags other new_name).needs
+    → IsTree (record { names = names_after (rename2_rule s old_directory old_name flags other new_name).edits s.names; files = (rename2_rule s old_directory old_name flags other new_name).files truncates count })
+rename2_tree s old_directory old_name Replace other new_name truncates count tree may = renamed_tree s old_directory old_name new_name other tree may
+rename2_tree s old_directory old_name NoReplace other new_name truncates count tree may = renamed_tree s old_directory old_name new_name other tree may.1
+rename2_tree s old_directory old_name Exchange None new_name truncates count tree may = absurd may
+rename2_tree s old_directory old_name Exchange (Some directory) new_name truncates count tree may = exchanging_keeps_tree s old_directory old_name directory new_name tree may
 
 -- LINK, by the file
 linked_tree : (s : Store) (directory : ℕ) (name : List ℕ) (other : Option ℕ) → IsTree s → OfOther other (λ file. MayBeLinked s directory name file)
@@ -398,6 +539,7 @@ changes_keep_trees s x truncates (Acts (Mkdir mode umask name o)) count tree may
 changes_keep_trees s x truncates (Acts (Unlink name o)) count tree may = removal_keeps_tree s (x.node, name) tree
 changes_keep_trees s x truncates (Acts (Rmdir name o)) count tree may = removal_keeps_tree s (x.node, name) tree
 changes_keep_trees s x truncates (Acts (Rename old_name new_name o)) count tree may = renamed_tree s x.node old_name new_name x.other tree may
+changes_keep_trees s x truncates (Acts (Rename2 flags old_name new_name o)) count tree may = rename2_tree s x.node old_name flags x.other new_name truncates count tree may
 changes_keep_trees s x truncates (Acts (Link new_name o)) count tree may = linked_tree s x.node new_name x.other tree may
 changes_keep_trees s x truncates (Acts (Create flags mode umask name o)) count tree may =
     created_tree s x.node name truncates (new_regular mode umask) (get s.names (x.node, name)) tree may.0.0

@@ -1,6 +1,7 @@
 -- What places have after a write at one.
-use Rattle.std.proofs.Common.{◌≡◌, Bool, true, false, cond, List, Option, refl, sym, ap, subst, ◌∙◌}
+use Rattle.std.proofs.Common.{◌≡◌, ◌≢◌, Bool, true, false, cond, List, Option, None, Some, refl, sym, ap, subst, ◌∙◌}
 use Rattle.std.specs.Map.{lookup, KeepsOthers}
+use Rattle.std.specs.Option.{option_map}
 use Rattle.std.specs.Ordering.{eq_by_cmp}
 use Rattle.fa_capture.proofs.CallerLemmas.{found_alike}
 use Rattle.fa_tree.specs.State as state
@@ -8,7 +9,7 @@ use Rattle.fa_tree.specs.State.{place_cmp}
 use Rattle.fa_tree.specs.declared.slots.Place.{Place}
 use Rattle.fa_tree.specs.declared.slots.Slot.{Slot}
 use Rattle.fa_tree.specs.parts.PlaceLaws.{same_place, place_equiv, place_test}
-use Rattle.fa_tree.specs.parts.SlotParts.{place_of, is_at, slot_at}
+use Rattle.fa_tree.specs.parts.SlotParts.{place_of, is_at, slot_at, IsChangedAt}
 
 -- a key that one place has, another has not
 apart : (q place : state.Place) (key : Place) → eq_by_cmp place_cmp q place ≡ false → is_at place key ≡ true → is_at q key ≡ false
@@ -43,6 +44,19 @@ unchanged_at slots place q change same =
       | true ↦ λ test. subst (λ p. slot_at slots p ≡ change (slot_at slots p)) (sym (same_place q place test)) same
       | false ↦ λ test. refl
     ] refl
+
+-- what is put in the place of what a place has is put there
+pub replaced_at : (old new : List (Place × Slot)) (place : state.Place) (slot : Slot) → slot_at old place ≢ None
+    → IsChangedAt place (option_map (λ _. slot)) old new → IsChangedAt place (λ _. Some slot) old new
+replaced_at old new place slot there wrote q = wrote q ∙ by (eq_by_cmp place_cmp q place) refl
+  where
+    is_there : (x : Option Slot) → x ≢ None → option_map (λ _. slot) x ≡ Some slot
+    is_there None some = absurd (some refl)
+    is_there (Some old) some = refl
+
+    by : (b : Bool) → eq_by_cmp place_cmp q place ≡ b → cond b (option_map (λ _. slot) (slot_at old q)) (slot_at old q) ≡ cond b (Some slot) (slot_at old q)
+    by true test = is_there (slot_at old q) (λ none. there (ap (slot_at old) (sym (same_place q place test)) ∙ none))
+    by false test = refl
 
 -- keys are equal where their places are
 pub keys_same : (x y : Place) → Rattle.fa_tree.specs.contracts.slots.PlacePartialEq.TheImpl.eq-value.it x y ≡ eq_by_cmp place_cmp (place_of x) (place_of y)

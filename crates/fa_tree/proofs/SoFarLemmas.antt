@@ -12,15 +12,9 @@ use Rattle.std.proofs.lemmas.List.Kept.{AllPairs-from_increasing}
 use Rattle.std.proofs.lemmas.Option.{slice_get_within, slice_get-map, get_or_from_slice_get}
 use Rattle.fa_capture.specs.Message.{Message}
 use Rattle.fa_bodies.specs.Dirents.{PlainDirent}
-use Rattle.fa_bodies.specs.Listing.{entries_left}
-use Rattle.fa_bodies.specs.Replies.{reply_shown}
-use Rattle.fa_bodies.specs.declared.dirent.Entries.{Entries}
-use Rattle.fa_bodies.specs.declared.replies.Reply.TheVariants.{Listed}
-use Rattle.fa_ledger.specs.Calls.{PlainAnswer, PlainCall, answer_shown, call_shown, AreCalls}
+use Rattle.fa_ledger.specs.Calls.{PlainCall, AreCalls}
 use Rattle.fa_ledger.specs.Passing.{AreGood}
-use Rattle.fa_ledger.specs.SoFar.{entries_of, entries_answered, call_asked, before_of, listed_within, listing_so_far}
-use Rattle.fa_ledger.specs.declared.call.Answer.{Answer}
-use Rattle.fa_ledger.specs.declared.call.Call.{Call}
+use Rattle.fa_ledger.specs.SoFar.{entries_answered, call_asked, before_of, listed_within, listing_so_far}
 use Rattle.fa_ledger.specs.declared.call.Listing.{Listing}
 use Rattle.fa_ledger.proofs.CallerLemmas.{moved_on}
 use Rattle.fa_tree.specs.parts.TallyParts.{going_on_from}
@@ -94,25 +88,25 @@ nothing_before calls call listing lists none = goes_nowhere calls call (ap (opti
 
 -- what was listed so far for a call that goes on from this, if it goes on from any
 abbrev listed_on : ℕ → List PlainCall → Option (PlainCall × ℕ) → List PlainDirent
-listed_on n calls before = option_map_or (λ b. listed_within n calls b.0 ++ take b.1 (entries_answered b.0)) before []
+listed_on n calls before = option_map_or (λ b. listed_within n calls b.0 ++ take b.1 (entries_answered b.0.operation)) before []
 
 -- the same by the request's number
 found_on : (n : ℕ) (calls : List PlainCall) (count : ℕ) (found : Option PlainCall)
-    → option_map_or (λ earlier. listed_within n calls earlier ++ take count (entries_answered earlier)) found [] ≡ listed_on n calls (option_map (λ earlier. (earlier, count)) found)
+    → option_map_or (λ earlier. listed_within n calls earlier ++ take count (entries_answered earlier.operation)) found [] ≡ listed_on n calls (option_map (λ earlier. (earlier, count)) found)
 found_on n calls count None = refl
 found_on n calls count (Some earlier) = refl
 
 unrolled : (n : ℕ) (calls : List PlainCall) (call : PlainCall) → listed_within (suc n) calls call ≡ listed_on n calls (going_on_from calls call)
 unrolled n calls call =
     elim (before_of call) as (λ before.
-    option_map_or (λ b. option_map_or (λ earlier. listed_within n calls earlier ++ take b.1 (entries_answered earlier)) (call_asked calls b.0) []) before []
+    option_map_or (λ b. option_map_or (λ earlier. listed_within n calls earlier ++ take b.1 (entries_answered earlier.operation)) (call_asked calls b.0) []) before []
     ≡ listed_on n calls (option_and_then (λ b. option_map (λ earlier. (earlier, b.1)) (call_asked calls b.0)) before)) [
       | None ↦ refl
       | Some b ↦ found_on n calls b.1 (call_asked calls b.0)
     ]
 
 listed_more : (n : ℕ) (calls : List PlainCall) (call earlier : PlainCall) (count : ℕ) → going_on_from calls call ≡ Some (earlier, count)
-    → listed_within (suc n) calls call ≡ listed_within n calls earlier ++ take count (entries_answered earlier)
+    → listed_within (suc n) calls call ≡ listed_within n calls earlier ++ take count (entries_answered earlier.operation)
 listed_more n calls call earlier count goes =
     unrolled n calls call ∙ ap (listed_on n calls) goes
 
@@ -136,13 +130,13 @@ all_left calls k = append-nil (left_so_far (k - 0) calls k) ∙ ap (λ n. left_s
 pub one_back : (calls : List PlainCall) (rounds round place next : ℕ) (call earlier : PlainCall) (count : ℕ) (noted whole : List PlainDirent)
     → round < rounds → slice_get calls place ≡ Some call → slice_get calls next ≡ Some earlier → going_on_from calls call ≡ Some (earlier, count)
     → left_so_far (rounds - round) calls place ++ noted ≡ whole
-    → left_so_far (rounds - (round + 1)) calls next ++ (take count (entries_answered earlier) ++ noted) ≡ whole
+    → left_so_far (rounds - (round + 1)) calls next ++ (take count (entries_answered earlier.operation) ++ noted) ≡ whole
 one_back calls rounds round place next call earlier count noted whole below there here goes is =
     let n = rounds - (round + 1) in
     let one : rounds - round ≡ suc n = omega arith in
     let left = left_at (rounds - round) calls place call there ∙ ap (λ m. listed_within m calls call) one ∙ listed_more n calls call earlier count goes in
-    ap (λ ds. ds ++ (take count (entries_answered earlier) ++ noted)) (left_at n calls next earlier here)
-    ∙ sym (append_assoc (listed_within n calls earlier) (take count (entries_answered earlier)) noted)
+    ap (λ ds. ds ++ (take count (entries_answered earlier.operation) ++ noted)) (left_at n calls next earlier here)
+    ∙ sym (append_assoc (listed_within n calls earlier) (take count (entries_answered earlier.operation)) noted)
     ∙ ap (λ ds. ds ++ noted) (sym left) ∙ is
 
 -- nothing is left where the call goes on from none
@@ -174,8 +168,3 @@ taken_more all front left rest x n m is next one =
 pub taken_all : {X : Type 0} (all front left : List X) (n : ℕ) → all ≡ front ++ take n left → (0 < n → left ≡ []) → all ≡ front
 taken_all all front left zero is ends = is ∙ append-nil front
 taken_all all front left (suc n) is ends = is ∙ ap (λ xs. front ++ take (suc n) xs) (ends (omega arith)) ∙ append-nil front
-
--- the entries of an answer that lists
-pub entries_listed : (call : Call) (answer : Answer) (entries : Entries) → call.answer ≡ Some answer → answer.reply ≡ Listed entries → entries_answered (call_shown call) ≡ entries_left entries
-entries_listed call answer entries is lists =
-    ap (λ a. option_map_or (λ (x : PlainAnswer). entries_of x.reply) (option_map answer_shown a) []) is ∙ ap (λ r. entries_of (reply_shown r)) lists

@@ -16,13 +16,13 @@ use Rattle.fa_tree.specs.Rules.{with_file}
 use Rattle.fa_tree.specs.Edits.{names_after, open_after}
 use Rattle.fa_tree.specs.Edits.Edit.{Added, Removed}
 use Rattle.fa_tree.specs.Lookups.{bits_set, file_set}
-use Rattle.fa_tree.specs.Renaming.{MayBeRenamed, moved, moved_if_any, rename_edits}
+use Rattle.fa_tree.specs.Renaming.{MayBeRenamed, moved, rename_edits, MayBeExchanged, exchanged}
 use Rattle.fa_tree.specs.Shape.{IsTree}
 use Rattle.fa_tree.specs.parts.FileParts.{with_bits, with_bytes}
 use Rattle.fa_tree.specs.parts.NameParts.{NamesShown, edited}
 use Rattle.fa_tree.specs.parts.StoredParts.{StoredShown, mode_set, stored_edited, stored_with}
 use Rattle.fa_tree.proofs.EditedLemmas.{each_same}
-use Rattle.fa_tree.proofs.ShapeLemmas.{with_stay, files_keep_tree, removal_keeps_tree, renaming_keeps_tree}
+use Rattle.fa_tree.proofs.ShapeLemmas.{with_stay, files_keep_tree, removal_keeps_tree, renaming_keeps_tree, exchanging_keeps_tree}
 
 -- ---- names
 
@@ -44,9 +44,26 @@ pub renamed_or_not : {A E : Type 0} (r : Result A E) (old new : NamesShown) (fil
     → OnOk r (new ≡ edited (moved old_directory old_name new_directory new_name file (get old.names (new_directory, new_name))) old) → OnErr r (new ≡ old)
     → IsTree (record { names = new.names; files = files })
 renamed_or_not (Ok v) old new files old_directory old_name new_directory new_name file tree may there renamed same =
-    rw (renamed) (subst (λ found. IsTree (record { names = names_after (moved_if_any (record { names = old.names; files = files }) old_directory old_name new_directory new_name found) old.names; files = files })) there
+    rw (renamed) (subst (λ found. IsTree (record { names = names_after (option_map_or (λ f. moved old_directory old_name new_directory new_name f (get old.names (new_directory, new_name))) found []) old.names; files = files })) there
     (renaming_keeps_tree (record { names = old.names; files = files }) old_directory old_name new_directory new_name tree may))
 renamed_or_not (Err e) old new files old_directory old_name new_directory new_name file tree may there renamed same = rw (same) tree
+
+-- what may be exchanged in a state may be exchanged in the same state
+pub still_exchanged : (t u : StoredShown) (old_directory : ℕ) (old_name : List ℕ) (new_directory : ℕ) (new_name : List ℕ) → t ≡ u
+    → MayBeExchanged u.store old_directory old_name new_directory new_name → MayBeExchanged t.store old_directory old_name new_directory new_name
+still_exchanged t u old_directory old_name new_directory new_name same may =
+    subst (λ (v : StoredShown). MayBeExchanged v.store old_directory old_name new_directory new_name) (sym same) may
+
+-- two names with each other's file
+pub exchanged_tree : (old new : NamesShown) (files : List File) (old_directory : ℕ) (old_name : List ℕ) (new_directory : ℕ) (new_name : List ℕ) (file other : ℕ)
+    → IsTree (record { names = old.names; files = files }) → MayBeExchanged (record { names = old.names; files = files }) old_directory old_name new_directory new_name
+    → get old.names (old_directory, old_name) ≡ Some file → get old.names (new_directory, new_name) ≡ Some other
+    → new ≡ edited (exchanged old_directory old_name new_directory new_name file other) old → IsTree (record { names = new.names; files = files })
+exchanged_tree old new files old_directory old_name new_directory new_name file other tree may there also exchanges =
+    rw (exchanges)
+    (subst (λ found. IsTree (record { names = names_after (option_map_or (λ f. option_map_or (exchanged old_directory old_name new_directory new_name f) (Some other) []) found []) old.names; files = files })) there
+    (subst (λ found. IsTree (record { names = names_after (option_map_or (λ f. option_map_or (exchanged old_directory old_name new_directory new_name f) found []) (get old.names (old_directory, old_name)) []) old.names; files = files })) also
+    (exchanging_keeps_tree (record { names = old.names; files = files }) old_directory old_name new_directory new_name tree may)))
 
 -- what is found where the test says that it is this file
 pub found_same : (found : Option ℕ) (file : ℕ) → option_eq (λ m n. m == n) found (Some file) ≡ true → found ≡ Some file
@@ -63,7 +80,7 @@ unmoved : (t : StoredShown) (old_directory : ℕ) (old_name : List ℕ) (new_dir
     → t ≡ stored_edited (rename_edits t.store old_directory old_name new_directory new_name) t
 unmoved t old_directory old_name new_directory new_name file there also =
     let test : (file == file) ≡ true = grind (arith, nat_tests) in
-    sym (ap (λ found. stored_edited (moved_if_any t.store old_directory old_name new_directory new_name found) t) there
+    sym (ap (λ found. stored_edited (option_map_or (λ f. moved old_directory old_name new_directory new_name f (get t.store.names (new_directory, new_name))) found []) t) there
     ∙ ap (λ found. stored_edited (moved old_directory old_name new_directory new_name file found) t) also
     ∙ ap (λ b. stored_edited (if b then [] else Removed old_directory old_name ∷ Removed new_directory new_name ∷ Added new_directory new_name file ∷ []) t) test
     ∙ unedited t)

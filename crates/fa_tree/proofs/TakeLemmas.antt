@@ -7,7 +7,7 @@ use Rattle.fa_ledger.specs.declared.operation.Outcome.{Outcome}
 use Rattle.fa_ledger.specs.declared.operation.Outcome.TheVariants.{Fails, Succeeds, Unanswered}
 use Rattle.fa_ledger.specs.Calls.{PlainCall}
 use Rattle.fa_ledger.specs.Operations.{PlainAction}
-use Rattle.fa_ledger.specs.Operations.PlainAction.{Getattr, Setattr, Readlink, Unlink, Rmdir, Open, Read}
+use Rattle.fa_ledger.specs.Operations.PlainAction.{Getattr, Setattr, Readlink, Unlink, Rmdir, Rename2, Open, Read}
 use Rattle.fa_ledger.specs.Operations.PlainOperation.{Acts}
 use Rattle.fa_tree.specs.State.{Store, TreeState, node_cmp}
 use Rattle.fa_tree.specs.Resolved.{Resolved}
@@ -44,6 +44,7 @@ giving_grows before after x direct names (Readlink (Succeeds target)) given is =
 giving_grows before after x direct names (Readlink other) given is = absurd (unbound names given is)
 giving_grows before after x direct names (Unlink name o) given is = absurd (unbound names given is)
 giving_grows before after x direct names (Rmdir name o) given is = absurd (unbound names given is)
+giving_grows before after x direct names (Rename2 flags old_name new_name o) given is = absurd (unbound names given is)
 giving_grows before after x direct names (Open o) given is = absurd (unbound names given is)
 giving_grows before after x direct names (Read offset size (Succeeds bytes)) given is = absurd (unbound names given is)
 giving_grows before after x direct names (Read offset size other) given is = absurd (unbound names given is)

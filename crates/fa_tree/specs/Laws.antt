@@ -9,7 +9,8 @@ use Rattle.fa_ledger.specs.declared.name.NodeName.{NodeName}
 use Rattle.fa_ledger.specs.Calls.{PlainCall}
 use Rattle.fa_bodies.specs.Requests.{PlainBody}
 use Rattle.fa_bodies.specs.Replies.{PlainReply}
-use Rattle.fa_ledger.specs.Operations.{PlainOperation, OnlyReads, operation_of}
+use Rattle.fa_ledger.specs.Kinds.{OnlyReads}
+use Rattle.fa_ledger.specs.Operations.{PlainOperation, operation_of}
 use Rattle.fa_tree.specs.Rules.{HasCause}
 use Rattle.fa_tree.specs.State.{OpenDirectory, Store, TreeState, IsOfKind}
 use Rattle.fa_tree.specs.Resolved.{Resolved}
@@ -45,12 +46,12 @@ OutcomeChangesNothing =
     → (changed s x truncates p count ≡ changed s x truncates o count) × ((rule s x p).needs ↔ (rule s x o).needs)
     × ((error : ℤ) → HasCause (rule s x p) error ↔ HasCause (rule s x o) error)
 
--- A reading request leaves what is stored.
+-- What only reads leaves what is stored.
 abbrev pub ReadingChangesNothing : Type 0
 ReadingChangesNothing =
     (s : Store) (x : Resolved) (truncates : Bool) (o : PlainOperation) (count : ℕ) → OnlyReads o → changed s x truncates o count ≡ s
 
--- A reading request edits no names.
+-- What only reads edits no names.
 abbrev pub ReadingEditsNothing : Type 0
 ReadingEditsNothing = (s : Store) (x : Resolved) (o : PlainOperation) → OnlyReads o → (rule s x o).edits ≡ []
 
@@ -75,7 +76,7 @@ abbrev pub GivenNamesStand : Type 0
 GivenNamesStand =
     (old new : TreeState) (call : PlainCall) (wrote : Option ℕ) (so_far : List PlainDirent) (s : Steps old new call wrote so_far)
     → (name : NodeName) (file : ℕ)
-    → Contains (given_in (setting old.store s.files call s.asks (count_written s.asks wrote) so_far) call s.asks) (name, file)
+    → Contains (given_in (setting old.store s.files call call.operation (count_written call.operation wrote) so_far) call call.operation) (name, file)
     → get new.nodes name ≡ Some file
 
 -- The empty tree is a tree, and what may be added to one leaves one.

@@ -22,7 +22,7 @@ pub mod Lookups
 pub mod Making
 -- UNLINK and RMDIR
 pub mod Removing
--- RENAME
+-- RENAME and RENAME2
 pub mod Renaming
 -- LINK
 pub mod Linking

@@ -5,7 +5,7 @@ use Rattle.fa_bodies.specs.Dirents.{PlainDirent}
 use Rattle.fa_ledger.specs.declared.call.Listing.{Listing}
 use Rattle.fa_ledger.specs.declared.operation.Outcome.TheVariants.{Succeeds}
 use Rattle.fa_ledger.specs.Operations.{PlainAction, PlainOperation}
-use Rattle.fa_ledger.specs.Operations.PlainAction.{Lookup, Getattr, Setattr, Readlink, Symlink, Mknod, Mkdir, Unlink, Rmdir, Rename, Link, Open, Read, Write, Opendir, Create}
+use Rattle.fa_ledger.specs.Operations.PlainAction.{Lookup, Getattr, Setattr, Readlink, Symlink, Mknod, Mkdir, Unlink, Rmdir, Rename, Rename2, Link, Open, Read, Write, Opendir, Create}
 use Rattle.fa_ledger.specs.Operations.PlainOperation.{Lists, Acts}
 use Rattle.fa_tree.specs.State.{Store}
 use Rattle.fa_tree.specs.Resolved.{Resolved}
@@ -15,7 +15,7 @@ use Rattle.fa_tree.specs.Contents.{read_rule, read_said, write_rule}
 use Rattle.fa_tree.specs.Lookups.{lookup_rule, lookup_said, getattr_rule, setattr_rule, file_said, readlink_rule, readlink_said}
 use Rattle.fa_tree.specs.Making.{new_symlink, new_node, new_directory, new_regular, making_rule, made_said, create_rule, create_said}
 use Rattle.fa_tree.specs.Removing.{unlink_rule, rmdir_rule}
-use Rattle.fa_tree.specs.Renaming.{rename_rule}
+use Rattle.fa_tree.specs.Renaming.{rename_rule, rename2_rule}
 use Rattle.fa_tree.specs.Linking.{link_rule}
 use Rattle.fa_tree.specs.Opening.{open_rule, directory_rule}
 use Rattle.fa_tree.specs.Directories.{list_said}
@@ -33,6 +33,7 @@ action_rule s x (Mkdir mode umask name o) = making_rule s x.node name (new_direc
 action_rule s x (Unlink name o) = unlink_rule s x.node name
 action_rule s x (Rmdir name o) = rmdir_rule s x.node name
 action_rule s x (Rename old_name new_name o) = rename_rule s x.node old_name x.other new_name
+action_rule s x (Rename2 flags old_name new_name o) = rename2_rule s x.node old_name flags x.other new_name
 action_rule s x (Link new_name o) = link_rule s x.node new_name x.other
 action_rule s x (Open o) = open_rule s x.node
 action_rule s x (Read offset size o) = read_rule s x.node
@@ -65,6 +66,7 @@ action_said before after x direct (Mkdir mode umask name o) = made_said after x.
 action_said before after x direct (Unlink name o) = nothing_said
 action_said before after x direct (Rmdir name o) = nothing_said
 action_said before after x direct (Rename old_name new_name o) = nothing_said
+action_said before after x direct (Rename2 flags old_name new_name o) = nothing_said
 action_said before after x direct (Link new_name o) = made_said after x.node new_name o
 action_said before after x direct (Open o) = nothing_said
 action_said before after x direct (Read offset size o) = read_said after x.node direct offset size o

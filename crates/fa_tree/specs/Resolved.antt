@@ -6,7 +6,7 @@ use Rattle.fa_ledger.specs.declared.name.NodeName.{NodeName}
 use Rattle.fa_ledger.specs.Calls.{PlainCall}
 use Rattle.fa_tree.specs.State.{OpenDirectory, TreeState, file_of}
 
--- The files that a request names: of its header's node, and the new directory of a RENAME or the file of a LINK. And the open
+-- The files that a request names: of its header's node, and the new directory of a RENAME or RENAME2, or the file of a LINK. And the open
 -- directory that it lists, if it lists one.
 pub record Resolved : Type 0 where
   pub node : ℕ

@@ -23,7 +23,7 @@ pub record Rule : Type 1 where
   pub files : (truncates : Bool) → (count : ℕ) → List File
   -- ENOENT: a name is not there, or what is named is not linked
   pub missing : Type 0
-  -- EEXIST: the name of a new file or link is there
+  -- EEXIST: what may not be there is: the new name, or a name in the directory that would go
   pub taken : Type 0
   -- ENOTDIR: what is named as a directory is none
   pub no_directory : Type 0

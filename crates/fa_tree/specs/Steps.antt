@@ -8,7 +8,7 @@ use Rattle.fa_bodies.specs.Dirents.{PlainDirent}
 use Rattle.fa_ledger.specs.declared.name.NodeName.{NodeName}
 use Rattle.fa_ledger.specs.declared.operation.Outcome.{Outcome}
 use Rattle.fa_ledger.specs.declared.operation.Outcome.TheVariants.{Fails, Succeeds, Unanswered}
-use Rattle.fa_ledger.specs.Calls.{PlainCall, operation}
+use Rattle.fa_ledger.specs.Calls.{PlainCall}
 use Rattle.fa_ledger.specs.Operations.{PlainOperation, ended}
 use Rattle.fa_tree.specs.State.{Store, TreeState, node_cmp}
 use Rattle.fa_tree.specs.Resolved.{Resolved, resolved}
@@ -93,23 +93,17 @@ abbrev pub checks_of_files : TreeState → PlainCall → PlainOperation → (cou
 checks_of_files t call o count so_far None = (UNKNOWN_HERE, ⊥) ∷ []
 checks_of_files t call o count so_far (Some x) = (UNKNOWN_HERE, Unit {0}) ∷ operation_checks t.nodes (setting t.store x call o count so_far) call o
 
--- the checks of a call with this operation; a call of a ledger has one
-abbrev pub checks_of : TreeState → PlainCall → (wrote : Option ℕ) → (so_far : List PlainDirent) → Option PlainOperation → List (ℕ × Type 0)
-checks_of t call wrote so_far None = (UNKNOWN_HERE, ⊥) ∷ []
-checks_of t call wrote so_far (Some o) = checks_of_files t call o (count_written o wrote) so_far (resolved t call)
-
 -- The checks of a call: that the tree knows what it names, and then those of the files that it names.
 abbrev pub step_checks : TreeState → PlainCall → (wrote : Option ℕ) → (so_far : List PlainDirent) → List (ℕ × Type 0)
-step_checks t call wrote so_far = checks_of t call wrote so_far (operation call)
+step_checks t call wrote so_far =
+    checks_of_files t call call.operation (count_written call.operation wrote) so_far (resolved t call)
 
 -- The call leads from one tree to another: all checks hold, and the other is the tree after it.
 pub record Steps (old new : TreeState) (call : PlainCall) (wrote : Option ℕ) (so_far : List PlainDirent) : Type 0 where
   pub allowed : AllHold (step_checks old call wrote so_far)
-  pub asks : PlainOperation
-  pub is : operation call ≡ Some asks
   pub files : Resolved
   pub named : resolved old call ≡ Some files
-  pub after : new ≡ tree_after old files call asks (count_written asks wrote)
+  pub after : new ≡ tree_after old files call call.operation (count_written call.operation wrote)
 
 -- This holds of the call at that place in the list, if there is one.
 abbrev pub OfCallAt : List PlainCall → (place : ℕ) → (PlainCall → Type 0) → Type 0

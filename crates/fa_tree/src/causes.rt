@@ -20,7 +20,7 @@ use fa_ledger::Action;
 
 impl Stored {
     /// Whether a directory has a name.
-    fn is_there(&self, directory: FileId, name: &[u8]) -> bool
+    pub(crate) fn is_there(&self, directory: FileId, name: &[u8]) -> bool
         ensures { IsTrue result ↔ IsThere self.now.store directory name.now }
     {
         self.find(directory, name).is_some()
@@ -57,7 +57,7 @@ impl Stored {
     }
 
     /// Whether a directory does not have a name.
-    fn is_absent(&self, directory: FileId, name: &[u8]) -> bool
+    pub(crate) fn is_absent(&self, directory: FileId, name: &[u8]) -> bool
         ensures { IsTrue result ↔ IsFree self.now.store directory name.now }
     {
         self.find(directory, name).is_none()
@@ -81,7 +81,7 @@ impl Stored {
     }
 
     /// Whether a file that is named is not linked.
-    fn is_any_unlinked(&self, named: &Named) -> bool
+    pub(crate) fn is_any_unlinked(&self, named: &Named) -> bool
         ensures { IsTrue result ↔ ((IsLinked self.now.store named.now.node → ⊥) ⊎ OfOther named.now.other (λ file. IsLinked self.now.store file → ⊥)) }
     {
         self.is_unlinked(named.node) || self.is_other_unlinked(named.other)
@@ -99,6 +99,12 @@ impl Stored {
             Action::Rename { old_name, .. } => {
                 self.is_absent(node, old_name) || self.is_any_unlinked(named)
             }
+            Action::Rename2 {
+                flags,
+                old_name,
+                new_name,
+                ..
+            } => self.is_rename2_missing(*flags, named, old_name, new_name),
             Action::Link { .. } => self.is_any_unlinked(named),
             Action::Symlink { .. }
             | Action::Mknod { .. }
@@ -115,7 +121,7 @@ impl Stored {
     }
 
     /// Whether a second file is named and has a name for a directory that is not empty.
-    fn is_full_directory_in(&self, other: Option<FileId>, name: &[u8]) -> bool
+    pub(crate) fn is_full_directory_in(&self, other: Option<FileId>, name: &[u8]) -> bool
         ensures { IsTrue result ↔ OfOther other (λ directory. IsFullDirectoryThere self.now.store directory name.now) }
     {
         match other {
@@ -137,6 +143,12 @@ impl Stored {
             | Action::Link { new_name: name, .. } => self.is_there(node, name),
             Action::Rmdir { name, .. } => self.is_full_directory_there(node, name),
             Action::Rename { new_name, .. } => { self.is_full_directory_in(named.other, new_name) }
+            Action::Rename2 {
+                flags,
+                old_name,
+                new_name,
+                ..
+            } => self.is_rename2_taken(*flags, named, old_name, new_name),
             _ => false,
         }
     }
@@ -148,12 +160,18 @@ impl Stored {
         match action {
             Action::Rmdir { name, .. } => self.is_full_directory_there(named.node, name),
             Action::Rename { new_name, .. } => { self.is_full_directory_in(named.other, new_name) }
+            Action::Rename2 {
+                flags,
+                old_name,
+                new_name,
+                ..
+            } => self.is_rename2_not_empty(*flags, named, old_name, new_name),
             _ => false,
         }
     }
 
     /// Whether a second file is named that is no directory.
-    fn is_other_no_directory(&self, other: Option<FileId>) -> bool
+    pub(crate) fn is_other_no_directory(&self, other: Option<FileId>) -> bool
         ensures { IsTrue result ↔ OfOther other (λ directory. IsDirectory self.now.store directory → ⊥) }
     {
         match other {
@@ -173,7 +191,7 @@ impl Stored {
     }
 
     /// Whether a RENAME is from or to what is no directory, or would put a directory in the place of a file that is none.
-    fn is_no_place(&self, named: &Named, old_name: &[u8], new_name: &[u8]) -> bool
+    pub(crate) fn is_no_place(&self, named: &Named, old_name: &[u8], new_name: &[u8]) -> bool
         ensures { IsTrue result ↔ ((IsDirectory self.now.store named.now.node → ⊥) ⊎ (OfOther named.now.other (λ directory. IsDirectory self.now.store directory → ⊥) ⊎ (IsDirectoryThere self.now.store named.now.node old_name.now × OfOther named.now.other (λ directory. IsNonDirectoryThere self.now.store directory new_name.now)))) }
     {
         !self.is_directory(named.node)
@@ -196,6 +214,12 @@ impl Stored {
                 new_name,
                 ..
             } => self.is_no_place(named, old_name, new_name),
+            Action::Rename2 {
+                flags,
+                old_name,
+                new_name,
+                ..
+            } => self.is_rename2_no_directory(*flags, named, old_name, new_name),
             Action::Lookup { .. }
             | Action::Symlink { .. }
             | Action::Mknod { .. }
@@ -205,6 +229,19 @@ impl Stored {
             | Action::Create { .. }
             | Action::Opendir { .. } => !self.is_directory(node),
             _ => false,
+        }
+    }
+
+    /// Whether a RENAME would put a file that is no directory in the place of a directory.
+    pub(crate) fn is_in_the_way(&self, named: &Named, old_name: &[u8], new_name: &[u8]) -> bool
+        ensures { IsTrue result ↔ (IsNonDirectoryThere self.now.store named.now.node old_name.now × OfOther named.now.other (λ directory. IsDirectoryThere self.now.store directory new_name.now)) }
+    {
+        match named.other {
+            Some(directory) => {
+                self.is_non_directory_there(named.node, old_name)
+                    && self.is_directory_there(directory, new_name)
+            }
+            None => false,
         }
     }
 
@@ -221,13 +258,13 @@ impl Stored {
                 old_name,
                 new_name,
                 ..
-            } => match named.other {
-                Some(directory) => {
-                    self.is_non_directory_there(node, old_name)
-                        && self.is_directory_there(directory, new_name)
-                }
-                None => false,
-            },
+            } => self.is_in_the_way(named, old_name, new_name),
+            Action::Rename2 {
+                flags,
+                old_name,
+                new_name,
+                ..
+            } => self.is_rename2_a_directory(*flags, named, old_name, new_name),
             Action::Open { .. } | Action::Read { .. } | Action::Write { .. } => {
                 self.is_directory(node)
             }

@@ -91,7 +91,7 @@ impl Stored {
     }
 
     /// Moves a name, as RENAME does.
-    fn rename(
+    pub(crate) fn rename(
         &mut self,
         old_directory: FileId,
         old_name: &[u8],
@@ -199,6 +199,16 @@ impl Stored {
             } => {
                 if let Some(directory) = named.other {
                     self.rename(node, old_name, directory, new_name)?;
+                }
+            }
+            Action::Rename2 {
+                flags,
+                old_name,
+                new_name,
+                ..
+            } => {
+                if let Some(directory) = named.other {
+                    self.rename2(*flags, node, old_name, directory, new_name)?;
                 }
             }
             Action::Link { new_name, .. } => {

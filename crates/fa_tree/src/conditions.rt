@@ -152,6 +152,12 @@ impl Stored {
                 Some(directory) => self.may_be_renamed(node, old_name, directory, new_name),
                 None => false,
             },
+            Action::Rename2 {
+                flags,
+                old_name,
+                new_name,
+                ..
+            } => self.may_be_renamed2(*flags, named, old_name, new_name),
             Action::Link { new_name, .. } => match named.other {
                 Some(file) => self.may_be_linked(node, new_name, file),
                 None => false,

@@ -22,6 +22,7 @@ mod nodes;
 mod open;
 mod orderly;
 mod queries;
+mod renaming;
 mod slots;
 mod so_far;
 mod step;

@@ -5,7 +5,7 @@ ghost use Rattle.std.specs.FinMap.{get};
 ghost use Rattle.std.specs.Option.{option_map};
 ghost use Rattle.fa_capture.specs.Checks.{AllHold, FirstFailure};
 ghost use Rattle.fa_bodies.specs.Listing.{entries_left};
-ghost use Rattle.fa_ledger.specs.Calls.{call_shown, operation};
+ghost use Rattle.fa_ledger.specs.Calls.{call_shown};
 ghost use Rattle.fa_ledger.specs.Operations.{bare, list_shown};
 ghost use Rattle.fa_ledger.specs.Operations.PlainOperation.{Lists};
 ghost use Rattle.fa_ledger.specs.SoFar.{listing_so_far};
@@ -194,7 +194,7 @@ impl Tree {
         list: &List<'a>,
     ) -> Result<Vec<(NodeName, FileId)>, StepError>
         requires there { k < length calls.now.list.items }
-        requires asks { operation (call_shown call.now) ≡ Some (Lists (list_shown list.now)) }
+        requires asks { (call_shown call.now).operation ≡ Lists (list_shown list.now) }
         requires listing { call.now.listing ≢ None }
         ensures ok { IfOk result (λ nodes. (x : Resolved) × (resolved self.now (call_shown call.now) ≡ Some x) × AllHold (operation_checks self.now.nodes (settled self.now.store x call.now.listing (listing_so_far (map call_shown calls.now.list.items) k)) (call_shown call.now) (Lists (list_shown list.now))) × (nodes.items ≡ given_in (settled self.now.store x call.now.listing (listing_so_far (map call_shown calls.now.list.items) k)) (call_shown call.now) (Lists (list_shown list.now)))) }
         ensures refused { IfErr result (λ e. (wrote : Option ℕ) → TellsOf e (call_shown call.now) (step_checks self.now (call_shown call.now) wrote (listing_so_far (map call_shown calls.now.list.items) k))) }
@@ -214,7 +214,7 @@ impl Tree {
         list: &List<'a>,
     ) -> Result<(), StepError>
         requires there { k < length calls.now.list.items }
-        requires asks { operation (call_shown call.now) ≡ Some (Lists (list_shown list.now)) }
+        requires asks { (call_shown call.now).operation ≡ Lists (list_shown list.now) }
         requires listing { call.now.listing ≢ None }
         ensures steps { OnOk result ((wrote : Option ℕ) → Steps self.old self.new (call_shown call.now) wrote (listing_so_far (map call_shown calls.now.list.items) k)) }
         ensures refused { IfErr result (λ e. (wrote : Option ℕ) → TellsOf e (call_shown call.now) (step_checks self.old (call_shown call.now) wrote (listing_so_far (map call_shown calls.now.list.items) k))) }

@@ -8,7 +8,7 @@ use crate::open::OpenNames;
 pub(crate) struct Named {
     /// The file of the node of its header.
     pub node: FileId,
-    /// The new directory of a RENAME, and the file of a LINK.
+    /// The new directory of a RENAME or RENAME2, and the file of a LINK.
     pub other: Option<FileId>,
 }
 

@@ -4,7 +4,7 @@ ghost use Rattle.std.specs.Prelude.{◌≡◌, ◌≢◌, ◌↔◌, ◌==◌, �
 ghost use Rattle.std.specs.FinMap.{get, entries};
 ghost use Rattle.std.specs.Option.{option_map};
 ghost use Rattle.fa_tree.specs.Edits.Edit.{Added, Removed};
-ghost use Rattle.fa_tree.specs.Renaming.{moved};
+ghost use Rattle.fa_tree.specs.Renaming.{moved, exchanged};
 ghost use Rattle.fa_tree.specs.parts.NameParts.{NamesShown, no_names, edited, opened_by};
 ghost use Rattle.fa_tree.specs.parts.OpenParts.{open_of};
 
@@ -27,7 +27,7 @@ pub(crate) struct Names {
 }
 
 impl Model for Names {
-    ghost use Rattle.fa_tree.specs.Renaming.{moved};
+    ghost use Rattle.fa_tree.specs.Renaming.{moved, exchanged};
     ghost use Rattle.fa_tree.specs.parts.NameParts.{NamesShown, names_code};
 
     ghost Value = { NamesShown };
@@ -141,6 +141,41 @@ impl Names {
         self.put(new_directory, new_name, file)?;
         self.remove(old_directory, old_name);
         Ok(())
+    }
+
+    /// Gives a name that is there to another file.
+    ///
+    /// Takes no memory. Expected constant time but for reading the name.
+    fn replace(&mut self, directory: FileId, name: &[u8], file: FileId)
+        requires { get self.old.names (directory, name.now) ≢ None }
+        ensures { self.new ≡ edited (Removed directory name.now ∷ Added directory name.now file ∷ []) self.old }
+    {
+        let born = self.openings.len();
+        self.slots
+            .replace(directory, name, Slot::There { file, born });
+    }
+
+    /// Gives each of two names the other's file.
+    ///
+    /// Takes no memory. Expected constant time but for reading the names.
+    pub fn exchange(
+        &mut self,
+        old_directory: FileId,
+        old_name: &[u8],
+        new_directory: FileId,
+        new_name: &[u8],
+        file: FileId,
+        other: FileId,
+    )
+        requires there { get self.old.names (old_directory, old_name.now) ≡ Some file }
+        requires also { get self.old.names (new_directory, new_name.now) ≡ Some other }
+        ensures { self.new ≡ edited (exchanged old_directory old_name.now new_directory new_name.now file other) self.old }
+    {
+        let _ = &self.slots;
+        if other != file {
+            self.replace(old_directory, old_name, other);
+            self.replace(new_directory, new_name, file);
+        }
     }
 
     /// Notes that the request of this number opens a directory. An error says that memory was refused, and nothing is

@@ -7,8 +7,8 @@ ghost use Rattle.fa_ledger.specs.SoFar.{entries_answered, listing_so_far};
 ghost use Rattle.fa_tree.specs.parts.TallyParts.{going_on_from, Notes};
 
 use crate::tally::Tally;
-use fa_bodies::{Entries, Reply};
-use fa_ledger::{Call, Calls};
+use fa_bodies::Entries;
+use fa_ledger::{Call, Calls, List, Operation, Outcome};
 use std::alloc::AllocError;
 
 /// Notes the first so many entries.
@@ -39,14 +39,16 @@ pub(crate) fn note_all<'a>(tally: &mut Tally<'a>, entries: Entries<'a>) -> Resul
 
 /// Notes the first so many entries of what the answer to a call lists.
 fn note_answered<'a>(tally: &mut Tally<'a>, call: &Call<'a>, count: u32) -> Result<(), AllocError>
-    ensures noted { OnOk result (Notes tally.old tally.new (take count (entries_answered (call_shown call.now)))) }
+    ensures noted { OnOk result (Notes tally.old tally.new (take count (entries_answered (call_shown call.now).operation))) }
 {
-    match &call.answer {
-        None => Ok(()),
-        Some(answer) => match answer.reply {
-            Reply::Listed(entries) => note_entries(tally, entries, count),
-            _ => Ok(()),
-        },
+    match &call.operation {
+        Operation::List(
+            List {
+                outcome: Outcome::Succeeds(entries),
+                ..
+            },
+        ) => note_entries(tally, *entries, count),
+        _ => Ok(()),
     }
 }
 

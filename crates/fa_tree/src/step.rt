@@ -4,7 +4,7 @@ ghost use Rattle.std.specs.Prelude.{◌≡◌, ◌↔◌, ◌<◌, ℕ, Bool, Li
 ghost use Rattle.std.specs.Option.{option_to_list};
 ghost use Rattle.fa_capture.specs.Checks.{AllHold, FirstFailure};
 ghost use Rattle.fa_bodies.specs.Dirents.{PlainDirent};
-ghost use Rattle.fa_ledger.specs.Calls.{call_shown, operation};
+ghost use Rattle.fa_ledger.specs.Calls.{call_shown};
 ghost use Rattle.fa_ledger.specs.Choices.{Allows};
 ghost use Rattle.fa_ledger.specs.Operations.{action_shown, action_ended};
 ghost use Rattle.fa_ledger.specs.Operations.PlainOperation.{Acts};
@@ -67,7 +67,8 @@ impl Tree {
     /// done as a success without one.
     ///
     /// `Refused` tells the least code that applies:
-    /// [`UNKNOWN_HERE`](fa_capture::codes::UNKNOWN_HERE) that the tree knows no file for a node that the call names, or no open directory for its handle, or that the call is none of a ledger's, and asks nothing of a tree;
+    /// [`UNKNOWN_HERE`](fa_capture::codes::UNKNOWN_HERE) that the tree knows no file for a node that the call names, or no open
+    /// directory for its handle;
     /// [`SUCCESS_NOT_ALLOWED`](fa_capture::codes::SUCCESS_NOT_ALLOWED) that the request can't succeed here, or not with such an
     /// answer; [`ERROR_WITHOUT_CAUSE`](fa_capture::codes::ERROR_WITHOUT_CAUSE) that an error of POSIX that has one cause is
     /// answered without it; [`ATTRIBUTES`](fa_capture::codes::ATTRIBUTES) that attributes (`struct fuse_attr`) are not those of
@@ -88,10 +89,9 @@ impl Tree {
         ensures unchanged { OnErr result (self.new ≡ self.old) }
     {
         let call = &calls.list[k];
-        match call.operation() {
-            Some(Operation::List(list)) => self.list(calls, k, call, &list),
-            Some(Operation::Act(action)) => self.act(call, &action, wrote),
-            None => Err(StepError::Refused(codes::UNKNOWN_HERE)),
+        match &call.operation {
+            Operation::List(list) => self.list(calls, k, call, list),
+            Operation::Act(action) => self.act(call, action, wrote),
         }
     }
 
@@ -290,7 +290,7 @@ impl Tree {
         action: &Action<'_>,
         wrote: Option<u32>,
     ) -> Result<(), StepError>
-        requires asks { operation (call_shown call.now) ≡ Some (Acts (action_shown action.now)) }
+        requires asks { (call_shown call.now).operation ≡ Acts (action_shown action.now) }
         requires plain { call.now.listing ≡ None }
         ensures steps { OnOk result ((so_far : List PlainDirent) → Steps self.old self.new (call_shown call.now) wrote so_far) }
         ensures refused { IfErr result (λ e. (so_far : List PlainDirent) → TellsOf e (call_shown call.now) (step_checks self.old (call_shown call.now) wrote so_far)) }

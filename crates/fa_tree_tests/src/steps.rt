@@ -41,7 +41,7 @@ const A_DIRECTORY: &[Added] = &[File(0, b"a", Kind::Directory, b"")];
 type Row = (&'static [Added], &'static [Sent]);
 
 /// The node stands in the header or behind it, and the request is answered or not.
-const BEFORE_IT_IS_GIVEN: [Row; 5] = [
+const BEFORE_IT_IS_GIVEN: [Row; 6] = [
     (
         A_FILE,
         &[Lookup(2, ROOT), Entry(2, 2), Getattr(4, 2, 0, 0), Attr(4)],
@@ -58,6 +58,10 @@ const BEFORE_IT_IS_GIVEN: [Row; 5] = [
     (
         A_DIRECTORY,
         &[Lookup(2, ROOT), Directory(2, 2), Rename(4, ROOT, 2)],
+    ),
+    (
+        A_DIRECTORY,
+        &[Lookup(2, ROOT), Directory(2, 2), Rename2(4, ROOT, 0, 2)],
     ),
     (
         A_FILE,

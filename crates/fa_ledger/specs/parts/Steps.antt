@@ -21,15 +21,11 @@ use Rattle.fa_ledger.specs.declared.nodes.Lookups.{Lookups}
 use Rattle.fa_ledger.specs.Counts.{total_taken}
 use Rattle.fa_ledger.specs.Keys.{key_eq}
 use Rattle.fa_ledger.specs.Calls.{PlainCall, PlainAnswer}
+use Rattle.fa_ledger.specs.Operations.{PlainOperation}
 
 -- the nodes that are named, as a list
 abbrev pub named_list : Named → List ℕ
 named_list named = named.node ∷ option_map_or (λ other. other ∷ []) named.other []
-
--- what is there, as a list
-abbrev pub as_list : Option ℕ → List ℕ
-as_list None = []
-as_list (Some n) = n ∷ []
 
 -- the reply is a listing
 abbrev pub IsListedReply : PlainReply → Type 0
@@ -144,11 +140,11 @@ closed_once None = None
 closed_once (Some h) =
     (if h.openings == 1 then None else Some (record { openings = h.openings - 1; name = h.name; shared = h.shared; direct = h.direct }))
 
--- the call with this answer
-abbrev pub answered_by : PlainAnswer → PlainCall → PlainCall
-answered_by answer call = record {
+-- the call with this answer, which makes its operation this one
+abbrev pub answered_by : PlainOperation → PlainAnswer → PlainCall → PlainCall
+answered_by operation answer call = record {
   asked = call.asked;
-  request = call.request;
+  operation = operation;
   node = call.node;
   other = call.other;
   handle = call.handle;
@@ -158,6 +154,6 @@ answered_by answer call = record {
   answer = Some answer;
 }
 
--- the calls, where the one of this request has this answer
-abbrev pub with_answer : List PlainCall → ℕ → PlainAnswer → List PlainCall
-with_answer calls asked answer = map (λ call. (if call.asked == asked then answered_by answer call else call)) calls
+-- the calls, where the one of this request has this answer, which makes its operation this one
+abbrev pub with_answer : List PlainCall → ℕ → PlainOperation → PlainAnswer → List PlainCall
+with_answer calls asked operation answer = map (λ call. (if call.asked == asked then answered_by operation answer call else call)) calls

@@ -36,8 +36,8 @@ loop-round-preserved c =
     let found = c.in-Some.ensures.found in
     let within : c.in-Some.earlier < length calls = omega (arith, slice_get_within shown c.in-Some.earlier found.0 found.1, length-map calls call_shown) in
     let same = same_Some _ _ (sym (shown_at calls c.in-Some.earlier c.index-in-Some.result.now within c.index-in-Some.ensures) ∙ found.1) in
-    let notes = subst (λ (earlier : PlainCall). Notes c.loop-round.tally c.note_answered.new.tally (take c.in-Some.count (entries_answered earlier))) same c.in_ok-note_answered-in-Some.ensures.noted in
-    let entries = take c.in-Some.count (entries_answered found.0) in
+    let notes = subst (λ (earlier : PlainCall). Notes c.loop-round.tally c.note_answered.new.tally (take c.in-Some.count (entries_answered earlier.operation))) same c.in_ok-note_answered-in-Some.ensures.noted in
+    let entries = take c.in-Some.count (entries_answered found.0.operation) in
     record {
       within = within;
       noted = entries ++ so_far.noted;

@@ -1,15 +1,22 @@
-use Rattle.std.proofs.Common.{◌+◌, ◌≤◌, Some, List, length, sym, ap, subst, refl, ◌∙◌, ◌≡◌, nat_eq}
-use Rattle.std.specs.Prelude.{IsTrue}
+use Rattle.std.proofs.Common.{◌+◌, ◌≤◌, Option, Some, List, length, sym, ap, subst, refl, ◌∙◌, ◌≡◌, nat_eq}
+use Rattle.std.specs.Prelude.{IsTrue, option_map}
 use Rattle.std.proofs.lemmas.Result.{err_from_is_err_and}
 use Rattle.std.specs.Map.{lookup}
 use Rattle.fa_bodies.specs.Requests.{request_shown, body_shown}
 use Rattle.fa_bodies.specs.Replies.{reply_shown}
 use Rattle.fa_ledger.specs.declared.name.NodeName.{NodeName}
+use Rattle.fa_ledger.specs.declared.operation.Operation.{Operation}
+use Rattle.fa_ledger.specs.Operations.{operation_shown}
 use Rattle.fa_ledger.specs.Calls.{given_shown}
 use Rattle.fa_ledger.specs.Keys.{key_eq}
 use Rattle.fa_ledger.specs.parts.Steps.{given_again, times_named, count_left, opened_with, opens_new, some_new, IsOpenedBy}
-use Rattle.fa_ledger.proofs.ReplyBookLemmas.{give_fits, open_fits, answer_shows, names_more, nodes_more, keys_more, listed_more, listed_counted, listed_anew, noted_also}
+use Rattle.fa_ledger.proofs.ReplyBookLemmas.{operation_there, give_fits, open_fits, answer_shows, names_more, nodes_more, keys_more, listed_more, listed_counted, listed_anew, noted_also}
 use Rattle.fa_ledger.proofs.books.Books.note_answer.Goals as goal
+
+pub unwrap-operation-requires : goal.unwrap-operation-requires
+unwrap-operation-requires c =
+    let stands = c.requires.stands in
+    operation_there stands.0 stands.1 stands.2 c.args.at c.args.asked (request_shown c.args.request.now) (reply_shown c.args.reply) c.args.self.now stands.3 c.requires.waits.0 c.requires.waits.1 c.requires.waits.2 c.of.result c.of.ensures
 
 pub returns-in_err-given-clause-memory : goal.returns-in_err-given-clause-memory
 returns-in_err-given-clause-memory c =
@@ -90,7 +97,7 @@ returns-clause-shows c = λ before m es stands.
     let names : List NodeName = given_shown c.in_ok-given.given in
     let same = c.names-names.ensures in
     let which = c.opened-opened.result in
-    answer_shows before m es c.args.at c.args.asked (request_shown c.args.request.now) (reply_shown c.args.reply) c.args.self.now _ names which c.note_opened-opens.result (record {
+    answer_shows before m es c.args.at c.args.asked (request_shown c.args.request.now) (reply_shown c.args.reply) c.args.self.now _ names which c.note_opened-opens.result (operation_shown c.unwrap-operation.result) (record {
       stands = stands;
       may = c.requires.allowed;
       waiting = c.args.waiting;
@@ -101,6 +108,7 @@ returns-clause-shows c = λ before m es stands.
       named = c.in_ok-given.ensures.named;
       opens = c.opened-opened.ensures ∙ ap (λ ns. opened_with c.args.waiting.node ns (body_shown c.args.request.now.body) (reply_shown c.args.reply)) same;
     })
+    (sym c.of.ensures ∙ ap (λ (o : Option Operation). option_map operation_shown o) c.unwrap-operation.ensures)
     (c.note_opened-opens.ensures.anew ∙ ap (λ opened. opens_new opened which) c.in_ok-reserve-2.ensures.kept)
     refl
     (λ node. c.give.ensures node ∙ ap (λ ns. given_again c.args.at (times_named node ns) (lookup (nat_eq node) c.reserve.new.self.known.entries)) same

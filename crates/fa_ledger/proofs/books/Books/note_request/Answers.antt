@@ -3,8 +3,7 @@ use Rattle.std.proofs.lemmas.Result.{err_from_is_err_and}
 use Rattle.fa_bodies.specs.Items.{items_in}
 use Rattle.fa_bodies.specs.Requests.{request_shown, body_shown}
 use Rattle.fa_ledger.specs.declared.books.Names.{Names}
-use Rattle.fa_ledger.specs.Counts.{body_takes}
-use Rattle.fa_ledger.specs.Names.{named_nodes}
+use Rattle.fa_ledger.specs.Mentions.{mentions}
 use Rattle.fa_ledger.specs.parts.BookParts.{AreNamesIfAny}
 use Rattle.fa_ledger.specs.parts.Steps.{but_root}
 use Rattle.fa_ledger.proofs.RequestBookLemmas.{left_few, shows_taken, takes_keep, takes_fail, takes_none, none_keep, none_shows, names_there, uses_keep, uses_fail}
@@ -16,7 +15,7 @@ returns-in_err-forget-in-Forget-clause-refused c =
     let body = ap body_shown c.in-Forget.is in
     let p = err_from_is_err_and c.from_residual.result c.from_residual.ensures.1 in
     rw (p.1, p.2) (λ before m es stands.
-    takes_fail es r c.args.self.now.nodes.known.entries ((r.node, c.in-Forget.nlookup) ∷ []) _ (ap (named_nodes r.node) body) (ap (λ b. but_root (body_takes r.node b)) body) stands.shown.nodes
+    takes_fail es r c.args.self.now.nodes.known.entries ((r.node, c.in-Forget.nlookup) ∷ []) _ (ap (λ b. (mentions b).names r.node) body) (ap (λ b. but_root ((mentions b).takes r.node)) body) stands.shown.nodes
     c.in_err-forget-in-Forget.ensures.refused.1 c.in_err-forget-in-Forget.ensures.refused.0)
 
 pub forget_all-requires-clause-few : goal.forget_all-requires-clause-few
@@ -28,7 +27,7 @@ returns-in_err-forget_all-in-BatchForget-clause-refused c =
     let body = ap body_shown c.in-BatchForget.is in
     let p = err_from_is_err_and c.from_residual-in_err-forget_all-in-BatchForget.result c.from_residual-in_err-forget_all-in-BatchForget.ensures.1 in
     rw (p.1, p.2) (λ before m es stands.
-    takes_fail es r c.args.self.now.nodes.known.entries (items_in c.in-BatchForget.items.now) _ (ap (named_nodes r.node) body) (ap (λ b. but_root (body_takes r.node b)) body) stands.shown.nodes
+    takes_fail es r c.args.self.now.nodes.known.entries (items_in c.in-BatchForget.items.now) _ (ap (λ b. (mentions b).names r.node) body) (ap (λ b. but_root ((mentions b).takes r.node)) body) stands.shown.nodes
     c.in_err-forget_all-in-BatchForget.ensures.refused.1 c.in_err-forget_all-in-BatchForget.ensures.refused.0)
 
 pub returns-in_err-names-in_default-clause-refused : goal.returns-in_err-names-in_default-clause-refused
@@ -68,28 +67,28 @@ pub returns-in_ok-forget-in-Forget-clause-keeps : goal.returns-in_ok-forget-in-F
 returns-in_ok-forget-in-Forget-clause-keeps c = λ before m es stands.
     let r = request_shown c.args.request.now in
     let body = ap body_shown c.in-Forget.is in
-    takes_keep es r c.args.self.now.nodes.known.entries ((r.node, c.in-Forget.nlookup) ∷ []) (ap (named_nodes r.node) body) (ap (λ b. but_root (body_takes r.node b)) body) stands.shown.nodes
+    takes_keep es r c.args.self.now.nodes.known.entries ((r.node, c.in-Forget.nlookup) ∷ []) (ap (λ b. (mentions b).names r.node) body) (ap (λ b. but_root ((mentions b).takes r.node)) body) stands.shown.nodes
     c.in_ok-forget-in-Forget.ensures.within
 
 pub returns-in_ok-forget-in-Forget-clause-shows : goal.returns-in_ok-forget-in-Forget-clause-shows
 returns-in_ok-forget-in-Forget-clause-shows c = λ before m es stands.
     let r = request_shown c.args.request.now in
     let body = ap body_shown c.in-Forget.is in
-    shows_taken before m es c.args.at r c.args.self.now c.forget.new.self ((r.node, c.in-Forget.nlookup) ∷ []) (ap (named_nodes r.node) body) (ap (λ b. but_root (body_takes r.node b)) body)
+    shows_taken before m es c.args.at r c.args.self.now c.forget.new.self ((r.node, c.in-Forget.nlookup) ∷ []) (ap (λ b. (mentions b).names r.node) body) (ap (λ b. but_root ((mentions b).takes r.node)) body)
     c.in_ok-forget-in-Forget.ensures.taken stands
 
 pub returns-in_ok-forget_all-in-BatchForget-clause-keeps : goal.returns-in_ok-forget_all-in-BatchForget-clause-keeps
 returns-in_ok-forget_all-in-BatchForget-clause-keeps c = λ before m es stands.
     let r = request_shown c.args.request.now in
     let body = ap body_shown c.in-BatchForget.is in
-    takes_keep es r c.args.self.now.nodes.known.entries (items_in c.in-BatchForget.items.now) (ap (named_nodes r.node) body) (ap (λ b. but_root (body_takes r.node b)) body) stands.shown.nodes
+    takes_keep es r c.args.self.now.nodes.known.entries (items_in c.in-BatchForget.items.now) (ap (λ b. (mentions b).names r.node) body) (ap (λ b. but_root ((mentions b).takes r.node)) body) stands.shown.nodes
     c.in_ok-forget_all-in-BatchForget.ensures.within
 
 pub returns-in_ok-forget_all-in-BatchForget-clause-shows : goal.returns-in_ok-forget_all-in-BatchForget-clause-shows
 returns-in_ok-forget_all-in-BatchForget-clause-shows c = λ before m es stands.
     let r = request_shown c.args.request.now in
     let body = ap body_shown c.in-BatchForget.is in
-    shows_taken before m es c.args.at r c.args.self.now c.forget_all.new.self (items_in c.in-BatchForget.items.now) (ap (named_nodes r.node) body) (ap (λ b. but_root (body_takes r.node b)) body)
+    shows_taken before m es c.args.at r c.args.self.now c.forget_all.new.self (items_in c.in-BatchForget.items.now) (ap (λ b. (mentions b).names r.node) body) (ap (λ b. but_root ((mentions b).takes r.node)) body)
     c.in_ok-forget_all-in-BatchForget.ensures.taken stands
 
 pub returns-in_ok-note_use-in_default-clause-keeps : goal.returns-in_ok-note_use-in_default-clause-keeps

@@ -1,8 +1,9 @@
 use Rattle.std.proofs.Common.{None, subst, ◌∙◌}
 use Rattle.fa_ledger.specs.Operations.{action_shown}
 use Rattle.fa_tree.specs.Operations.{action_rule}
+use Rattle.fa_tree.specs.Renaming.{rename2_rule}
 use Rattle.fa_tree.specs.parts.NamedParts.{named_shown}
-use Rattle.fa_tree.proofs.ChangedLemmas.{other_is, none_is, created_made, setattr_changed, open_changed, write_changed}
+use Rattle.fa_tree.proofs.ChangedLemmas.{other_is, none_is, rename2_of_none, created_made, setattr_changed, open_changed, write_changed}
 use Rattle.fa_tree.proofs.ShapeLemmas.{linked_is_there}
 use Rattle.fa_tree.proofs.WalkLemmas.{still_tree}
 use Rattle.fa_tree.proofs.stored.Stored.change.Goals as goal
@@ -25,21 +26,26 @@ pub rename-requires : goal.rename-requires
 rename-requires c = other_is c.args.named.now.other c.in-Some.directory _ c.in-Some.is
     (subst (λ a. (action_rule c.args.self.now.store (named_shown c.args.named.now None) (action_shown a)).needs) c.in-Rename.is (c.requires None))
 
+pub rename2-requires : goal.rename2-requires
+rename2-requires c =
+    subst (λ other. (rename2_rule c.args.self.now.store c.args.named.now.node c.in-Rename2.old_name.now c.in-Rename2.flags other c.in-Rename2.new_name.now).needs) c.in-Some-other.is
+    (subst (λ a. (action_rule c.args.self.now.store (named_shown c.args.named.now None) (action_shown a)).needs) c.in-Rename2.is (c.requires None))
+
 pub link-requires-clause-free : goal.link-requires-clause-free
 link-requires-clause-free c =
-    let may = other_is c.args.named.now.other c.in-Some-other.file _ c.in-Some-other.is
+    let may = other_is c.args.named.now.other c.in-Some-other-2.file _ c.in-Some-other-2.is
     (subst (λ a. (action_rule c.args.self.now.store (named_shown c.args.named.now None) (action_shown a)).needs) c.in-Link.is (c.requires None)) in
     (may.0, may.1)
 
 pub link-requires-clause-there : goal.link-requires-clause-there
 link-requires-clause-there c =
-    let may = other_is c.args.named.now.other c.in-Some-other.file _ c.in-Some-other.is
+    let may = other_is c.args.named.now.other c.in-Some-other-2.file _ c.in-Some-other-2.is
     (subst (λ a. (action_rule c.args.self.now.store (named_shown c.args.named.now None) (action_shown a)).needs) c.in-Link.is (c.requires None)) in
-    linked_is_there c.args.self.now.store (still_tree _ c.args.self.now c.self.view_is c.self.invariant) c.in-Some-other.file may.2
+    linked_is_there c.args.self.now.store (still_tree _ c.args.self.now c.self.view_is c.self.invariant) c.in-Some-other-2.file may.2
 
 pub link-requires-clause-other : goal.link-requires-clause-other
 link-requires-clause-other c =
-    let may = other_is c.args.named.now.other c.in-Some-other.file _ c.in-Some-other.is
+    let may = other_is c.args.named.now.other c.in-Some-other-2.file _ c.in-Some-other-2.is
     (subst (λ a. (action_rule c.args.self.now.store (named_shown c.args.named.now None) (action_shown a)).needs) c.in-Link.is (c.requires None)) in
     may.3
 
@@ -65,5 +71,10 @@ returns-in_default-clause-changed c = λ handle.
 
 pub returns-in_default-other-clause-changed : goal.returns-in_default-other-clause-changed
 returns-in_default-other-clause-changed c = λ handle.
-    absurd (none_is c.args.named.now.other _ c.in_default-other.is
+    absurd (rename2_of_none c.args.self.now.store c.args.named.now.node c.in-Rename2.old_name.now c.in-Rename2.flags c.args.named.now.other c.in-Rename2.new_name.now c.in_default-other.is
+    (subst (λ a. (action_rule c.args.self.now.store (named_shown c.args.named.now None) (action_shown a)).needs) c.in-Rename2.is (c.requires None)))
+
+pub returns-in_default-other-2-clause-changed : goal.returns-in_default-other-2-clause-changed
+returns-in_default-other-2-clause-changed c = λ handle.
+    absurd (none_is c.args.named.now.other _ c.in_default-other-2.is
     (subst (λ a. (action_rule c.args.self.now.store (named_shown c.args.named.now None) (action_shown a)).needs) c.in-Link.is (c.requires None)))

@@ -1,5 +1,5 @@
 use Rattle.std.proofs.Common.{rules, ◌≡◌, [], sym, subst, ◌∙◌}
-use Rattle.std.specs.Prelude.{map, length, Option}
+use Rattle.std.specs.Prelude.{map, length}
 use Rattle.std.specs.Vec.{vec_len}
 use Rattle.std.proofs.lemmas.Result.{err_from_is_err_and}
 use Rattle.fa_ledger.specs.Calls.{call_shown}
@@ -42,5 +42,5 @@ returns-in_err-reserve_for-clause-refused c =
     let len : vec_len c.in_ok-nodes.nodes ≡ length items = search rules in
     let some : items ≡ [] → ⊥ = some_of items (vec_len c.in_ok-nodes.nodes) len (sym c.is_empty.ensures ∙ c.if-not-is_empty.true) in
     rw (p.1, p.2) (λ wrote.
-    subst (λ (o : Option PlainOperation). TellsBy Memory o (step_checks c.args.self.now call wrote so_far)) (sym c.requires.asks)
+    subst (λ (o : PlainOperation). TellsBy Memory o (step_checks c.args.self.now call wrote so_far)) (sym c.requires.asks)
     (giving_may_grow c.args.self.now.nodes c.args.self.now.store ok.0 call so_far l.size l.outcome items ok.3 some))

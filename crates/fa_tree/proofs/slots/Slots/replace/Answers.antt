@@ -1,0 +1,21 @@
+use Rattle.std.proofs.Common.{Some, refl, sym, ap, ◌∙◌, is_some}
+use Rattle.std.specs.Option.{option_map}
+use Rattle.fa_tree.specs.State as state
+use Rattle.fa_tree.specs.parts.SlotParts.{slot_at}
+use Rattle.fa_tree.proofs.SlotLemmas.{after_write, changed_at, keys_same, unchanged_at}
+use Rattle.fa_tree.proofs.slots.Slots.replace.Goals as goal
+
+pub returns-in-Some : goal.returns-in-Some
+returns-in-Some c = λ q.
+    let place : state.Place = (c.args.directory, c.args.name.now) in
+    let old = c.args.self.now.table.entries in
+    let wrote = (c.get_mut.follows.holds c.args.slot).3 (ap is_some (sym c.in-Some.ensures.value)) in
+    after_write _ keys_same place _ (λ k. refl) old (c.get_mut.follows.lender c.args.slot).entries (Some c.args.slot) wrote.1 wrote.3 q
+    ∙ changed_at old place q (option_map (λ _. c.args.slot)) _ (ap (option_map (λ _. c.args.slot)) c.in-Some.ensures.value)
+
+pub returns-in-None : goal.returns-in-None
+returns-in-None c = λ q.
+    let place : state.Place = (c.args.directory, c.args.name.now) in
+    let old = c.args.self.now.table.entries in
+    ap (λ table. slot_at table.entries q) c.get_mut.follows.holds-at-none
+    ∙ unchanged_at old place q (option_map (λ _. c.args.slot)) (sym c.in-None.ensures.value ∙ ap (option_map (λ _. c.args.slot)) c.in-None.ensures.value)

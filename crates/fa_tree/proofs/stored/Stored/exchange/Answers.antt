@@ -1,0 +1,10 @@
+use Rattle.std.proofs.Common.{sym, ◌∙◌}
+use Rattle.fa_tree.specs.parts.StoredView.{stored_shown}
+use Rattle.fa_tree.proofs.StoredChangeLemmas.{still_exchanged, exchanged_tree}
+use Rattle.fa_tree.proofs.stored.Stored.exchange.Goals as goal
+
+pub invariant_of-self : goal.invariant_of-self
+invariant_of-self c =
+    let may = still_exchanged (stored_shown c.self.inside) c.args.self.now c.args.old_directory c.args.old_name.now c.args.new_directory c.args.new_name.now c.self.view_is c.requires in
+    exchanged_tree c.self.inside.names c.exchange.new.self c.self.inside.files c.args.old_directory c.args.old_name.now c.args.new_directory c.args.new_name.now
+    c.in-Some.file c.in-Some-other.other c.self.invariant may (sym c.get.ensures ∙ c.in-Some.is) (sym c.get-other.ensures ∙ c.in-Some-other.is) c.exchange.ensures
