@@ -253,10 +253,17 @@ static void load_library(void)
     setenv("LD_PRELOAD", all, 1);
 }
 
+/* What is looked at of a request. */
+struct request {
+    struct fuse_in_header header;
+    struct fuse_rename2_in renamed; /* of RENAME2 */
+};
+
 /* A request that waits for its answer. */
 struct waiting {
     uint64_t unique, node;
     uint32_t operation, message;
+    bool is_in_orders;
 };
 
 /* What a capture has. Those that wait are in memory that grows. */
@@ -266,13 +273,15 @@ struct sum {
     size_t waits, room;
 };
 
-/* Whether an order names requests of this operation. */
-static bool is_in_orders(uint32_t operation)
+/* Whether an order names the request. */
+static bool is_in_orders(const struct request *request)
 {
-    switch (operation) {
+    switch (request->header.opcode) {
     case FUSE_LOOKUP: case FUSE_GETATTR: case FUSE_SETATTR: case FUSE_READLINK: case FUSE_SYMLINK: case FUSE_MKNOD:
     case FUSE_MKDIR: case FUSE_UNLINK: case FUSE_RMDIR: case FUSE_RENAME: case FUSE_LINK: case FUSE_OPEN: case FUSE_READ:
     case FUSE_WRITE: case FUSE_OPENDIR: case FUSE_READDIR: case FUSE_CREATE: case FUSE_READDIRPLUS: return true;
+    case FUSE_RENAME2:
+        return request->renamed.flags == 0 || request->renamed.flags == RENAME_NOREPLACE || request->renamed.flags == RENAME_EXCHANGE;
     default: return false;
     }
 }
@@ -284,8 +293,9 @@ static bool is_to_be_answered(uint32_t operation)
 }
 
 /* Counts a request, which waits from now on. */
-static void count_request(struct sum *sum, const struct fuse_in_header *header)
+static void count_request(struct sum *sum, const struct request *request)
 {
+    const struct fuse_in_header *header = &request->header;
     sum->requests++;
     if (!is_to_be_answered(header->opcode))
         return;
@@ -297,7 +307,8 @@ static void count_request(struct sum *sum, const struct fuse_in_header *header)
         sum->waiting = more;
         sum->room = room;
     }
-    sum->waiting[sum->waits++] = (struct waiting){header->unique, header->nodeid, header->opcode, sum->messages};
+    sum->waiting[sum->waits++] =
+        (struct waiting){header->unique, header->nodeid, header->opcode, sum->messages, is_in_orders(request)};
 }
 
 /* Counts a message from the server, and takes off the request that it answers. A notification answers none. */
@@ -320,10 +331,10 @@ static struct sum sum_up(void)
     struct sum sum = {0};
     struct {
         unsigned char head[FUSE_RECORD_HEAD];
-        unsigned char message[sizeof(struct fuse_in_header)];
+        unsigned char message[sizeof(struct request)];
     } record = {{0}, {0}};
     struct stat found;
-    struct fuse_in_header request;
+    struct request request;
     struct fuse_out_header answer;
     off_t size = fstat(outputs[CAPTURE].file, &found) == 0 ? found.st_size : 0;
     off_t at = sizeof FUSE_RECORD_MAGIC - 1;
@@ -336,7 +347,7 @@ static struct sum sum_up(void)
             break;
         memcpy(&request, record.message, sizeof request);
         memcpy(&answer, record.message, sizeof answer);
-        if (record.head[0] == FUSE_RECORD_READ && length >= sizeof request)
+        if (record.head[0] == FUSE_RECORD_READ && length >= sizeof request.header)
             count_request(&sum, &request);
         else if (record.head[0] == FUSE_RECORD_WRITE && length >= sizeof answer)
             count_answer(&sum, &answer);
@@ -393,7 +404,7 @@ static int tell_sum(int ended)
     size_t unnamed = 0, missed = 0;
     for (size_t i = 0; i < sum.waits; i++) {
         const struct waiting *request = &sum.waiting[i];
-        unnamed += !is_in_orders(request->operation);
+        unnamed += !request->is_in_orders;
         /* No program waits for these two: a file system is unmounted before they are answered, and no answer taken then. */
         bool waited_for = request->operation != FUSE_RELEASE && request->operation != FUSE_RELEASEDIR;
         missed += waited_for || WIFSIGNALED(ended);

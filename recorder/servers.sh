@@ -114,7 +114,7 @@ try() {
     row "$package" "$version" "$labour" "$@"
 }
 
-refused=(--refuse "FALLOCATE,COPY_FILE_RANGE,IOCTL,RENAME2")
+refused=(--refuse "FALLOCATE,COPY_FILE_RANGE,IOCTL")
 make -s -C "$here" || exit
 echo "| server | version | started by | by | work | it was | verdict |"
 echo "|---|---|---|---|---|---|---|"

@@ -155,6 +155,10 @@ fill_lower() {
 
 work_in_mount() { is_mounted && timeout 120 "$here/tests/work.sh" "$mnt"; }
 
+fill_plain() {
+    rm -rf "$lower" "$work/cache"
+    (umask 022 && mkdir -p "$lower/old/deep" && echo here > "$lower/old/deep/file")
+}
 look_at_old() { [ "$(timeout 20 cat "$mnt/symbolic" "$mnt/second")" = $'here\nhere' ] && timeout 20 ls -lR "$mnt" > "$work/seen"; }
 
 # Copies and moves files into the mount with their permission bits, from the file system of the work folder.
@@ -198,6 +202,37 @@ session() {
     check "$name: INIT is shown as one of 7.31" logged "INIT: minor .* shown to the server as minor 31"
 }
 
+# Names that are moved where there is none, kept where there is one, and exchanged: files and directories, of two directories too.
+rename_in_mount() {
+    (cd "$mnt" && timeout 20 bash -ec '
+        mkdir one two one/inner
+        echo text > file; echo other > two/name
+        mv -n file moved; [ -e moved ]; [ ! -e file ]
+        mv -n two/name moved; [ "$(cat two/name moved)" = "$(printf "other\ntext")" ]
+        "$0" one/inner two/name; [ -d two/name ]; [ "$(cat one/inner)" = other ]
+        "$0" one two; [ -d one/name ]
+        "$0" moved one; [ "$(cat one)" = text ]; [ -d moved/name ]
+        ! "$0" moved moved/name
+        ! "$0" moved none
+        ls -lR' "$work/exchange") > "$work/seen" 2>&1
+}
+# A success of RENAME2 is in the capture.
+has_renamed() {
+    "$work/recorder/fuse-messages" "$capture" | awk '
+        /to server: RENAME2, / { match($0, /unique [0-9]+/); asked[substr($0, RSTART, RLENGTH)] = 1 }
+        /from server: success, / { match($0, /unique [0-9]+/); found += asked[substr($0, RSTART, RLENGTH)] }
+        END { exit found < '"$1"' }'
+}
+
+# Work with names by RENAME2: renaming_session NAME.
+renaming_session() {
+    check "$1: serves" rename_in_mount
+    check "$1: is unmounted" stop
+    check "$1: ends well" ends 0 "$unanswered\$"
+    check "$1: by RENAME2" has_renamed 4
+    check "$1: is legal" is_legal "$1"
+}
+
 # Starts the tests' own server: own NAME [OPTIONS OF fuse-record] -- [OPTIONS OF memory].
 own() {
     local name="$1" options=()
@@ -231,6 +266,7 @@ flags=("${plain[@]}" "${sanitizer[@]}")
 mkdir "$mnt"
 check "the recorder compiles" make -s -B -C "$work/recorder" CFLAGS="-O2 -Werror ${sanitizer[*]}" &&
     check "the server compiles" "${CC:-cc}" "${flags[@]}" -o "$work/memory" "$here/tests/memory.c" &&
+    check "what exchanges names compiles" "${CC:-cc}" "${plain[@]}" -o "$work/exchange" "$here/tests/exchange.c" &&
     check "the server that splices compiles" "${CC:-cc}" "${flags[@]}" -DWITH_SPLICE -o "$work/memory-splicing" "$here/tests/memory.c" &&
     check "the server with the header compiles" \
         "${CC:-cc}" "${plain[@]}" -static -pthread -DWITH_HEADER -o "$work/memory-static" "$here/tests/memory.c" ||
@@ -303,6 +339,17 @@ if command -v bindfs > /dev/null; then
     fi
 else
     echo "recorder: skipped: bindfs is not installed"
+fi
+
+# It hands RENAME2 on with all flags. What it says ends without a line feed, and its copy of a file with two names has one.
+if command -v fuse-overlayfs > /dev/null; then
+    fill_plain
+    mkdir -p "$work/upper" "$work/other"
+    check "fuse-overlayfs: mounts" record --lower "$lower" --refuse FALLOCATE,COPY_FILE_RANGE,IOCTL -- \
+        sh -c 'exec fuse-overlayfs -f -o "$0" "$1" 2> /dev/null' "lowerdir=$lower,upperdir=$work/upper,workdir=$work/other,timeout=0" "$mnt" &&
+        renaming_session fuse-overlayfs
+else
+    echo "recorder: skipped: fuse-overlayfs is not installed"
 fi
 sessions_of_others
 
@@ -393,6 +440,8 @@ started_again() {
 of_own_server() {
     own memory --
     whole_session memory
+    own "memory, names exchanged" --
+    renaming_session "memory, names exchanged"
     check "memory, splicing: mounts" record -- "$work/memory-splicing" "$mnt" && whole_session "memory, splicing"
     own copied --
     copying_session "memory, copied to"
@@ -406,12 +455,12 @@ of_own_server() {
     check "killed: is legal" is_legal "memory, killed"
 
     # A crash in an operation that is not judged: the verdict is legal, with nothing left out, so the end has to tell it.
-    own crashed -- --die-at 45
-    timeout 20 sh -c "echo text > '$mnt/name'; mv -n '$mnt/name' '$mnt/other'" 2> /dev/null
+    own crashed -- --die-at 20
+    timeout 20 sh -c "echo text > '$mnt/name'; sync '$mnt/name'" 2> /dev/null
     stop
     check "crashed: is told" ends 125 "1 requests were never answered, 1 of them of .*: the server was ended by signal 9 (Killed) with requests un"
-    check "crashed: in RENAME2" logged "message [0-9]*: RENAME2 of node 1, unique .*: never answered" 1
-    check "crashed: is legal" judged "memory, killed in RENAME2" "legal: [1-9]* messages, *, 0 left out"
+    check "crashed: in FSYNC" logged "message [0-9]*: FSYNC of node .*, unique .*: never answered" 1
+    check "crashed: is legal" judged "memory, killed in FSYNC" "legal: [1-9]* messages, *, 0 left out"
 
     # A server that fails and leaves a process behind.
     failing
@@ -607,7 +656,7 @@ servers_in_go() {
         mkdir -m 755 "$work/secret"
         echo words > "$work/password"
         check "gocryptfs: makes its folder" gocryptfs -q -init -scryptn 10 -passfile "$work/password" "$work/secret"
-        check "gocryptfs: mounts" record --refuse FALLOCATE,COPY_FILE_RANGE,IOCTL,RENAME2 -- \
+        check "gocryptfs: mounts" record --refuse FALLOCATE,COPY_FILE_RANGE,IOCTL -- \
             gocryptfs -fg -nosyslog -sharedstorage -passfile "$work/password" "$work/secret" "$mnt" && {
             check "gocryptfs: serves several processes" work_in_mount
             check "gocryptfs: is unmounted" stop
@@ -643,10 +692,6 @@ names_of_go_fuse() {
 }
 # rclone has one mode for all files, and one for all folders, and neither links nor pipes.
 rclone_words=(rclone mount --config /dev/null --vfs-cache-mode writes --cache-dir "$work/cache" --file-perms 0644 --dir-perms 0755)
-fill_plain() {
-    rm -rf "$lower" "$work/cache"
-    (umask 022 && mkdir -p "$lower/old/deep" && echo here > "$lower/old/deep/file")
-}
 work_plainly() {
     is_mounted && timeout 60 sh -ec "umask 022; cd '$mnt'
         [ \"\$(cat old/deep/file)\" = here ]

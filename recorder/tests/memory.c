@@ -86,6 +86,7 @@ struct request {
         struct fuse_mknod_in mknod;
         struct fuse_mkdir_in mkdir;
         struct fuse_rename_in rename;
+        struct fuse_rename2_in rename2;
         struct fuse_link_in link;
         struct fuse_open_in open;
         struct fuse_read_in read;
@@ -93,7 +94,7 @@ struct request {
         struct fuse_init_in init;
         struct fuse_create_in create;
     } asked;
-    const char *name, *second_text; /* the new name of RENAME, the target of SYMLINK */
+    const char *name, *second_text; /* the new name of RENAME and RENAME2, the target of SYMLINK */
     const char *rest;               /* what is behind these */
     size_t left;
 
@@ -312,6 +313,20 @@ static void add_entry(struct file *directory, const char *name, struct file *fil
     directory->entries[directory->entry_count++] = (struct entry){++directory->last_cookie, file, copy_of(name)};
     mark_modified(directory);
     file->names++;
+    file->changed = now();
+    if (S_ISDIR(file->mode)) {
+        directory->subdirectories++;
+        file->parent = directory->number;
+    }
+}
+
+/* The entry is another file's from then on. */
+static void replace_in_entry(struct file *directory, struct entry *entry, struct file *file)
+{
+    if (S_ISDIR(entry->file->mode))
+        directory->subdirectories--;
+    entry->file = file;
+    mark_modified(directory);
     file->changed = now();
     if (S_ISDIR(file->mode)) {
         directory->subdirectories++;
@@ -620,13 +635,9 @@ static int moving_error(const struct entry *old, const struct file *directory, c
     return error == EEXIST ? replacing_error(old->file, find_entry(directory, name)->file) : 0;
 }
 
-static int do_rename(struct request *request)
+/* Moves the name to this directory. */
+static int move(struct request *request, struct file *directory)
 {
-    struct file *directory = file_of(request->asked.rename.newdir);
-    if (!directory)
-        return ESTALE;
-    if (!S_ISDIR(directory->mode))
-        return ENOTDIR;
     struct entry *old = find_entry(request->file, request->name);
     struct entry *replaced = find_entry(directory, request->second_text);
     if (!old)
@@ -643,6 +654,59 @@ static int do_rename(struct request *request)
     add_entry(directory, request->second_text, moved);
     remove_entry(request->file, find_entry(request->file, request->name));
     return 0;
+}
+
+static int move_to_none(struct request *request, struct file *directory)
+{
+    return find_entry(directory, request->second_text) ? EEXIST : move(request, directory);
+}
+
+/* Whether the directory, which has a name, would come to be below itself. */
+static bool comes_below_itself(const struct file *directory, const struct file *file)
+{
+    return S_ISDIR(file->mode) && is_within(directory, file);
+}
+
+/* Gives each of the two names the other's file. */
+static int exchange(struct request *request, struct file *directory)
+{
+    struct entry *old = find_entry(request->file, request->name);
+    struct entry *other = find_entry(directory, request->second_text);
+    if (!old || !other)
+        return ENOENT;
+    struct file *moved = old->file;
+    if (other->file == moved)
+        return 0;
+    if (comes_below_itself(directory, moved) || comes_below_itself(request->file, other->file))
+        return EINVAL;
+    replace_in_entry(request->file, old, other->file);
+    replace_in_entry(directory, other, moved);
+    return 0;
+}
+
+/* A change of names whose new directory has this number. */
+static int in_directory(struct request *request, uint64_t number, int (*act)(struct request *, struct file *))
+{
+    struct file *directory = file_of(number);
+    if (!directory)
+        return ESTALE;
+    return S_ISDIR(directory->mode) ? act(request, directory) : ENOTDIR;
+}
+
+static int do_rename(struct request *request)
+{
+    return in_directory(request, request->asked.rename.newdir, move);
+}
+
+static int do_rename2(struct request *request)
+{
+    const struct fuse_rename2_in *asked = &request->asked.rename2;
+    switch (asked->flags) {
+    case 0: return in_directory(request, asked->newdir, move);
+    case RENAME_NOREPLACE: return in_directory(request, asked->newdir, move_to_none);
+    case RENAME_EXCHANGE: return in_directory(request, asked->newdir, exchange);
+    default: return EINVAL;
+    }
 }
 
 static int do_link(struct request *request)
@@ -822,6 +886,7 @@ static const struct {
     [FUSE_UNLINK] = {do_unlink, A_DIRECTORY, 0, 1},
     [FUSE_RMDIR] = {do_rmdir, A_DIRECTORY, 0, 1},
     [FUSE_RENAME] = {do_rename, A_DIRECTORY, sizeof(struct fuse_rename_in), 2},
+    [FUSE_RENAME2] = {do_rename2, A_DIRECTORY, sizeof(struct fuse_rename2_in), 2},
     [FUSE_LINK] = {do_link, A_DIRECTORY, sizeof(struct fuse_link_in), 1},
     [FUSE_OPEN] = {do_open, A_REGULAR_FILE, sizeof(struct fuse_open_in), 0},
     [FUSE_READ] = {do_read, A_REGULAR_FILE, sizeof(struct fuse_read_in), 0},
