@@ -112,8 +112,8 @@ fn is_error_value(error: i32) -> bool
 /// A reply with an error other than 0 is the header alone. A success has the body of the request's
 /// operation, as [`Reply`] lists them: a struct of `fuse.h`, at most as many bytes as were asked for,
 /// any bytes for READLINK, or nothing. INIT has the first 24 to 64 bytes of `struct fuse_init_out`. INTERRUPT is answered by
-/// the header alone, and other operations that are read by their header by any bytes. FORGET and
-/// BATCH_FORGET have no answer.
+/// the header alone, and other operations that are read by their header by any bytes; so is RENAME2 with
+/// flags that this profile does not read. FORGET and BATCH_FORGET have no answer.
 ///
 /// The one error is the code `REPLY_BODY` of [`fa_capture::codes`], for any other body. The caller
 /// has read the head by [`reply_head`], and its unique is that of the request.

@@ -61,13 +61,13 @@ known_name es node known =
 
 -- a tree request names the node of its header first
 names_first : (node : ℕ) (b : PlainBody) → IsTreeRequest b → slice_get ((mentions b).names node) 0 ≡ Some node
-names_first node (Forget nlookup) tree = absurd tree
-names_first node (Release r) tree = absurd tree
-names_first node (Flush f) tree = absurd tree
-names_first node (Init i) tree = absurd tree
-names_first node (Releasedir r) tree = absurd tree
-names_first node (BatchForget count items) tree = absurd tree
-names_first node Passed tree = absurd tree
+names_first node (Forget nlookup) tree = absurd cc
+names_first node (Release r) tree = absurd cc
+names_first node (Flush f) tree = absurd cc
+names_first node (Init i) tree = absurd cc
+names_first node (Releasedir r) tree = absurd cc
+names_first node (BatchForget count items) tree = absurd cc
+names_first node Passed tree = absurd cc
 names_first node other tree = refl
 
 -- and its second node, if it names one, has a name

@@ -48,14 +48,14 @@ pub record IsTreeAnswer (c : List Message) (es : List PlainEvent) (p q asked : �
 
 -- a request is one of the tree, or none
 tree_or_not : (b : PlainBody) → IsTreeRequest b ⊎ (IsTreeRequest b → ⊥)
-tree_or_not (Forget nlookup) = inr (λ tree. tree)
-tree_or_not (Release r) = inr (λ tree. tree)
-tree_or_not (Flush f) = inr (λ tree. tree)
-tree_or_not (Init i) = inr (λ tree. tree)
-tree_or_not (Releasedir r) = inr (λ tree. tree)
-tree_or_not (BatchForget count items) = inr (λ tree. tree)
-tree_or_not Passed = inr (λ tree. tree)
-tree_or_not other = inl tt
+tree_or_not (Forget nlookup) = inr (λ tree. absurd cc)
+tree_or_not (Release r) = inr (λ tree. absurd cc)
+tree_or_not (Flush f) = inr (λ tree. absurd cc)
+tree_or_not (Init i) = inr (λ tree. absurd cc)
+tree_or_not (Releasedir r) = inr (λ tree. absurd cc)
+tree_or_not (BatchForget count items) = inr (λ tree. absurd cc)
+tree_or_not Passed = inr (λ tree. absurd cc)
+tree_or_not other = inl refl
 
 -- an event of the first p that answers a tree request
 tree_answer : (c : List Message) (es : List PlainEvent) → AreEvents c es → (p q at asked : ℕ) (request : PlainRequest) (reply : PlainReply)
@@ -251,7 +251,7 @@ handle_opened c es are p key handle kind h =
     let front : List PlainEvent = take h.since (take p es) in
     let both = opens_directory (take handle front) (front ++ e ∷ []) h.request.node h.request.body h.reply key stands.out opens kind in
     let answer : IsTreeAnswer c es p h.since handle h.request h.reply =
-    tree_answer c es are p h.since h.since handle h.request h.reply h.answer (subst IsTreeRequest (sym both.0.1) tt) in
+    tree_answer c es are p h.since h.since handle h.request h.reply h.answer (subst IsTreeRequest (sym both.0.1) refl) in
     let kept : take h.since (take p es) ≡ take h.since es = take-take h.since p es (let before = answer.before in omega (arith, before)) in
     record {
       by = h.since;

@@ -63,7 +63,7 @@ unanswered_there (PlainBody.Opendir i) tree = (Acts (Opendir Unanswered), refl, 
 unanswered_there (PlainBody.Create flags mode umask name) tree = (Acts (Create flags mode umask name Unanswered), refl, refl)
 unanswered_there (PlainBody.Readdir r) tree = ((Lists (record { size = r.size; outcome = Unanswered })), refl, refl)
 unanswered_there (PlainBody.Readdirplus r) tree = ((Lists (record { size = r.size; outcome = Unanswered })), refl, refl)
-unanswered_there other tree = absurd tree
+unanswered_there other tree = absurd cc
 
 -- no other request is an operation
 pub operation_asked : (body : PlainBody) (reply : Option PlainReply) (o : PlainOperation) → operation_of body reply ≡ Some o → IsTreeRequest body
@@ -74,7 +74,7 @@ operation_asked (PlainBody.Init i) reply o is = absurd cc
 operation_asked (PlainBody.Releasedir r) reply o is = absurd cc
 operation_asked (PlainBody.BatchForget count items) reply o is = absurd cc
 operation_asked PlainBody.Passed reply o is = absurd cc
-operation_asked other reply o is = tt
+operation_asked other reply o is = refl
 
 -- what a request asks for that came to this
 abbrev pub lost_action : PlainAction → PlainAction
@@ -221,7 +221,7 @@ success_there opcode (PlainBody.Opendir i) bytes reply f tree = there (PlainBody
 success_there opcode (PlainBody.Create flags mode umask name) bytes reply f tree = there (PlainBody.Create flags mode umask name) reply (Created f.0 f.1) (Acts (Create flags mode umask name (Succeeds (f.0, f.1)))) f.2 refl (record { given = refl; ends = refl; within = tt })
 success_there opcode (PlainBody.Readdir r) bytes reply f tree = there (PlainBody.Readdir r) reply (Listed f.0) (Lists (record { size = r.size; outcome = Succeeds f.0 })) f.1 refl (record { given = refl; ends = refl; within = tt })
 success_there opcode (PlainBody.Readdirplus r) bytes reply f tree = there (PlainBody.Readdirplus r) reply (Listed f.0) (Lists (record { size = r.size; outcome = Succeeds f.0 })) f.1 refl (record { given = refl; ends = refl; within = tt })
-success_there opcode other bytes reply f tree = absurd tree
+success_there opcode other bytes reply f tree = absurd cc
 
 -- an error
 error_there : (body : PlainBody) (reply : PlainReply) (error : ℤ) → reply ≡ Refused error → IsTreeRequest body → IsThere body reply
@@ -244,7 +244,7 @@ error_there (PlainBody.Opendir i) reply error told tree = there (PlainBody.Opend
 error_there (PlainBody.Create flags mode umask name) reply error told tree = there (PlainBody.Create flags mode umask name) reply (Refused error) (Acts (Create flags mode umask name (Fails error))) told refl (record { given = refl; ends = refl; within = tt })
 error_there (PlainBody.Readdir r) reply error told tree = there (PlainBody.Readdir r) reply (Refused error) (Lists (record { size = r.size; outcome = Fails error })) told refl (record { given = refl; ends = refl; within = tt })
 error_there (PlainBody.Readdirplus r) reply error told tree = there (PlainBody.Readdirplus r) reply (Refused error) (Lists (record { size = r.size; outcome = Fails error })) told refl (record { given = refl; ends = refl; within = tt })
-error_there other reply error told tree = absurd tree
+error_there other reply error told tree = absurd cc
 
 -- any answer
 answer_there : (asked : PlainRequest) (error : ℤ) (bytes : List ℕ) (reply : PlainReply) → Says asked error bytes reply → IsTreeRequest asked.body → IsThere asked.body reply

@@ -69,7 +69,8 @@ tree_not_init : (es : List PlainEvent) (at asked : ℕ) (r : PlainRequest) (repl
 tree_not_init es at asked r reply tree =
     flag_kept es (Answered at asked r reply) atomic_o_trunc (λ n p s said i answer is init.
     let same : r ≡ s = cc in
-    subst IsTreeRequest (ap (λ (x : PlainRequest). x.body) same ∙ init) tree)
+    let clash = subst IsTreeRequest (ap (λ (x : PlainRequest). x.body) same ∙ init) tree in
+    absurd cc)
 
 -- what is known of an answer to a tree request: the call that waits, the names, what it opens and what it lists
 pub record IsPrepared (c : List Message) (m : Message) (es : List PlainEvent) (at asked : ℕ) (r : PlainRequest) (reply : PlainReply) (old : Books) (names : List NodeName) (which : Option (Key × OpenOut)) : Type 0 where

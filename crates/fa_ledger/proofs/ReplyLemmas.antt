@@ -212,13 +212,13 @@ plain_success opcode (Init i) body reply plain says = rw says.1 refl
 plain_success opcode (Releasedir r) body reply plain says = rw says.0 refl
 plain_success opcode (BatchForget count items) body reply plain says = absurd says
 plain_success opcode Passed body reply plain says = rw says.0 refl
-plain_success opcode other body reply plain says = absurd (plain tt)
+plain_success opcode other body reply plain says = absurd (plain refl)
 
 -- such a request opens nothing
 plain_unopened : (before more : List PlainEvent) (node : ℕ) (asked : PlainBody) (reply : PlainReply) → (IsTreeRequest asked → ⊥) → opened_by before more node asked reply ≡ None
-plain_unopened before more node (Open o) reply plain = absurd (plain tt)
-plain_unopened before more node (Opendir o) reply plain = absurd (plain tt)
-plain_unopened before more node (Create flags mode umask name) reply plain = absurd (plain tt)
+plain_unopened before more node (Open o) reply plain = absurd (plain refl)
+plain_unopened before more node (Opendir o) reply plain = absurd (plain refl)
+plain_unopened before more node (Create flags mode umask name) reply plain = absurd (plain refl)
 plain_unopened before more node other reply plain = refl
 
 -- the answer to a request that is no tree request gives no node and opens nothing

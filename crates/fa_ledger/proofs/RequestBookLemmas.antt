@@ -1,6 +1,6 @@
 -- A request that is noted in the books: what it leaves, what it takes, what it closes and what it adds.
 use Rattle.std.proofs.Common.{◌≡◌, ℕ, ◌<◌, ◌≤◌, Bool, true, false, cond, List, [], ◌∷◌, ◌++◌, length, Option, None, Some, refl, sym, ap, subst, ◌∙◌, inl, inr, arith}
-use Rattle.std.specs.Prelude.{◌↔◌, nat_eq, All, IsTrue, MatchOption, IsSomeAnd, is_none, option_map, option_and_then}
+use Rattle.std.specs.Prelude.{◌↔◌, nat_eq, All, IsTrue, IsSome, MatchOption, IsSomeAnd, is_none, option_map, option_and_then}
 use Rattle.std.specs.Borrow.{Bor}
 use Rattle.std.specs.Map.{lookup}
 use Rattle.fa_capture.specs.declared.codes.TheConstants.{FORGOTTEN_TOO_OFTEN, CLOSED_HANDLE}
@@ -30,7 +30,7 @@ use Rattle.fa_ledger.specs.Mentions.{mentions}
 use Rattle.fa_ledger.specs.Counts.{request_takes, total_taken, lookups_given, IsKnown}
 use Rattle.fa_ledger.specs.Names.{nodes_named}
 use Rattle.fa_ledger.specs.Keys.{key_eq, key_at, key_used, handle_used}
-use Rattle.fa_ledger.specs.Kinds.{IsThere, IsTreeRequest}
+use Rattle.fa_ledger.specs.Kinds.{IsTreeRequest}
 use Rattle.fa_ledger.specs.Handles.{is_closing, closing, IsDirect}
 use Rattle.fa_ledger.specs.declared.operation.Operation.{Operation}
 use Rattle.fa_ledger.specs.Operations.{PlainOperation, operation_of, operation_shown}
@@ -41,7 +41,7 @@ use Rattle.fa_ledger.specs.Listings.{IsListingIfAny, offset_asked}
 use Rattle.fa_ledger.specs.Shows.{IsNodeOf, IsKeyOf, ArePlaces}
 use Rattle.fa_ledger.specs.parts.ListingParts.{place_of, listing_by}
 use Rattle.fa_ledger.specs.parts.BookParts.{NodesShow, KeysShow, BooksShow, Stands, AreNames, AreNamesIfAny, IsUsed, IsUsedIfAny, asked_checks}
-use Rattle.fa_ledger.specs.parts.Steps.{closed_once, lookup_of, but_root, AreWithin, IsTakenFrom, count_left}
+use Rattle.fa_ledger.specs.parts.Steps.{closed_once, but_root, AreWithin, IsTakenFrom, count_left}
 use Rattle.fa_ledger.proofs.HandleLemmas.{key_same}
 use Rattle.fa_ledger.proofs.KeyLemmas.{other_unclosed, none_unopened, none_unclosed, open_is_some, key_unmoved, key_closed}
 use Rattle.fa_ledger.proofs.NodeLemmas.{node_kept, node_taken, within_now, given_within}
@@ -58,8 +58,8 @@ match_then (Some x) P R is follows = follows x is
 
 -- a tree request closes nothing
 tree_not_closing : (b : PlainBody) → IsTreeRequest b → is_closing b ≡ false
-tree_not_closing (Release r) tree = absurd tree
-tree_not_closing (Releasedir r) tree = absurd tree
+tree_not_closing (Release r) tree = absurd cc
+tree_not_closing (Releasedir r) tree = absurd cc
 tree_not_closing other tree = refl
 
 -- a request that names no nodes is no tree request, closes nothing and uses no handle
@@ -69,15 +69,17 @@ record NamesNone (b : PlainBody) : Type 0 where
   uses : handle_used b ≡ None
 
 names_none : (node : ℕ) (b : PlainBody) → (mentions b).names node ≡ [] → NamesNone b
-names_none node (Forget nlookup) none = record { no_tree = λ tree. tree; leaves = refl; uses = refl }
-names_none node (Init i) none = record { no_tree = λ tree. tree; leaves = refl; uses = refl }
-names_none node (BatchForget count items) none = record { no_tree = λ tree. tree; leaves = refl; uses = refl }
-names_none node Passed none = record { no_tree = λ tree. tree; leaves = refl; uses = refl }
+names_none node (Forget nlookup) none = record { no_tree = λ tree. absurd cc; leaves = refl; uses = refl }
+names_none node (Init i) none = record { no_tree = λ tree. absurd cc; leaves = refl; uses = refl }
+names_none node (BatchForget count items) none = record { no_tree = λ tree. absurd cc; leaves = refl; uses = refl }
+names_none node Passed none = record { no_tree = λ tree. absurd cc; leaves = refl; uses = refl }
 names_none node other none = absurd cc
 
 -- what is no operation is no tree request
 pub not_tree : (found : Option Operation) (body : PlainBody) → option_map operation_shown found ≡ operation_of body None → ((o : Operation) → found ≡ Some o → ⊥) → IsTreeRequest body → ⊥
-not_tree None body is none tree = subst IsThere (sym is) tree
+not_tree None body is none tree =
+    let clash : IsSome (option_map operation_shown None) = subst IsSome (sym is) tree in
+    absurd cc
 not_tree (Some o) body is none tree = none o refl
 
 -- only FORGET and BATCH_FORGET take
@@ -179,14 +181,14 @@ new_call at o names handle direct truncates listing = record {
 
 -- items take no more than is left exactly where the table says so
 takes_within : (es : List PlainEvent) (r : PlainRequest) (known : List (ℕ × Lookups)) (items : List (ℕ × ℕ)) → request_takes r ≡ but_root items → NodesShow es known
-    → AreWithin (lookup_of known) (but_root items) → TakesWithin es r
+    → AreWithin known (but_root items) → TakesWithin es r
 takes_within es r known items takes show within earlier later node nlookup is =
-    (within_now es node (lookup_of known node) (total_taken node earlier) nlookup (show node)).1 (within earlier later node nlookup (sym takes ∙ is))
+    (within_now es node (lookup (nat_eq node) known) (total_taken node earlier) nlookup (show node)).1 (within earlier later node nlookup (sym takes ∙ is))
 
 within_takes : (es : List PlainEvent) (r : PlainRequest) (known : List (ℕ × Lookups)) (items : List (ℕ × ℕ)) → request_takes r ≡ but_root items → NodesShow es known
-    → TakesWithin es r → AreWithin (lookup_of known) (but_root items)
+    → TakesWithin es r → AreWithin known (but_root items)
 within_takes es r known items takes show within earlier later node nlookup is =
-    (within_now es node (lookup_of known node) (total_taken node earlier) nlookup (show node)).0 (within earlier later node nlookup (takes ∙ is))
+    (within_now es node (lookup (nat_eq node) known) (total_taken node earlier) nlookup (show node)).0 (within earlier later node nlookup (takes ∙ is))
 
 -- no more is left of a node than was given
 pub left_within : (es : List PlainEvent) (node : ℕ) (x : Option Lookups) → IsNodeOf es node x → count_left x ≤ lookups_given es node
@@ -194,10 +196,10 @@ left_within es node None is = omega arith
 left_within es node (Some l) is = omega (arith, is.left)
 
 -- what is left of a node fits
-pub left_few : (c : List Message) (m : Message) (es : List PlainEvent) (e : PlainEvent) (b : Books) → Stands c m es e b → (node : ℕ) → count_left (lookup_of b.nodes.known.entries node) < 18446744073709551616
+pub left_few : (c : List Message) (m : Message) (es : List PlainEvent) (e : PlainEvent) (b : Books) → Stands c m es e b → (node : ℕ) → count_left (lookup (nat_eq node) b.nodes.known.entries) < 18446744073709551616
 left_few c m es e b stands node =
     let few : length c < 16777216 = stands.few in
-    omega (arith, few, stands.are.counted, left_within es node (lookup_of b.nodes.known.entries node) (stands.shown.nodes node), given_within c es node stands.are)
+    omega (arith, few, stands.are.counted, left_within es node (lookup (nat_eq node) b.nodes.known.entries) (stands.shown.nodes node), given_within c es node stands.are)
 
 -- where no node is named, each that is named is known
 none_known : (es : List PlainEvent) (r : PlainRequest) → nodes_named r ≡ [] → NamesKnown es r
@@ -205,13 +207,13 @@ none_known es r none = subst (All (IsKnown es)) (sym none) (λ k d within. absur
 
 -- the rules hold of what takes no more than is left
 pub takes_keep : (es : List PlainEvent) (r : PlainRequest) (known : List (ℕ × Lookups)) (items : List (ℕ × ℕ)) → nodes_named r ≡ [] → request_takes r ≡ but_root items → NodesShow es known
-    → AreWithin (lookup_of known) (but_root items) → AllHold (asked_checks es r)
+    → AreWithin known (but_root items) → AllHold (asked_checks es r)
 takes_keep es r known items none takes show within =
     (none_known es r none, (takes_within es r known items takes show within, (inl (names_none r.node r.body none).uses, tt)))
 
 -- what takes more breaks the second
 pub takes_fail : (es : List PlainEvent) (r : PlainRequest) (known : List (ℕ × Lookups)) (items : List (ℕ × ℕ)) (code : ℕ) → nodes_named r ≡ [] → request_takes r ≡ but_root items → NodesShow es known
-    → (AreWithin (lookup_of known) (but_root items) → ⊥) → code ≡ FORGOTTEN_TOO_OFTEN → FirstFailure (asked_checks es r) code
+    → (AreWithin known (but_root items) → ⊥) → code ≡ FORGOTTEN_TOO_OFTEN → FirstFailure (asked_checks es r) code
 takes_fail es r known items code none takes show over is =
     inr (none_known es r none, inl ((λ within. over (within_takes es r known items takes show within)), is))
 

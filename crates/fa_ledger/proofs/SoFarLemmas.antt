@@ -37,8 +37,8 @@ use Rattle.fa_ledger.proofs.CallStepLemmas.{message_of, request_there, request_e
 
 -- a request that lists is a tree request
 pub lists_tree : (b : PlainBody) (offset : ℕ) → offset_asked b ≡ Some offset → IsTreeRequest b
-lists_tree (Readdir r) offset is = tt
-lists_tree (Readdirplus r) offset is = tt
+lists_tree (Readdir r) offset is = refl
+lists_tree (Readdirplus r) offset is = refl
 lists_tree b offset is = absurd cc
 
 -- what is answered with entries lists

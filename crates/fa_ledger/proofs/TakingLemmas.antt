@@ -2,6 +2,7 @@
 use Rattle.std.proofs.Math.Seq.{take-append_seam}
 use Rattle.std.proofs.Common.{append_assoc, ◌≡◌, ◌≢◌, ℕ, zero, suc, ◌+◌, ◌-◌, ◌<◌, ◌≤◌, ◌⊎◌, Bool, true, false, cond, List, [], ◌∷◌, ◌++◌, length, take, Option, None, Some, refl, sym, ap, subst, ◌∙◌, inl, inr, arith}
 use Rattle.std.specs.Prelude.{◌==◌, if◌then◌else◌, nat_eq, not}
+use Rattle.std.specs.Map.{lookup}
 use Rattle.std.proofs.lemmas.Bool.Decides.{nat_tests}
 use Rattle.std.proofs.lemmas.List.Elements.{filter-append}
 use Rattle.std.proofs.lemmas.List.{append-nil}
@@ -11,13 +12,13 @@ use Rattle.fa_ledger.specs.declared.nodes.Lookups.{Lookups}
 use Rattle.fa_ledger.specs.Counts.{total_taken}
 use Rattle.fa_ledger.proofs.NameLemmas.{not_root}
 use Rattle.fa_ledger.proofs.NodeLemmas.{root_or_not}
-use Rattle.fa_ledger.specs.parts.Steps.{lowered, raised, left_over, count_left, lookup_of, but_root, AreWithin, IsTakenFrom, IsDropped}
+use Rattle.fa_ledger.specs.parts.Steps.{lowered, raised, left_over, count_left, but_root, AreWithin, IsTakenFrom, IsDropped}
 
 -- items that took no more than was left, and what the table has of each node then
 pub record AreLowered (front : List (ℕ × ℕ)) (old now : List (ℕ × Lookups)) : Type 0 where
-  pub within : AreWithin (lookup_of old) (but_root front)
-  pub fewer : (node : ℕ) → total_taken node (but_root front) ≤ count_left (lookup_of old node)
-  pub lowered : (node : ℕ) → lookup_of now node ≡ lowered (total_taken node (but_root front)) (lookup_of old node)
+  pub within : AreWithin old (but_root front)
+  pub fewer : (node : ℕ) → total_taken node (but_root front) ≤ count_left (lookup (nat_eq node) old)
+  pub lowered : (node : ℕ) → lookup (nat_eq node) now ≡ lowered (total_taken node (but_root front)) (lookup (nat_eq node) old)
 
 -- ---- sums
 
@@ -109,28 +110,28 @@ pub none_lowered : (old : List (ℕ × Lookups)) → AreLowered [] old old
 none_lowered old = record {
   within = λ earlier later node nlookup is. absurd (no_item earlier (node, nlookup) later is);
   fewer = λ node. omega arith;
-  lowered = λ node. sym (lowered_none (lookup_of old node));
+  lowered = λ node. sym (lowered_none (lookup (nat_eq node) old));
 }
 
 -- one more item that takes no more than is left
 pub one_lowered : (front : List (ℕ × ℕ)) (old mid now : List (ℕ × Lookups)) (id n : ℕ) → AreLowered front old mid
-    → (id ≢ ROOT_ID → n ≤ count_left (lookup_of mid id))
-    → ((node : ℕ) → lookup_of now node ≡ lowered (total_taken node (but_root ((id, n) ∷ []))) (lookup_of mid node))
+    → (id ≢ ROOT_ID → n ≤ count_left (lookup (nat_eq id) mid))
+    → ((node : ℕ) → lookup (nat_eq node) now ≡ lowered (total_taken node (but_root ((id, n) ∷ []))) (lookup (nat_eq node) mid))
     → AreLowered (front ++ (id, n) ∷ []) old now
 one_lowered front old mid now id n are within wrote =
     let parts : but_root (front ++ (id, n) ∷ []) ≡ but_root front ++ but_root ((id, n) ∷ []) = filter-append (λ item. not (item.0 == ROOT_ID)) front ((id, n) ∷ []) in
-    let left : (node : ℕ) → count_left (lookup_of mid node) ≡ count_left (lookup_of old node) - total_taken node (but_root front) =
-    (λ node. ap count_left (are.lowered node) ∙ count_lowered (total_taken node (but_root front)) (lookup_of old node)) in
+    let left : (node : ℕ) → count_left (lookup (nat_eq node) mid) ≡ count_left (lookup (nat_eq node) old) - total_taken node (but_root front) =
+    (λ node. ap count_left (are.lowered node) ∙ count_lowered (total_taken node (but_root front)) (lookup (nat_eq node) old)) in
     elim (root_or_not id) [
       | inl root ↦
           let none = root_out id n root in
           let same : but_root (front ++ (id, n) ∷ []) ≡ but_root front = parts ∙ ap (λ ys. but_root front ++ ys) none ∙ append-nil (but_root front) in
           record {
-            within = subst (AreWithin (lookup_of old)) (sym same) are.within;
-            fewer = λ node. subst (λ items. total_taken node items ≤ count_left (lookup_of old node)) (sym same) (are.fewer node);
+            within = subst (AreWithin old) (sym same) are.within;
+            fewer = λ node. subst (λ items. total_taken node items ≤ count_left (lookup (nat_eq node) old)) (sym same) (are.fewer node);
             lowered = λ node.
-                wrote node ∙ ap (λ items. lowered (total_taken node items) (lookup_of mid node)) none ∙ lowered_none (lookup_of mid node) ∙ are.lowered node
-                ∙ ap (λ items. lowered (total_taken node items) (lookup_of old node)) (sym same);
+                wrote node ∙ ap (λ items. lowered (total_taken node items) (lookup (nat_eq node) mid)) none ∙ lowered_none (lookup (nat_eq node) mid) ∙ are.lowered node
+                ∙ ap (λ items. lowered (total_taken node items) (lookup (nat_eq node) old)) (sym same);
           }
       | inr other ↦
           let stands = other_in id n other in
@@ -143,36 +144,36 @@ one_lowered front old mid now id n are within wrote =
                   | inl last ↦
                       let ids : node ≡ id = ap (λ (y : ℕ × ℕ). y.0) last.1 in
                       let counts : nlookup ≡ n = ap (λ (y : ℕ × ℕ). y.1) last.1 in
-                      let own : total_taken id (but_root front) + n ≤ count_left (lookup_of old id) = omega (arith, within other, left id, are.fewer id) in
-                      subst (λ k. total_taken k earlier + nlookup ≤ count_left (lookup_of old k)) (sym ids)
-                      (subst (λ items. total_taken id items + nlookup ≤ count_left (lookup_of old id)) (sym last.0) (omega (arith, own, counts)))
+                      let own : total_taken id (but_root front) + n ≤ count_left (lookup (nat_eq id) old) = omega (arith, within other, left id, are.fewer id) in
+                      subst (λ k. total_taken k earlier + nlookup ≤ count_left (lookup (nat_eq k) old)) (sym ids)
+                      (subst (λ items. total_taken id items + nlookup ≤ count_left (lookup (nat_eq id) old)) (sym last.0) (omega (arith, own, counts)))
                   | inr before ↦ are.within earlier before.0 node nlookup before.1
                 ];
             fewer = λ node.
                 elim (same_or_not id node) [
                   | inl is ↦
-                      let own : total_taken id (but_root front) + n ≤ count_left (lookup_of old id) = omega (arith, within other, left id, are.fewer id) in
-                      subst (λ k. total_taken k (but_root (front ++ (id, n) ∷ [])) ≤ count_left (lookup_of old k)) is (omega (arith, own, total id, total_own id n))
+                      let own : total_taken id (but_root front) + n ≤ count_left (lookup (nat_eq id) old) = omega (arith, within other, left id, are.fewer id) in
+                      subst (λ k. total_taken k (but_root (front ++ (id, n) ∷ [])) ≤ count_left (lookup (nat_eq k) old)) is (omega (arith, own, total id, total_own id n))
                   | inr differ ↦ omega (arith, are.fewer node, total node, total_other id n node differ)
                 ];
             lowered = λ node.
-                wrote node ∙ ap (λ items. lowered (total_taken node items) (lookup_of mid node)) stands
+                wrote node ∙ ap (λ items. lowered (total_taken node items) (lookup (nat_eq node) mid)) stands
                 ∙ ap (lowered (total_taken node ((id, n) ∷ []))) (are.lowered node)
-                ∙ lowered_twice (total_taken node (but_root front)) (total_taken node ((id, n) ∷ [])) (lookup_of old node)
-                ∙ ap (λ k. lowered k (lookup_of old node)) (sym (total node));
+                ∙ lowered_twice (total_taken node (but_root front)) (total_taken node ((id, n) ∷ [])) (lookup (nat_eq node) old)
+                ∙ ap (λ k. lowered k (lookup (nat_eq node) old)) (sym (total node));
           }
     ]
 
 -- an item that takes more than is left
 pub one_fails : (front rest : List (ℕ × ℕ)) (old mid : List (ℕ × Lookups)) (id n : ℕ) → AreLowered front old mid → id ≢ ROOT_ID
-    → count_left (lookup_of mid id) < n → AreWithin (lookup_of old) (but_root (front ++ (id, n) ∷ rest)) → ⊥
+    → count_left (lookup (nat_eq id) mid) < n → AreWithin old (but_root (front ++ (id, n) ∷ rest)) → ⊥
 one_fails front rest old mid id n are other over within =
     let test : (id == ROOT_ID) ≡ false = not_root id other in
     let behind : but_root ((id, n) ∷ rest) ≡ (id, n) ∷ but_root rest = rw test refl in
     let parts : but_root (front ++ (id, n) ∷ rest) ≡ but_root front ++ (id, n) ∷ but_root rest =
     filter-append (λ item. not (item.0 == ROOT_ID)) front ((id, n) ∷ rest) ∙ ap (λ ys. but_root front ++ ys) behind in
     let fits = within (but_root front) (but_root rest) id n parts in
-    let left = ap count_left (are.lowered id) ∙ count_lowered (total_taken id (but_root front)) (lookup_of old id) in
+    let left = ap count_left (are.lowered id) ∙ count_lowered (total_taken id (but_root front)) (lookup (nat_eq id) old) in
     omega (arith, fits, left, over)
 
 -- ---- nodes of which nothing is left
@@ -230,9 +231,9 @@ taken_away n (Some l) y within some (inr stays) =
 
 -- there is room for one more item that is given back
 pub one_fits : (all front rest : List (ℕ × ℕ)) (old now : List (ℕ × Lookups)) (id n done : ℕ) → all ≡ front ++ (id, n) ∷ rest → length front < done → id ≢ ROOT_ID
-    → ((node : ℕ) → count_left (lookup_of old node) + total_taken node (but_root (take done all)) < 18446744073709551616)
-    → ((node : ℕ) → lookup_of now node ≡ raised (total_taken node (but_root front)) (lookup_of old node))
-    → count_left (lookup_of now id) + n < 18446744073709551616
+    → ((node : ℕ) → count_left (lookup (nat_eq node) old) + total_taken node (but_root (take done all)) < 18446744073709551616)
+    → ((node : ℕ) → lookup (nat_eq node) now ≡ raised (total_taken node (but_root front)) (lookup (nat_eq node) old))
+    → count_left (lookup (nat_eq id) now) + n < 18446744073709551616
 one_fits all front rest old now id n done is below other fits gave =
     let found = first_more all front rest (id, n) done is below in
     let test : (id == ROOT_ID) ≡ false = not_root id other in
@@ -241,8 +242,8 @@ one_fits all front rest old now id n done is below other fits gave =
     ap (λ xs. total_taken id (but_root xs)) found.1 ∙ ap (total_taken id) (filter-append (λ item. not (item.0 == ROOT_ID)) front ((id, n) ∷ found.0) ∙ ap (λ ys. but_root front ++ ys) behind)
     ∙ total_both id (but_root front) ((id, n) ∷ but_root found.0) in
     let own : total_taken id ((id, n) ∷ but_root found.0) ≡ n + total_taken id (but_root found.0) = let same : (id == id) ≡ true = grind (arith, nat_tests) in rw same refl in
-    let now_count : count_left (lookup_of now id) ≡ count_left (raised (total_taken id (but_root front)) (lookup_of old id)) = ap count_left (gave id) in
-    omega (arith, fits id, total, own, now_count, count_raised (total_taken id (but_root front)) (lookup_of old id))
+    let now_count : count_left (lookup (nat_eq id) now) ≡ count_left (raised (total_taken id (but_root front)) (lookup (nat_eq id) old)) = ap count_left (gave id) in
+    omega (arith, fits id, total, own, now_count, count_raised (total_taken id (but_root front)) (lookup (nat_eq id) old))
 
 -- one more item is given back
 pub one_raised : (front : List (ℕ × ℕ)) (id n node : ℕ) (old mid now : Option Lookups) → mid ≡ raised (total_taken node (but_root front)) old

@@ -36,10 +36,10 @@ pub record PlainAnswer : Type 0 where
   pub given : List NodeName
   pub opens : Bool
 
--- A tree request: the number of its message; what it asks for, with what came of it; the names of the nodes that it names (the second is
--- the new directory of RENAME and RENAME2, and the file of LINK), the name of the file handle that it uses, if any, and whether that one is direct;
--- whether its success empties a file that is there; what it goes on from, if it lists; and its answer, if it has one. What came of it is
--- an error or a success exactly where it has one (`calls_end_where_answered`).
+-- A tree request: the number of its message; what it asks for, with what came of it; the names of the nodes that it names (the second
+-- is the new directory of RENAME and RENAME2, and the file of LINK), the name of the file handle that it uses, if any, and whether that
+-- one is direct; whether its success empties a file that is there; what it goes on from, if it lists; and its answer, if it has one.
+-- What came of it is an error or a success exactly where it has one (`calls_end_where_answered`).
 pub record PlainCall : Type 0 where
   pub asked : ℕ
   pub operation : PlainOperation

@@ -1,5 +1,5 @@
 -- Kinds of requests: which act on the tree, and which of those leave it as it is (this profile).
-use Rattle.std.specs.Prelude.{◌⊎◌, Option, None, Some}
+use Rattle.std.specs.Prelude.{◌⊎◌, Option, None, IsSome}
 use Rattle.fa_bodies.specs.Requests.{PlainBody}
 use Rattle.fa_ledger.specs.declared.operation.Outcome.{Outcome}
 use Rattle.fa_ledger.specs.declared.operation.Outcome.TheVariants.{Fails}
@@ -7,14 +7,9 @@ use Rattle.fa_ledger.specs.Operations.{PlainAction, PlainOperation, operation_of
 use Rattle.fa_ledger.specs.Operations.PlainAction.{Lookup, Getattr, Readlink, Read, Opendir}
 use Rattle.fa_ledger.specs.Operations.PlainOperation.{Lists, Acts}
 
--- there is an operation
-abbrev pub IsThere : Option PlainOperation → Type 0
-IsThere None = ⊥
-IsThere (Some o) = Unit {0}
-
 -- a tree request, one that acts on the tree: it is an operation
 abbrev pub IsTreeRequest : PlainBody → Type 0
-IsTreeRequest body = IsThere (operation_of body None)
+IsTreeRequest body = IsSome (operation_of body None)
 
 -- an action that only asks, and leaves the tree as it is, whatever came of it
 abbrev pub Reads : PlainAction → Type 0

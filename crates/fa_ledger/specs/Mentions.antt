@@ -23,10 +23,6 @@ pub record Mentions : Type 0 where
 abbrev pub nothing : Mentions
 nothing = record { names = λ node. []; takes = λ node. []; uses = None; gives = λ entry. [] }
 
--- the node of the header
-abbrev pub its_node : Mentions
-its_node = record { names = λ node. node ∷ []; takes = λ node. []; uses = None; gives = λ entry. [] }
-
 -- lookups to be taken back
 abbrev pub lookups : (ℕ → List (ℕ × ℕ)) → Mentions
 lookups takes = record { names = λ node. []; takes = takes; uses = None; gives = λ entry. [] }
@@ -53,33 +49,33 @@ node_made entry = entry.nodeid ∷ []
 
 -- ---- the table
 
--- LOOKUP says by node id 0 that the name is not there; SYMLINK, MKNOD, MKDIR and LINK give whatever they say. CREATE and
--- READDIRPLUS give theirs by replies of other forms (`nodes_given`). RENAME and RENAME2 name the new directory too, and LINK the file. GETATTR and
--- SETATTR use a handle only where their flags say so. The items of a BATCH_FORGET are those that its bytes hold: a law of fa_bodies says
--- that `items_in` are the ones of `HoldsItems`. INIT and what is passed mention nothing (this profile).
+-- LOOKUP says by node id 0 that the name is not there; SYMLINK, MKNOD, MKDIR and LINK give whatever they say. CREATE and READDIRPLUS
+-- give theirs by replies of other forms (`nodes_given`). RENAME and RENAME2 name the new directory too, and LINK the file. GETATTR and
+-- SETATTR use a handle only where their flags say so. The items of a BATCH_FORGET are those that its bytes hold: a law of fa_bodies
+-- says that `items_in` are the ones of `HoldsItems`. INIT and what is passed mention nothing (this profile).
 abbrev pub mentions : PlainBody → Mentions
 mentions (Lookup name) = entry_for node_of
 mentions (Forget nlookup) = lookups (λ node. (node, nlookup) ∷ [])
 mentions (Getattr g) = handle (if has_flag (getattr_bits g.getattr_flags) getattr_fh then Some (g.fh, File) else None)
 mentions (Setattr s) = handle (if has_flag (fattr_bits s.valid) fattr_fh then Some (s.fh, File) else None)
-mentions Readlink = its_node
+mentions Readlink = handle None
 mentions (Symlink name target) = entry_for node_made
 mentions (Mknod mode rdev umask name) = entry_for node_made
 mentions (Mkdir mode umask name) = entry_for node_made
-mentions (Unlink name) = its_node
-mentions (Rmdir name) = its_node
+mentions (Unlink name) = handle None
+mentions (Rmdir name) = handle None
 mentions (Rename newdir old_name new_name) = two_nodes newdir
 mentions (Link oldnodeid new_name) = record { names = λ node. node ∷ oldnodeid ∷ []; takes = λ node. []; uses = None; gives = node_made }
-mentions (Open o) = its_node
+mentions (Open o) = handle None
 mentions (Read r) = handle (Some (r.fh, File))
 mentions (Write fh offset size write_flags lock_owner flags payload) = handle (Some (fh, File))
 mentions (Release r) = handle (Some (r.fh, File))
 mentions (Flush f) = handle (Some (f.fh, File))
 mentions (Init i) = nothing
-mentions (Opendir o) = its_node
+mentions (Opendir o) = handle None
 mentions (Readdir r) = handle (Some (r.fh, Directory))
 mentions (Releasedir r) = handle (Some (r.fh, Directory))
-mentions (Create flags mode umask name) = its_node
+mentions (Create flags mode umask name) = handle None
 mentions (BatchForget count items) = lookups (λ node. items_in items)
 mentions (Readdirplus r) = handle (Some (r.fh, Directory))
 mentions (Rename2 newdir flags old_name new_name) = two_nodes newdir

@@ -115,16 +115,7 @@ action_of (PlainBody.Read r) reply = option_map (λ o. Read r.offset r.size o) (
 action_of (PlainBody.Write fh offset size write_flags lock_owner flags payload) reply = option_map (λ o. Write offset size payload o) (came_to count_in reply)
 action_of (PlainBody.Opendir o) reply = option_map (λ o. Opendir o) (came_to handle_in reply)
 action_of (PlainBody.Create flags mode umask name) reply = option_map (λ o. Create flags mode umask name o) (came_to created_in reply)
--- no tree requests, but for the two that list
-action_of (PlainBody.Forget nlookup) reply = None
-action_of (PlainBody.Release r) reply = None
-action_of (PlainBody.Flush f) reply = None
-action_of (PlainBody.Init i) reply = None
-action_of (PlainBody.Readdir r) reply = None
-action_of (PlainBody.Releasedir r) reply = None
-action_of (PlainBody.BatchForget count items) reply = None
-action_of (PlainBody.Readdirplus r) reply = None
-action_of PlainBody.Passed reply = None
+action_of other reply = None
 
 -- the same of any tree request
 abbrev pub operation_of : PlainBody → Option PlainReply → Option PlainOperation

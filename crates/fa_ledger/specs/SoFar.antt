@@ -3,16 +3,15 @@ use Rattle.std.specs.Prelude.{ℕ, zero, suc, ◌==◌, List, [], ◌++◌, find
 use Rattle.std.specs.Option.{option_map_or}
 use Rattle.fa_bodies.specs.Dirents.{PlainDirent}
 use Rattle.fa_ledger.specs.declared.operation.Outcome.{Outcome}
-use Rattle.fa_ledger.specs.declared.operation.Outcome.TheVariants.{Fails, Succeeds, Unanswered}
+use Rattle.fa_ledger.specs.declared.operation.Outcome.TheVariants.{Succeeds}
 use Rattle.fa_ledger.specs.Calls.{PlainCall}
 use Rattle.fa_ledger.specs.Operations.{PlainOperation}
 use Rattle.fa_ledger.specs.Operations.PlainOperation.{Lists, Acts}
 
 -- the entries that an outcome lists
 abbrev pub entries_listed : Outcome (List PlainDirent) → List PlainDirent
-entries_listed (Fails error) = []
 entries_listed (Succeeds entries) = entries
-entries_listed Unanswered = []
+entries_listed other = []
 
 -- the entries that the answer to a call with this operation lists
 abbrev pub entries_answered : PlainOperation → List PlainDirent

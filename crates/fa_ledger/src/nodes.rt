@@ -7,7 +7,7 @@ ghost use Rattle.fa_bodies.specs.Items.{items_in};
 ghost use Rattle.fa_capture.specs.declared.codes.TheConstants.{FORGOTTEN_TOO_OFTEN};
 ghost use Rattle.fa_ledger.specs.declared.nodes.Lookups.{Lookups};
 ghost use Rattle.fa_ledger.specs.Counts.{total_taken};
-ghost use Rattle.fa_ledger.specs.parts.Steps.{named_by, given_to, given_again, lowered, raised, left_over, count_left, times_named, is_new, some_new, lookup_of, but_root, AreWithin, IsTakenFrom, IsDropped};
+ghost use Rattle.fa_ledger.specs.parts.Steps.{named_by, given_to, given_again, lowered, raised, left_over, count_left, times_named, is_new, some_new, but_root, AreWithin, IsTakenFrom, IsDropped};
 
 use crate::name::NodeName;
 use fa_bodies::{ROOT_ID, items};
@@ -89,9 +89,9 @@ impl Nodes {
     /// as it was.
     pub fn forget(&mut self, id: u64, nlookup: u64) -> Result<(), u16>
         requires { (node : ℕ) (l : Lookups) → get nat_eq self.old.known node ≡ Some l → 0 < l.count }
-        ensures within { OnOk result (AreWithin (lookup_of self.old.known.entries) (but_root ((id, nlookup) ∷ []))) }
+        ensures within { OnOk result (AreWithin self.old.known.entries (but_root ((id, nlookup) ∷ []))) }
         ensures taken { OnOk result ((node : ℕ) → IsTakenFrom (total_taken node (but_root ((id, nlookup) ∷ []))) (get nat_eq self.old.known node) (get nat_eq self.new.known node)) }
-        ensures refused { IfErr result (λ code. (code ≡ FORGOTTEN_TOO_OFTEN) × (AreWithin (lookup_of self.old.known.entries) (but_root ((id, nlookup) ∷ [])) → ⊥)) }
+        ensures refused { IfErr result (λ code. (code ≡ FORGOTTEN_TOO_OFTEN) × (AreWithin self.old.known.entries (but_root ((id, nlookup) ∷ [])) → ⊥)) }
         ensures unchanged { OnErr result (IsUnchanged self.old.known self.new.known) }
     {
         self.lower(id, nlookup)?;
@@ -104,9 +104,9 @@ impl Nodes {
     pub fn forget_all(&mut self, bytes: &[u8]) -> Result<(), u16>
         requires few { (node : ℕ) → count_left (get nat_eq self.old.known node) < 18446744073709551616 }
         requires some { (node : ℕ) (l : Lookups) → get nat_eq self.old.known node ≡ Some l → 0 < l.count }
-        ensures within { OnOk result (AreWithin (lookup_of self.old.known.entries) (but_root (items_in bytes.now))) }
+        ensures within { OnOk result (AreWithin self.old.known.entries (but_root (items_in bytes.now))) }
         ensures taken { OnOk result ((node : ℕ) → IsTakenFrom (total_taken node (but_root (items_in bytes.now))) (get nat_eq self.old.known node) (get nat_eq self.new.known node)) }
-        ensures refused { IfErr result (λ code. (code ≡ FORGOTTEN_TOO_OFTEN) × (AreWithin (lookup_of self.old.known.entries) (but_root (items_in bytes.now)) → ⊥)) }
+        ensures refused { IfErr result (λ code. (code ≡ FORGOTTEN_TOO_OFTEN) × (AreWithin self.old.known.entries (but_root (items_in bytes.now)) → ⊥)) }
         ensures unchanged { OnErr result ((node : ℕ) → get nat_eq self.new.known node ≡ get nat_eq self.old.known node) }
     {
         match self.lower_all(bytes) {
@@ -124,10 +124,10 @@ impl Nodes {
     /// Takes back the lookups of items one after the other, and leaves the nodes in the table. The error is the number of
     /// items before the first that takes more than are left; these were taken.
     fn lower_all(&mut self, bytes: &[u8]) -> Result<(), usize>
-        ensures within { OnOk result (AreWithin (lookup_of self.old.known.entries) (but_root (items_in bytes.now))) }
+        ensures within { OnOk result (AreWithin self.old.known.entries (but_root (items_in bytes.now))) }
         ensures lowered { OnOk result ((node : ℕ) → get nat_eq self.new.known node ≡ lowered (total_taken node (but_root (items_in bytes.now))) (get nat_eq self.old.known node)) }
         ensures fewer { OnOk result ((node : ℕ) → total_taken node (but_root (items_in bytes.now)) ≤ count_left (get nat_eq self.old.known node)) }
-        ensures refused { IfErr result (λ done. AreWithin (lookup_of self.old.known.entries) (but_root (items_in bytes.now)) → ⊥) }
+        ensures refused { IfErr result (λ done. AreWithin self.old.known.entries (but_root (items_in bytes.now)) → ⊥) }
         ensures front { IfErr result (λ done. (node : ℕ) → total_taken node (but_root (take done (items_in bytes.now))) ≤ count_left (get nat_eq self.old.known node)) }
         ensures front_lowered { IfErr result (λ done. (node : ℕ) → get nat_eq self.new.known node ≡ lowered (total_taken node (but_root (take done (items_in bytes.now)))) (get nat_eq self.old.known node)) }
     {

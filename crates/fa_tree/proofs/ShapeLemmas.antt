@@ -316,7 +316,7 @@ linked_is_there s tree file (inr has) = tree.there has.0 has.1 file has.2
 record MayMove (s : Store) (old_directory : ℕ) (old_name : List ℕ) (new_directory : ℕ) (file : ℕ) : Type 0 where
   there : HasName s old_directory old_name file
   to : IsDirectory s new_directory
-  moves : IsDirectory s file → (new_directory ≢ file) × (IsBelow s file new_directory → ⊥)
+  moves : MayComeInto s new_directory file
 
 -- a name comes for the file that moves, once its old name went, whatever names went else
 move_comes : (s t : Store) (old_directory : ℕ) (old_name : List ℕ) (new_directory file : ℕ) → IsTree s → MayMove s old_directory old_name new_directory file
@@ -340,13 +340,13 @@ move_comes s t old_directory old_name new_directory file tree may same fewer =
 -- the edits of a rename, by the file that has the new name
 moved_keeps_tree : (s : Store) (old_directory : ℕ) (old_name : List ℕ) (new_directory : ℕ) (new_name : List ℕ) (file : ℕ) → IsTree s
     → HasName s old_directory old_name file → IsDirectory s new_directory
-    → (IsDirectory s file → (HasName s new_directory new_name file → ⊥) → (new_directory ≢ file) × (IsBelow s file new_directory → ⊥))
+    → ((HasName s new_directory new_name file → ⊥) → MayComeInto s new_directory file)
     → (found : Option ℕ) → get s.names (new_directory, new_name) ≡ found
     → IsTree (record { names = names_after (moved old_directory old_name new_directory new_name file found) s.names; files = s.files })
 moved_keeps_tree s old_directory old_name new_directory new_name file tree there to moves None is =
     let old : Place = (old_directory, old_name) in
     let left : Store = without s old in
-    let may : MayMove s old_directory old_name new_directory file = record { there = there; to = to; moves = λ kind. moves kind (λ has. absurd cc) } in
+    let may : MayMove s old_directory old_name new_directory file = record { there = there; to = to; moves = moves (λ has. absurd cc) } in
     addition_keeps_tree left new_directory new_name file (removal_keeps_tree s old tree)
     (move_comes s left old_directory old_name new_directory file tree may refl (λ directory name f has. name_left s.names old (directory, name) f has))
 moved_keeps_tree s old_directory old_name new_directory new_name file tree there to moves (Some other) is =
@@ -362,7 +362,7 @@ moved_keeps_tree s old_directory old_name new_directory new_name file tree there
         let last : Store = without left new in
         let apart : HasName s new_directory new_name file → ⊥ =
         λ has. (let same : Some other ≡ Some file = sym is ∙ has in let one : other ≡ file = cc in eqb-false other file test one) in
-        let may : MayMove s old_directory old_name new_directory file = record { there = there; to = to; moves = λ kind. moves kind apart } in
+        let may : MayMove s old_directory old_name new_directory file = record { there = there; to = to; moves = moves apart } in
         addition_keeps_tree last new_directory new_name file (removal_keeps_tree left new (removal_keeps_tree s old tree))
         (move_comes s last old_directory old_name new_directory file tree may refl
         (λ directory name f has. name_left s.names old (directory, name) f (name_left left.names new (directory, name) f has).1))

@@ -17,16 +17,19 @@ abbrev pub MayReplace : Store → (file other : ℕ) → Type 0
 MayReplace s file other =
     (other ≡ file) ⊎ ((IsDirectory s file × IsEmptyDirectory s other) ⊎ ((IsDirectory s file → ⊥) × (IsDirectory s other → ⊥)))
 
--- The old name is in its directory, and the new directory is linked. A file whose name the new name is may be replaced. A directory
--- does not move to itself nor below itself, unless the new name is its own already.
+-- As for loops a file may come into a directory: one that is a directory itself not into itself nor below itself.
+abbrev pub MayComeInto : Store → (directory file : ℕ) → Type 0
+MayComeInto s directory file = IsDirectory s file → (directory ≢ file) × (IsBelow s file directory → ⊥)
+
+-- The old name is in its directory, and the new directory is linked. A file whose name the new name is may be replaced. The file may
+-- come into the new directory, unless the new name is its own already.
 pub record MayBeRenamed (s : Store) (old_directory : ℕ) (old_name : List ℕ) (new_directory : ℕ) (new_name : List ℕ) : Type 0 where
   pub from : IsDirectory s old_directory
   pub to : IsLinkedDirectory s new_directory
   pub file : ℕ
   pub there : HasName s old_directory old_name file
   pub replaces : (other : ℕ) → HasName s new_directory new_name other → MayReplace s file other
-  pub moves : IsDirectory s file → (HasName s new_directory new_name file → ⊥)
-      → (new_directory ≢ file) × (IsBelow s file new_directory → ⊥)
+  pub moves : (HasName s new_directory new_name file → ⊥) → MayComeInto s new_directory file
 
 -- The edits of a rename of this file, by the file whose name the new name is, if it is one's: none where it is this file (both
 -- names stay); else the old name goes, then the other file's name, and then the new name is added for this file.
@@ -44,10 +47,6 @@ rename_edits s old_directory old_name new_directory new_name =
     (get s.names (old_directory, old_name)) []
 
 -- ---- an exchange
-
--- As for loops a file may come into a directory: one that is a directory itself not into itself nor below itself.
-abbrev pub MayComeInto : Store → (directory file : ℕ) → Type 0
-MayComeInto s directory file = IsDirectory s file → (directory ≢ file) × (IsBelow s file directory → ⊥)
 
 -- Both names are there, and each file may come into the other's directory.
 pub record MayBeExchanged (s : Store) (old_directory : ℕ) (old_name : List ℕ) (new_directory : ℕ) (new_name : List ℕ) : Type 0 where

@@ -145,10 +145,9 @@ impl Stored {
             Action::Rename { new_name, .. } => { self.is_full_directory_in(named.other, new_name) }
             Action::Rename2 {
                 flags,
-                old_name,
                 new_name,
                 ..
-            } => self.is_rename2_taken(*flags, named, old_name, new_name),
+            } => self.is_rename2_taken(*flags, named, new_name),
             _ => false,
         }
     }
@@ -162,10 +161,9 @@ impl Stored {
             Action::Rename { new_name, .. } => { self.is_full_directory_in(named.other, new_name) }
             Action::Rename2 {
                 flags,
-                old_name,
                 new_name,
                 ..
-            } => self.is_rename2_not_empty(*flags, named, old_name, new_name),
+            } => self.is_rename2_not_empty(*flags, named, new_name),
             _ => false,
         }
     }

@@ -1,6 +1,6 @@
 //! What a success of a request asks of a tree.
 
-ghost use Rattle.std.specs.Prelude.{◌↔◌, ◌≢◌, ◌≡◌, ℕ, Option, IsTrue};
+ghost use Rattle.std.specs.Prelude.{◌↔◌, ℕ, Option, IsTrue};
 ghost use Rattle.fa_ledger.specs.Operations.{action_shown};
 ghost use Rattle.fa_tree.specs.State.{HasName, IsDirectory, IsBelow, OpenDirectory};
 ghost use Rattle.fa_tree.specs.Operations.{action_rule};
@@ -8,7 +8,7 @@ ghost use Rattle.fa_tree.specs.parts.NamedParts.{named_shown};
 ghost use Rattle.fa_tree.specs.Lookups.{MayBeSet};
 ghost use Rattle.fa_tree.specs.Making.{MayBeMade, MayBeCreated};
 ghost use Rattle.fa_tree.specs.Removing.{MayBeUnlinked, MayBeRemoved};
-ghost use Rattle.fa_tree.specs.Renaming.{MayReplace, MayBeRenamed};
+ghost use Rattle.fa_tree.specs.Renaming.{MayReplace, MayComeInto, MayBeRenamed};
 ghost use Rattle.fa_tree.specs.Linking.{MayBeLinked};
 
 use crate::id::FileId;
@@ -98,14 +98,20 @@ impl Stored {
             && !self.is_directory(file)
     }
 
-    /// Whether a file may move to a directory under a name, as for loops: a directory not to itself nor below itself.
+    /// Whether a file may come into a directory, as for loops: a directory not into itself nor below itself.
+    pub(crate) fn may_come_into(&self, directory: FileId, file: FileId) -> bool
+        requires { IsDirectory self.now.store directory }
+        ensures { IsTrue result ↔ MayComeInto self.now.store directory file }
+    {
+        !self.is_directory(file) || (directory != file && !self.is_below(file, directory))
+    }
+
+    /// Whether a file may move to a directory under a name: it has the name already, or may come into the directory.
     fn may_move(&self, file: FileId, directory: FileId, name: &[u8]) -> bool
         requires { IsDirectory self.now.store directory }
-        ensures { IsTrue result ↔ (IsDirectory self.now.store file → (HasName self.now.store directory name.now file → ⊥) → (directory ≢ file) × (IsBelow self.now.store file directory → ⊥)) }
+        ensures { IsTrue result ↔ ((HasName self.now.store directory name.now file → ⊥) → MayComeInto self.now.store directory file) }
     {
-        !self.is_directory(file)
-            || self.find(directory, name) == Some(file)
-            || (directory != file && !self.is_below(file, directory))
+        self.find(directory, name) == Some(file) || self.may_come_into(directory, file)
     }
 
     /// Whether RENAME may succeed.

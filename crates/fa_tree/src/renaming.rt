@@ -1,10 +1,10 @@
 //! RENAME2: what it asks of a tree, when its errors have their causes, and what it makes of the tree, by its flags.
 
-ghost use Rattle.std.specs.Prelude.{◌≡◌, ◌≢◌, ◌↔◌, Option, Some, IsTrue, OnOk, OnErr};
+ghost use Rattle.std.specs.Prelude.{◌≡◌, ◌≢◌, ◌↔◌, ℕ, List, Option, Some, IsTrue, OnOk, OnErr};
 ghost use Rattle.fa_bodies.specs.declared.rename_flags.RenameFlags.TheVariants.{Exchange};
 ghost use Rattle.fa_tree.specs.State.{IsDirectory, IsFree, IsThere};
 ghost use Rattle.fa_tree.specs.Resolved.{OfOther};
-ghost use Rattle.fa_tree.specs.Renaming.{MayComeInto, MayBeExchanged, exchange_edits, rename2_rule};
+ghost use Rattle.fa_tree.specs.Renaming.{MayBeExchanged, exchange_edits, rename2_rule};
 ghost use Rattle.fa_tree.specs.parts.StoredParts.{stored_edited};
 
 use crate::id::FileId;
@@ -14,14 +14,6 @@ use fa_bodies::RenameFlags;
 use std::alloc::AllocError;
 
 impl Stored {
-    /// Whether a file may come into a directory, as for loops: a directory not into itself nor below itself.
-    fn may_come_into(&self, directory: FileId, file: FileId) -> bool
-        requires { IsDirectory self.now.store directory }
-        ensures { IsTrue result ↔ MayComeInto self.now.store directory file }
-    {
-        !self.is_directory(file) || (directory != file && !self.is_below(file, directory))
-    }
-
     /// Whether two names may get each other's file.
     fn may_be_exchanged(
         &self,
@@ -122,10 +114,9 @@ impl Stored {
         &self,
         flags: RenameFlags,
         named: &Named,
-        old_name: &[u8],
         new_name: &[u8],
     ) -> bool
-        ensures { IsTrue result ↔ (rename2_rule self.now.store named.now.node old_name.now flags named.now.other new_name.now).taken }
+        ensures { (old_name : List ℕ) → IsTrue result ↔ (rename2_rule self.now.store named.now.node old_name flags named.now.other new_name.now).taken }
     {
         match flags {
             RenameFlags::Replace => self.is_full_directory_in(named.other, new_name),
@@ -175,10 +166,9 @@ impl Stored {
         &self,
         flags: RenameFlags,
         named: &Named,
-        old_name: &[u8],
         new_name: &[u8],
     ) -> bool
-        ensures { IsTrue result ↔ (rename2_rule self.now.store named.now.node old_name.now flags named.now.other new_name.now).not_empty }
+        ensures { (old_name : List ℕ) → IsTrue result ↔ (rename2_rule self.now.store named.now.node old_name flags named.now.other new_name.now).not_empty }
     {
         match flags {
             RenameFlags::Replace => self.is_full_directory_in(named.other, new_name),

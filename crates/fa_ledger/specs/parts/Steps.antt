@@ -92,10 +92,6 @@ abbrev pub left_over : Option Lookups → Option Lookups
 left_over None = None
 left_over (Some l) = (if l.count == 0 then None else Some l)
 
--- what a table has of a node
-abbrev pub lookup_of : List (ℕ × Lookups) → ℕ → Option Lookups
-lookup_of known node = lookup (nat_eq node) known
-
 -- a node in the table, of which items were taken that sum up to this, stays there if a lookup is left of it or none was taken
 abbrev pub IsDropped : ℕ → Option Lookups → Option Lookups → Type 0
 IsDropped taken old new = (new ≡ left_over old) ⊎ ((new ≡ old) × (taken ≡ 0))
@@ -105,10 +101,10 @@ abbrev pub but_root : List (ℕ × ℕ) → List (ℕ × ℕ)
 but_root items = filter (λ item. not (item.0 == ROOT_ID)) items
 
 -- no item takes more than is left of its node once the earlier items are taken
-abbrev pub AreWithin : (ℕ → Option Lookups) → List (ℕ × ℕ) → Type 0
-AreWithin nodes items =
+abbrev pub AreWithin : List (ℕ × Lookups) → List (ℕ × ℕ) → Type 0
+AreWithin known items =
     (earlier later : List (ℕ × ℕ)) (node nlookup : ℕ) → items ≡ earlier ++ (node, nlookup) ∷ later
-    → total_taken node earlier + nlookup ≤ count_left (nodes node)
+    → total_taken node earlier + nlookup ≤ count_left (lookup (nat_eq node) known)
 
 -- a node of which so many lookups are taken back: it goes where none is left
 abbrev pub IsTakenFrom : ℕ → Option Lookups → Option Lookups → Type 0

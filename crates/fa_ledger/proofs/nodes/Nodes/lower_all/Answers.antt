@@ -1,8 +1,10 @@
 use Rattle.std.proofs.Common.{ℕ, sym, ap, ◌∙◌, ◌+◌, ◌++◌, ◌∷◌, [], refl}
+use Rattle.std.specs.Prelude.{nat_eq}
+use Rattle.std.specs.Map.{lookup}
 use Rattle.std.proofs.lemmas.List.{length-append}
 use Rattle.fa_bodies.specs.Items.{items_left}
 use Rattle.fa_ledger.specs.Counts.{total_taken}
-use Rattle.fa_ledger.specs.parts.Steps.{lowered, lookup_of, but_root}
+use Rattle.fa_ledger.specs.parts.Steps.{lowered, but_root}
 use Rattle.fa_ledger.proofs.TakingLemmas.{moved_on, first_ones, none_lowered, one_lowered}
 use Rattle.fa_ledger.proofs.nodes.Nodes.lower_all.Goals as goal
 
@@ -27,5 +29,5 @@ loop-id-preserved c =
 
 pub returns-in-Err-clause-front_lowered : goal.returns-in-Err-clause-front_lowered
 returns-in-Err-clause-front_lowered c = λ node.
-    ap (λ entries. lookup_of entries node) c.in-Err.ensures.unchanged ∙ c.loop-id.invariant.2.3.lowered node
-    ∙ ap (λ items. lowered (total_taken node (but_root items)) (lookup_of c.args.self.now.known.entries node)) (sym (first_ones _ c.loop-id.invariant.2.0 _ _ c.loop-id.invariant.2.1 c.loop-id.invariant.2.2))
+    ap (λ entries. lookup (nat_eq node) entries) c.in-Err.ensures.unchanged ∙ c.loop-id.invariant.2.3.lowered node
+    ∙ ap (λ items. lowered (total_taken node (but_root items)) (lookup (nat_eq node) c.args.self.now.known.entries)) (sym (first_ones _ c.loop-id.invariant.2.0 _ _ c.loop-id.invariant.2.1 c.loop-id.invariant.2.2))
