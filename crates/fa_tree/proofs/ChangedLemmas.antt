@@ -12,7 +12,8 @@ use Rattle.fa_ledger.specs.declared.operation.Outcome.{Outcome}
 use Rattle.fa_ledger.specs.Kinds.{Reads}
 use Rattle.fa_ledger.specs.Operations.{PlainAction}
 use Rattle.fa_ledger.specs.Operations.PlainAction.{Lookup, Getattr, Setattr, Readlink, Open, Read, Write, Opendir}
-use Rattle.fa_tree.specs.State.{File, Store, OpenDirectory, IsFree}
+use Rattle.fa_tree.specs.declared.id.FileId.{FileId}
+use Rattle.fa_tree.specs.State.{File, Store, OpenDirectory, IsFree, file_cmp}
 use Rattle.fa_tree.specs.Resolved.{Resolved, OfOther}
 use Rattle.fa_tree.specs.Edits.{open_after, handles_after}
 use Rattle.fa_tree.specs.Opening.{opened}
@@ -20,19 +21,20 @@ use Rattle.fa_tree.specs.Lookups.{file_set}
 use Rattle.fa_tree.specs.Rules.{with_file}
 use Rattle.fa_tree.specs.Renaming.{rename2_rule}
 use Rattle.fa_tree.specs.Contents.{file_written}
-use Rattle.fa_tree.specs.Making.{MayBeMade, MayBeCreated, emptied, files_created}
+use Rattle.fa_tree.specs.Making.{MayBeMade, HasMadeNone, MayBeCreated, emptied, files_created}
 use Rattle.fa_tree.specs.parts.StoredParts.{StoredShown, stored_changed, stored_created, stored_with, stored_opened, stored_noted}
 use Rattle.fa_tree.proofs.EditedLemmas.{each_same}
+use Rattle.fa_tree.proofs.ShapeLemmas.{creates_new}
 
 -- a second file that is named is such
-pub other_is : (other : Option ℕ) (file : ℕ) (Such : ℕ → Type 0) → other ≡ Some file → OfOther other Such → Such file
+pub other_is : (other : Option FileId) (file : FileId) (Such : FileId → Type 0) → other ≡ Some file → OfOther other Such → Such file
 other_is other file Such is may = subst (λ o. OfOther o Such) is may
 
-pub none_is : (other : Option ℕ) (Such : ℕ → Type 0) → other ≡ None → OfOther other Such → ⊥
+pub none_is : (other : Option FileId) (Such : FileId → Type 0) → other ≡ None → OfOther other Such → ⊥
 none_is other Such is may = subst (λ o. OfOther o Such) is may
 
 -- RENAME2 may not succeed without one
-pub rename2_of_none : (s : Store) (old_directory : ℕ) (old_name : List ℕ) (flags : RenameFlags) (other : Option ℕ) (new_name : List ℕ) → other ≡ None
+pub rename2_of_none : (s : Store) (old_directory : FileId) (old_name : List ℕ) (flags : RenameFlags) (other : Option FileId) (new_name : List ℕ) → other ≡ None
     → (rename2_rule s old_directory old_name flags other new_name).needs → ⊥
 rename2_of_none s old_directory old_name flags other new_name is may =
     by flags (subst (λ o. (rename2_rule s old_directory old_name flags o new_name).needs) is may)
@@ -43,8 +45,9 @@ rename2_of_none s old_directory old_name flags other new_name is may =
     by Exchange may = may
 
 -- what CREATE asks for where the name is not there
-pub created_made : (s : Store) (directory : ℕ) (name : List ℕ) (flags : OpenFlags) → MayBeCreated s directory name flags → IsFree s directory name → MayBeMade s directory name
-created_made s directory name flags may free = (may.0, free)
+pub created_made : (s : Store) (asked : ℕ) (directory : FileId) (name : List ℕ) (flags : OpenFlags) → MayBeCreated s asked directory name flags → IsFree s directory name
+    → MayBeMade s directory name × HasMadeNone s asked
+created_made s asked directory name flags may free = ((may.0, free), creates_new s asked directory name flags may free)
 
 -- no edit leaves open directories as they are
 pub stays_open : (handles : FinMap nat_cmp OpenDirectory) → handles_after [] handles ≡ handles
@@ -74,17 +77,17 @@ write_changed t x truncates offset size payload o count =
     still_open t (record { names = t.store.names; files = with_file t.store.files x.node (file_written offset payload count) })
 
 -- CREATE of a name that is there
-created_there : (files : List File) (truncates : Bool) (new : File) (number : ℕ)
-    → (if truncates then with_file files number emptied else files) ≡ files_created files truncates new (Some number)
-created_there files true new number = refl
-created_there files false new number = refl
+created_there : (files : FinMap file_cmp File) (asked : ℕ) (truncates : Bool) (new : File) (id : FileId)
+    → (if truncates then with_file files id emptied else files) ≡ files_created files asked truncates new (Some id)
+created_there files asked true new id = refl
+created_there files asked false new id = refl
 
-pub created_found : (t : StoredShown) (directory : ℕ) (name : List ℕ) (truncates : Bool) (new : File) (number : ℕ)
-    → get t.store.names (directory, name) ≡ Some number
-    → stored_with (if truncates then with_file t.store.files number emptied else t.store.files) t ≡ stored_created directory name truncates new t
-created_found t directory name truncates new number is =
-    rw (is) (ap (λ files. stored_with files t) (created_there t.store.files truncates new number)
-    ∙ still_open t (record { names = t.store.names; files = files_created t.store.files truncates new (Some number) }))
+pub created_found : (t : StoredShown) (asked : ℕ) (directory : FileId) (name : List ℕ) (truncates : Bool) (new : File) (id : FileId)
+    → get t.store.names (directory, name) ≡ Some id
+    → stored_with (if truncates then with_file t.store.files id emptied else t.store.files) t ≡ stored_created asked directory name truncates new t
+created_found t asked directory name truncates new id is =
+    rw (is) (ap (λ files. stored_with files t) (created_there t.store.files asked truncates new id)
+    ∙ still_open t (record { names = t.store.names; files = files_created t.store.files asked truncates new (Some id) }))
 
 -- what reads leaves what is stored
 pub still_changed : (t : StoredShown) (x : Resolved) (truncates : Bool) (a : PlainAction) (count : ℕ) → Reads a → t ≡ stored_changed x truncates a count t

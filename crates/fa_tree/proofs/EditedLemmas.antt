@@ -1,21 +1,22 @@
 -- What callers of the table of names use: edits one after another, and edits that come to the same.
-use Rattle.std.proofs.Common.{◌≡◌, ◌≢◌, ℕ, Bool, true, false, cond, List, [], ◌∷◌, ◌++◌, Option, None, Some, refl, sym, ap, subst, ◌∙◌, arith}
-use Rattle.std.specs.Prelude.{◌==◌, ◌&&◌, if◌then◌else◌, IsTrue}
+use Rattle.std.proofs.Common.{◌≡◌, ◌≢◌, ℕ, Bool, true, false, cond, List, [], ◌∷◌, ◌++◌, Option, None, Some, refl, sym, ap, subst, ◌∙◌}
+use Rattle.std.specs.Prelude.{◌&&◌, if◌then◌else◌, IsTrue}
 use Rattle.std.specs.Option.{option_map}
 use Rattle.std.specs.Ordering.{nat_cmp, eq_by_cmp}
 use Rattle.std.specs.declared.cmp.Ordering.{Ordering}
-use Rattle.std.specs.Cmp.{IsTotalOrder, Equal-is, nat_cmp_total, nat_eq_equiv}
+use Rattle.std.specs.Cmp.{IsTotalOrder, Equal-is, nat_cmp_total}
 use Rattle.std.specs.Cmp.Lexicographic.{nat_list_cmp_total}
 use Rattle.std.specs.FinMap as map
 use Rattle.std.specs.FinMap.{FinMap, IsAntisymmetric, same_map, nat_cmp-IsAntisymmetric}
 use Rattle.std.specs.FinSet as set
-use Rattle.std.proofs.lemmas.Bool.Decides.{nat_tests}
+use Rattle.fa_tree.specs.declared.id.FileId.{FileId}
 use Rattle.fa_tree.specs.State as state
-use Rattle.fa_tree.specs.State.{place_cmp, name_cmp, OpenDirectory}
+use Rattle.fa_tree.specs.State.{place_cmp, name_cmp, OpenDirectory, file_eq}
 use Rattle.fa_tree.specs.Edits.{Edit, names_after, each_open, open_after, open_after_one}
 use Rattle.fa_tree.specs.Edits.Edit.{Added, Removed}
 use Rattle.fa_tree.specs.Opening.{opened}
 use Rattle.fa_tree.specs.Renaming.{moved, exchanged}
+use Rattle.fa_tree.specs.parts.FileIdLaws.{same_file, file_equiv, tested_apart}
 use Rattle.fa_tree.specs.parts.PlaceLaws.{place_cmp_total, places_apart, names_apart, same_place, place_tests}
 use Rattle.fa_tree.specs.parts.NameParts.{NamesShown, no_names, edited, opened_by, StaysThere}
 use Rattle.fa_tree.proofs.NameLemmas.{get-each_open, get-opened}
@@ -78,7 +79,7 @@ each_same change handles same = same_map nat_cmp_total nat_cmp-IsAntisymmetric _
 
 -- ---- edits one after another
 
-names_both : (first second : List Edit) (names : FinMap place_cmp ℕ) → names_after second (names_after first names) ≡ names_after (first ++ second) names
+names_both : (first second : List Edit) (names : FinMap place_cmp FileId) → names_after second (names_after first names) ≡ names_after (first ++ second) names
 names_both [] second names = refl
 names_both (Added directory name file ∷ first) second names = names_both first second (map.insert names (directory, name) file)
 names_both (Removed directory name ∷ first) second names = names_both first second (map.remove names (directory, name))
@@ -96,18 +97,18 @@ edited_both first second n = λ i. record { names = names_both first second n.na
 
 -- ---- what one edit leaves of an open directory
 
-pub open_removed_is : (directory : ℕ) (name : List ℕ) (h : OpenDirectory)
-    → open_after_one (Removed directory name) h ≡ record { directory = h.directory; since = h.since; stayed = cond (directory == h.directory) (map.remove h.stayed name) h.stayed }
-open_removed_is directory name h = by (directory == h.directory)
+pub open_removed_is : (directory : FileId) (name : List ℕ) (h : OpenDirectory)
+    → open_after_one (Removed directory name) h ≡ record { directory = h.directory; since = h.since; stayed = cond (file_eq directory h.directory) (map.remove h.stayed name) h.stayed }
+open_removed_is directory name h = by (file_eq directory h.directory)
   where
     by : (b : Bool) → ◌≡◌ {A = OpenDirectory} (cond b (record { directory = h.directory; since = h.since; stayed = map.remove h.stayed name }) h)
         (record { directory = h.directory; since = h.since; stayed = cond b (map.remove h.stayed name) h.stayed })
     by true = refl
     by false = refl
 
-pub open_added_is : (directory : ℕ) (name : List ℕ) (file : ℕ) (h : OpenDirectory)
-    → open_after_one (Added directory name file) h ≡ record { directory = h.directory; since = cond (directory == h.directory) (set.insert h.since name) h.since; stayed = h.stayed }
-open_added_is directory name file h = by (directory == h.directory)
+pub open_added_is : (directory : FileId) (name : List ℕ) (file : FileId) (h : OpenDirectory)
+    → open_after_one (Added directory name file) h ≡ record { directory = h.directory; since = cond (file_eq directory h.directory) (set.insert h.since name) h.since; stayed = h.stayed }
+open_added_is directory name file h = by (file_eq directory h.directory)
   where
     by : (b : Bool) → ◌≡◌ {A = OpenDirectory} (cond b (record { directory = h.directory; since = set.insert h.since name; stayed = h.stayed }) h)
         (record { directory = h.directory; since = cond b (set.insert h.since name) h.since; stayed = h.stayed })
@@ -116,34 +117,34 @@ open_added_is directory name file h = by (directory == h.directory)
 
 -- ---- what stays is there
 
-abbrev StaysIn : FinMap place_cmp ℕ → OpenDirectory → Type 0
-StaysIn names h = (name : List ℕ) (file : ℕ) → map.get h.stayed name ≡ Some file → map.get names (h.directory, name) ≡ Some file
+abbrev StaysIn : FinMap place_cmp FileId → OpenDirectory → Type 0
+StaysIn names h = (name : List ℕ) (file : FileId) → map.get h.stayed name ≡ Some file → map.get names (h.directory, name) ≡ Some file
 
 -- it does at first
 pub stays_none : StaysThere no_names
 stays_none asked h is = absurd (let clash : None ≡ Some h = sym (map.get-empty nat_cmp asked) ∙ is in cc)
 
 -- a name that is taken away is taken from both
-removed_in : (names : FinMap place_cmp ℕ) (directory : ℕ) (name : List ℕ) (h : OpenDirectory) → StaysIn names h
+removed_in : (names : FinMap place_cmp FileId) (directory : FileId) (name : List ℕ) (h : OpenDirectory) → StaysIn names h
     → StaysIn (map.remove names (directory, name)) (open_after_one (Removed directory name) h)
 removed_in names directory name h stays =
     subst (StaysIn (map.remove names (directory, name))) (sym (open_removed_is directory name h))
     (λ q file found.
     map.get-remove place_cmp_total names (directory, name) (h.directory, q)
-    ∙ ap (λ b. cond b None (map.get names (h.directory, q))) (place_tests (h.directory, q) (directory, name) ∙ ap (λ b. b && eq_by_cmp name_cmp q name) (nat_eq_equiv.symm h.directory directory))
-    ∙ both ((directory == h.directory) && eq_by_cmp name_cmp q name) (map.get h.stayed q) (map.get names (h.directory, q)) file (stays q file)
-    (sym (gone (directory == h.directory) q) ∙ found))
+    ∙ ap (λ b. cond b None (map.get names (h.directory, q))) (place_tests (h.directory, q) (directory, name) ∙ ap (λ b. b && eq_by_cmp name_cmp q name) (file_equiv.symm h.directory directory))
+    ∙ both ((file_eq directory h.directory) && eq_by_cmp name_cmp q name) (map.get h.stayed q) (map.get names (h.directory, q)) file (stays q file)
+    (sym (gone (file_eq directory h.directory) q) ∙ found))
   where
     gone : (b : Bool) (q : List ℕ) → map.get (cond b (map.remove h.stayed name) h.stayed) q ≡ cond (b && eq_by_cmp name_cmp q name) None (map.get h.stayed q)
     gone true q = map.get-remove nat_list_cmp_total h.stayed name q
     gone false q = refl
 
-    both : (b : Bool) (x y : Option ℕ) (file : ℕ) → (x ≡ Some file → y ≡ Some file) → cond b None x ≡ Some file → cond b None y ≡ Some file
+    both : (b : Bool) (x y : Option FileId) (file : FileId) → (x ≡ Some file → y ≡ Some file) → cond b None x ≡ Some file → cond b None y ≡ Some file
     both true x y file so found = found
     both false x y file so found = so found
 
 -- and one that is put again has not stayed
-put_in : (names : FinMap place_cmp ℕ) (directory : ℕ) (name : List ℕ) (file : ℕ) (h : OpenDirectory) → StaysIn (map.remove names (directory, name)) h
+put_in : (names : FinMap place_cmp FileId) (directory : FileId) (name : List ℕ) (file : FileId) (h : OpenDirectory) → StaysIn (map.remove names (directory, name)) h
     → StaysIn (map.insert (map.remove names (directory, name)) (directory, name) file) (open_after_one (Added directory name file) h)
 put_in names directory name file h stays =
     subst (StaysIn (map.insert (map.remove names (directory, name)) (directory, name) file)) (sym (open_added_is directory name file h))
@@ -153,11 +154,11 @@ put_in names directory name file h stays =
     (sym (map.get-remove place_cmp_total names (directory, name) (h.directory, q)) ∙ stays q other found)
     (map.get (map.remove names (directory, name)) (h.directory, q)) (stays q other found))
   where
-    kept : (b : Bool) (x : Option ℕ) (other : ℕ) → cond b None x ≡ Some other → (y : Option ℕ) → y ≡ Some other → cond b (Some file) y ≡ Some other
+    kept : (b : Bool) (x : Option FileId) (other : FileId) → cond b None x ≡ Some other → (y : Option FileId) → y ≡ Some other → cond b (Some file) y ≡ Some other
     kept true x other clash y is = absurd (let none : None ≡ Some other = clash in cc)
     kept false x other found y is = is
 
-each_stays : (names after : FinMap place_cmp ℕ) (change : OpenDirectory → OpenDirectory) (handles : FinMap nat_cmp OpenDirectory)
+each_stays : (names after : FinMap place_cmp FileId) (change : OpenDirectory → OpenDirectory) (handles : FinMap nat_cmp OpenDirectory)
     → ((asked : ℕ) (h : OpenDirectory) → map.get handles asked ≡ Some h → StaysIn names h)
     → ((h : OpenDirectory) → StaysIn names h → StaysIn after (change h))
     → (asked : ℕ) (h : OpenDirectory) → map.get (each_open change handles) asked ≡ Some h → StaysIn after h
@@ -169,16 +170,16 @@ each_stays names after change handles stays kept asked h is =
     by (Some before) was is = let same : change before ≡ h = cc in subst (StaysIn after) same (kept before (stays asked before was))
 
 -- it does after each change that the table makes
-pub stays_removed : (n : NamesShown) (directory : ℕ) (name : List ℕ) → StaysThere n → StaysThere (edited (Removed directory name ∷ []) n)
+pub stays_removed : (n : NamesShown) (directory : FileId) (name : List ℕ) → StaysThere n → StaysThere (edited (Removed directory name ∷ []) n)
 stays_removed n directory name stays =
     each_stays n.names (map.remove n.names (directory, name)) (open_after (Removed directory name ∷ [])) n.handles stays (removed_in n.names directory name)
 
-pub stays_put : (n : NamesShown) (directory : ℕ) (name : List ℕ) (file : ℕ) → StaysThere n → StaysThere (edited (Removed directory name ∷ Added directory name file ∷ []) n)
+pub stays_put : (n : NamesShown) (directory : FileId) (name : List ℕ) (file : FileId) → StaysThere n → StaysThere (edited (Removed directory name ∷ Added directory name file ∷ []) n)
 stays_put n directory name file stays =
     each_stays n.names (map.insert (map.remove n.names (directory, name)) (directory, name) file) (open_after (Removed directory name ∷ Added directory name file ∷ [])) n.handles stays
     (λ h before. put_in n.names directory name file (open_after_one (Removed directory name) h) (removed_in n.names directory name h before))
 
-pub stays_opened : (n : NamesShown) (asked directory : ℕ) → StaysThere n → StaysThere (opened_by asked directory n)
+pub stays_opened : (n : NamesShown) (asked : ℕ) (directory : FileId) → StaysThere n → StaysThere (opened_by asked directory n)
 stays_opened n asked directory stays other h is =
     by (eq_by_cmp nat_cmp other asked) (sym (map.get-insert nat_cmp_total n.handles asked (opened n.names directory) other) ∙ is)
   where
@@ -191,44 +192,44 @@ stays_opened n asked directory stays other h is =
 -- ---- edits that come to the same
 
 -- a name that is not there is taken away
-removed_free : (n : NamesShown) → StaysThere n → (directory : ℕ) (name : List ℕ) → map.get n.names (directory, name) ≡ None
+removed_free : (n : NamesShown) → StaysThere n → (directory : FileId) (name : List ℕ) → map.get n.names (directory, name) ≡ None
     → (asked : ℕ) (h : OpenDirectory) → map.get n.handles asked ≡ Some h → open_after_one (Removed directory name) h ≡ h
 removed_free n stays directory name free asked h is =
-    open_removed_is directory name h ∙ (λ i. record { directory = h.directory; since = h.since; stayed = by (directory == h.directory) refl i })
+    open_removed_is directory name h ∙ (λ i. record { directory = h.directory; since = h.since; stayed = by (file_eq directory h.directory) refl i })
   where
-    absent : directory ≡ h.directory → (x : Option ℕ) → map.get h.stayed name ≡ x → x ≡ None
+    absent : directory ≡ h.directory → (x : Option FileId) → map.get h.stayed name ≡ x → x ≡ None
     absent same None was = refl
     absent same (Some file) was =
         let clash : Some file ≡ None = sym (stays asked h is name file was) ∙ ap (λ d. map.get n.names (d, name)) (sym same) ∙ free in
         absurd cc
 
-    by : (b : Bool) → (directory == h.directory) ≡ b → cond b (map.remove h.stayed name) h.stayed ≡ h.stayed
+    by : (b : Bool) → (file_eq directory h.directory) ≡ b → cond b (map.remove h.stayed name) h.stayed ≡ h.stayed
     by true test =
-        let same : directory ≡ h.directory = grind (arith, nat_tests) in
+        let same : directory ≡ h.directory = same_file directory h.directory test in
         remove_none nat_list_cmp_total names_apart h.stayed name (absent same (map.get h.stayed name) refl)
     by false test = refl
 
-pub edited_removed_free : (n : NamesShown) → StaysThere n → (directory : ℕ) (name : List ℕ) → map.get n.names (directory, name) ≡ None → edited (Removed directory name ∷ []) n ≡ n
+pub edited_removed_free : (n : NamesShown) → StaysThere n → (directory : FileId) (name : List ℕ) → map.get n.names (directory, name) ≡ None → edited (Removed directory name ∷ []) n ≡ n
 edited_removed_free n stays directory name free =
     λ i. record { names = remove_none place_cmp_total places_apart n.names (directory, name) free i; handles = each_same (open_after (Removed directory name ∷ [])) n.handles (removed_free n stays directory name free) i }
 
 -- a name that is put where there was none is added
-pub edited_put_free : (n : NamesShown) → StaysThere n → (directory : ℕ) (name : List ℕ) (file : ℕ) → map.get n.names (directory, name) ≡ None
+pub edited_put_free : (n : NamesShown) → StaysThere n → (directory : FileId) (name : List ℕ) (file : FileId) → map.get n.names (directory, name) ≡ None
     → edited (Removed directory name ∷ Added directory name file ∷ []) n ≡ edited (Added directory name file ∷ []) n
 edited_put_free n stays directory name file free =
     sym (edited_both (Removed directory name ∷ []) (Added directory name file ∷ []) n)
     ∙ ap (edited (Added directory name file ∷ [])) (edited_removed_free n stays directory name free)
 
 -- one name is put, and then another goes: the other goes first
-pub edited_swap : (n : NamesShown) (directory : ℕ) (name : List ℕ) (file : ℕ) (other : ℕ) (gone : List ℕ) → ((p : state.Place) → IsTrue (eq_by_cmp place_cmp p (other, gone)) → IsTrue (eq_by_cmp place_cmp p (directory, name)) → ⊥)
+pub edited_swap : (n : NamesShown) (directory : FileId) (name : List ℕ) (file : FileId) (other : FileId) (gone : List ℕ) → ((p : state.Place) → IsTrue (eq_by_cmp place_cmp p (other, gone)) → IsTrue (eq_by_cmp place_cmp p (directory, name)) → ⊥)
     → edited (Removed directory name ∷ Added directory name file ∷ Removed other gone ∷ []) n ≡ edited (Removed other gone ∷ Removed directory name ∷ Added directory name file ∷ []) n
 edited_swap n directory name file other gone apart =
     λ i. record { names = same_names i; handles = each_alike (open_after (Removed directory name ∷ Added directory name file ∷ Removed other gone ∷ [])) (open_after (Removed other gone ∷ Removed directory name ∷ Added directory name file ∷ [])) n.handles (λ asked h is. same_open h) i }
   where
-    put : FinMap place_cmp ℕ
+    put : FinMap place_cmp FileId
     put = map.insert (map.remove n.names (directory, name)) (directory, name) file
 
-    either : (a b : Bool) → (a ≡ true → b ≡ true → ⊥) → (x : Option ℕ) → cond a None (cond b (Some file) (cond b None x)) ≡ cond b (Some file) (cond b None (cond a None x))
+    either : (a b : Bool) → (a ≡ true → b ≡ true → ⊥) → (x : Option FileId) → cond a None (cond b (Some file) (cond b None x)) ≡ cond b (Some file) (cond b None (cond a None x))
     either true true clash x = absurd (clash refl refl)
     either true false clash x = refl
     either false b clash x = refl
@@ -245,7 +246,7 @@ edited_swap n directory name file other gone apart =
         (map.get-remove place_cmp_total (map.remove n.names (other, gone)) (directory, name) q
         ∙ ap (cond (eq_by_cmp place_cmp q (directory, name)) None) (map.get-remove place_cmp_total n.names (other, gone) q))))
 
-    swapped : (a b : Bool) (m : FinMap name_cmp ℕ) → cond b (map.remove (cond a (map.remove m name) m) gone) (cond a (map.remove m name) m)
+    swapped : (a b : Bool) (m : FinMap name_cmp FileId) → cond b (map.remove (cond a (map.remove m name) m) gone) (cond a (map.remove m name) m)
         ≡ cond a (map.remove (cond b (map.remove m gone) m) name) (cond b (map.remove m gone) m)
     swapped true true m = remove_swap nat_list_cmp_total names_apart m name gone
     swapped true false m = refl
@@ -254,8 +255,8 @@ edited_swap n directory name file other gone apart =
     same_open : (h : OpenDirectory) → open_after (Removed directory name ∷ Added directory name file ∷ Removed other gone ∷ []) h
         ≡ open_after (Removed other gone ∷ Removed directory name ∷ Added directory name file ∷ []) h
     same_open h =
-        let here = directory == h.directory in
-        let there = other == h.directory in
+        let here = file_eq directory h.directory in
+        let there = file_eq other h.directory in
         let one : OpenDirectory = record { directory = h.directory; since = h.since; stayed = cond here (map.remove h.stayed name) h.stayed } in
         let two : OpenDirectory = record { directory = h.directory; since = cond here (set.insert h.since name) h.since; stayed = one.stayed } in
         let first : OpenDirectory = record { directory = h.directory; since = h.since; stayed = cond there (map.remove h.stayed gone) h.stayed } in
@@ -269,8 +270,8 @@ edited_swap n directory name file other gone apart =
         ∙ open_added_is directory name file second)
 
 -- RENAME: the new name is put, and then the old one goes, where they are not of one file
-pub edited_moved : (n : NamesShown) → StaysThere n → (old_directory : ℕ) (old_name : List ℕ) (new_directory : ℕ) (new_name : List ℕ) (file : ℕ)
-    → map.get n.names (old_directory, old_name) ≡ Some file → (found : Option ℕ) → map.get n.names (new_directory, new_name) ≡ found → found ≢ Some file
+pub edited_moved : (n : NamesShown) → StaysThere n → (old_directory : FileId) (old_name : List ℕ) (new_directory : FileId) (new_name : List ℕ) (file : FileId)
+    → map.get n.names (old_directory, old_name) ≡ Some file → (found : Option FileId) → map.get n.names (new_directory, new_name) ≡ found → found ≢ Some file
     → edited (Removed old_directory old_name ∷ []) (edited (Removed new_directory new_name ∷ Added new_directory new_name file ∷ []) n)
     ≡ edited (moved old_directory old_name new_directory new_name file found) n
 edited_moved n stays old_directory old_name new_directory new_name file there found is other =
@@ -285,7 +286,7 @@ edited_moved n stays old_directory old_name new_directory new_name file there fo
     still_free true free = refl
     still_free false free = free
 
-    by : (found : Option ℕ) → map.get n.names (new_directory, new_name) ≡ found → found ≢ Some file
+    by : (found : Option FileId) → map.get n.names (new_directory, new_name) ≡ found → found ≢ Some file
         → edited (Removed old_directory old_name ∷ Removed new_directory new_name ∷ Added new_directory new_name file ∷ []) n
         ≡ edited (moved old_directory old_name new_directory new_name file found) n
     by None free _ =
@@ -296,12 +297,12 @@ edited_moved n stays old_directory old_name new_directory new_name file there fo
         ∙ edited_both (Removed old_directory old_name ∷ []) (Added new_directory new_name file ∷ []) n
     by (Some last) is differs =
         let apart : last ≢ file = λ same. differs (ap (λ k. Some k) same) in
-        let test : (last == file) ≡ false = grind (arith, nat_tests) in
+        let test : file_eq last file ≡ false = tested_apart last file apart in
         sym (ap (λ b. edited (if b then [] else Removed old_directory old_name ∷ Removed new_directory new_name ∷ Added new_directory new_name file ∷ []) n) test)
 
 -- RENAME2 with RENAME_EXCHANGE: each name is put for the other's file, where they are not of one file
-pub edited_exchanged : (n : NamesShown) (old_directory : ℕ) (old_name : List ℕ) (new_directory : ℕ) (new_name : List ℕ) (file other : ℕ)
-    → (other == file) ≡ false
+pub edited_exchanged : (n : NamesShown) (old_directory : FileId) (old_name : List ℕ) (new_directory : FileId) (new_name : List ℕ) (file other : FileId)
+    → file_eq other file ≡ false
     → edited (Removed new_directory new_name ∷ Added new_directory new_name file ∷ []) (edited (Removed old_directory old_name ∷ Added old_directory old_name other ∷ []) n)
     ≡ edited (exchanged old_directory old_name new_directory new_name file other) n
 edited_exchanged n old_directory old_name new_directory new_name file other test =
@@ -309,14 +310,14 @@ edited_exchanged n old_directory old_name new_directory new_name file other test
     ∙ sym (ap (λ b. edited (if b then [] else Removed old_directory old_name ∷ Added old_directory old_name other ∷ Removed new_directory new_name ∷ Added new_directory new_name file ∷ []) n) test)
 
 -- of one file they stay
-pub edited_of_one : (n : NamesShown) (old_directory : ℕ) (old_name : List ℕ) (new_directory : ℕ) (new_name : List ℕ) (file other : ℕ)
-    → (other == file) ≡ true → n ≡ edited (exchanged old_directory old_name new_directory new_name file other) n
+pub edited_of_one : (n : NamesShown) (old_directory : FileId) (old_name : List ℕ) (new_directory : FileId) (new_name : List ℕ) (file other : FileId)
+    → file_eq other file ≡ true → n ≡ edited (exchanged old_directory old_name new_directory new_name file other) n
 edited_of_one n old_directory old_name new_directory new_name file other test =
     (λ i. record { names = n.names; handles = sym (each_same (open_after []) n.handles (λ asked h is. refl)) i })
     ∙ sym (ap (λ b. edited (if b then [] else Removed old_directory old_name ∷ Added old_directory old_name other ∷ Removed new_directory new_name ∷ Added new_directory new_name file ∷ []) n) test)
 
 -- a name that is there is there after another is put
-pub there_after_put : (n : NamesShown) (directory : ℕ) (name : List ℕ) (file : ℕ) (place : state.Place) → map.get n.names place ≢ None
+pub there_after_put : (n : NamesShown) (directory : FileId) (name : List ℕ) (file : FileId) (place : state.Place) → map.get n.names place ≢ None
     → map.get (edited (Removed directory name ∷ Added directory name file ∷ []) n).names place ≢ None
 there_after_put n directory name file place there none =
     by (eq_by_cmp place_cmp place (directory, name))

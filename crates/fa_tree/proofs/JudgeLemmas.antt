@@ -3,6 +3,7 @@ use Rattle.std.proofs.Common.{◌≡◌, ℕ, ℤ, Bool, false, subst}
 use Rattle.std.specs.Prelude.{◌↔◌, IsTrue}
 use Rattle.fa_ledger.specs.Operations.{PlainAction}
 use Rattle.fa_ledger.specs.Operations.PlainOperation.{Acts}
+use Rattle.fa_tree.specs.declared.id.FileId.{FileId}
 use Rattle.fa_tree.specs.State.{Store, TreeState, IsDirectory}
 use Rattle.fa_tree.specs.Resolved.{Resolved}
 use Rattle.fa_tree.specs.Opening.{directory_rule}
@@ -28,7 +29,7 @@ module _ (t u : TreeState) (same : t ≡ u) (x : Resolved) (direct : Bool) (a : 
   pub cause_still : (error : ℤ) → IsTrue b ↔ HasCause (action_rule t.store x a) error → IsTrue b ↔ HasCause (action_rule u.store x a) error
   cause_still error told = subst (λ (v : TreeState). IsTrue b ↔ HasCause (action_rule v.store x a) error) same told
 
-module _ (t u : TreeState) (same : t ≡ u) (directory : ℕ) (b : Bool) where
+module _ (t u : TreeState) (same : t ≡ u) (directory : FileId) (b : Bool) where
   pub directory_still : IsTrue b ↔ IsDirectory t.store directory → IsTrue b ↔ IsDirectory u.store directory
   directory_still told = subst (λ (v : TreeState). IsTrue b ↔ IsDirectory v.store directory) same told
 

@@ -27,6 +27,7 @@ use Rattle.fa_ledger.specs.Operations.{PlainOperation, bare, ended}
 use Rattle.fa_ledger.proofs.CallerLemmas.{gives, listed_nodes}
 use Rattle.fa_ledger.specs.Operations.PlainAction.{Lookup, Symlink, Mknod, Mkdir, Link, Opendir, Create}
 use Rattle.fa_ledger.specs.Operations.PlainOperation.{Lists, Acts}
+use Rattle.fa_tree.specs.declared.id.FileId.{FileId}
 use Rattle.fa_tree.specs.State.{OpenDirectory, Store, TreeState, place_cmp, node_cmp, root, file_of}
 use Rattle.fa_tree.specs.Resolved.{Resolved, other_of, handle_of, resolved_with, resolved_on, resolved}
 use Rattle.fa_tree.specs.Edits.{each_open, open_after, handles_after}
@@ -44,7 +45,7 @@ use Rattle.fa_tree.proofs.OutcomeLemmas.{given_whatever}
 
 -- the name of a node stands for a file
 abbrev pub IsKnownIn : NodeName → TreeState → Type 0
-IsKnownIn name t = (file : ℕ) × (file_of t name ≡ Some file)
+IsKnownIn name t = (file : FileId) × (file_of t name ≡ Some file)
 
 -- the directory that the request of this number opened is known
 abbrev pub IsOpenedIn : ℕ → TreeState → Type 0
@@ -66,20 +67,20 @@ insert_there : {K X : Type 0} {R : K → K → Ordering} → IsTotalOrder R → 
 insert_there {R = R} total m k v = get-insert total m k v k ∙ ap (λ b. cond b (Some v) (get m k)) (ap is_eq (tied_itself total k))
 
 -- names that are given leave what was known
-nodes_keep : (given : List (NodeName × ℕ)) (nodes : FinMap node_cmp ℕ) (name : NodeName) → (file : ℕ) × (get nodes name ≡ Some file)
-    → (file : ℕ) × (get (nodes_after given nodes) name ≡ Some file)
+nodes_keep : (given : List (NodeName × FileId)) (nodes : FinMap node_cmp FileId) (name : NodeName) → (file : FileId) × (get nodes name ≡ Some file)
+    → (file : FileId) × (get (nodes_after given nodes) name ≡ Some file)
 nodes_keep [] nodes name has = has
 nodes_keep (one ∷ given) nodes name has = nodes_keep given (insert nodes one.0 one.1) name (insert_keeps node_total nodes one.0 one.1 name has)
 
 -- and are known
-nodes_have : (given : List (NodeName × ℕ)) (nodes : FinMap node_cmp ℕ) (name : NodeName) (file : ℕ) → Contains given (name, file)
-    → (other : ℕ) × (get (nodes_after given nodes) name ≡ Some other)
+nodes_have : (given : List (NodeName × FileId)) (nodes : FinMap node_cmp FileId) (name : NodeName) (file : FileId) → Contains given (name, file)
+    → (other : FileId) × (get (nodes_after given nodes) name ≡ Some other)
 nodes_have [] nodes name file has = absurd (omega (arith, has.1))
 nodes_have (one ∷ given) nodes name file has =
     elim (contains_cases one given (name, file) has) [
       | inl here ↦
           let there : get (insert nodes one.0 one.1) name ≡ Some one.1 =
-          subst (λ n. get (insert nodes one.0 one.1) n ≡ Some one.1) (ap (λ (p : NodeName × ℕ). p.0) here) (insert_there node_total nodes one.0 one.1) in
+          subst (λ n. get (insert nodes one.0 one.1) n ≡ Some one.1) (ap (λ (p : NodeName × FileId). p.0) here) (insert_there node_total nodes one.0 one.1) in
           nodes_keep given (insert nodes one.0 one.1) name (one.1, there)
       | inr behind ↦ nodes_have given (insert nodes one.0 one.1) name file behind
     ]
@@ -109,7 +110,7 @@ each_keeps : (change : OpenDirectory → OpenDirectory) (handles : FinMap nat_cm
     → (h : OpenDirectory) × (get (each_open change handles) asked ≡ Some h)
 each_keeps change handles asked has = (change has.0, get-each_open change handles asked ∙ ap (option_map change) has.1)
 
-opening_keeps : (names : FinMap place_cmp ℕ) (directory : Option ℕ) (asked : ℕ) (opens : Bool) (handles : FinMap nat_cmp OpenDirectory) (q : ℕ)
+opening_keeps : (names : FinMap place_cmp FileId) (directory : Option FileId) (asked : ℕ) (opens : Bool) (handles : FinMap nat_cmp OpenDirectory) (q : ℕ)
     → (h : OpenDirectory) × (get handles q ≡ Some h) → (h : OpenDirectory) × (get (with_opened names directory asked opens handles) q ≡ Some h)
 opening_keeps names (Some directory) asked true handles q has = insert_keeps nat_cmp_total handles asked (opened names directory) q has
 opening_keeps names (Some directory) asked false handles q has = has
@@ -153,28 +154,28 @@ errors_give_no_node (Acts (Create flags mode umask name (Succeeds made))) error 
 errors_give_no_node other error is = refl
 
 -- there is a file for each of these nodes
-abbrev HaveFiles : List ℕ → List (Option ℕ) → Type 0
+abbrev HaveFiles : List ℕ → List (Option FileId) → Type 0
 HaveFiles [] files = Unit {0}
 HaveFiles (node ∷ nodes) [] = ⊥
 HaveFiles (node ∷ nodes) (None ∷ files) = ⊥
 HaveFiles (node ∷ nodes) (Some file ∷ files) = HaveFiles nodes files
 
-one_has : (node : ℕ) (file : Option ℕ) (number : ℕ) → file ≡ Some number → HaveFiles (node ∷ []) (file ∷ [])
-one_has node None number is = absurd cc
-one_has node (Some file) number is = tt
+one_has : (node : ℕ) (file : Option FileId) (id : FileId) → file ≡ Some id → HaveFiles (node ∷ []) (file ∷ [])
+one_has node None id is = absurd cc
+one_has node (Some file) id is = tt
 
 -- the nodes of a listing
-node_more : (node : ℕ) (file : Option ℕ) (none : Bool) (nodes : List ℕ) (files : List (Option ℕ)) → (none ≡ false → (number : ℕ) × (file ≡ Some number)) → HaveFiles nodes files
+node_more : (node : ℕ) (file : Option FileId) (none : Bool) (nodes : List ℕ) (files : List (Option FileId)) → (none ≡ false → (id : FileId) × (file ≡ Some id)) → HaveFiles nodes files
     → HaveFiles ((if none then [] else node ∷ []) ++ nodes) (file_if (if none then [] else node ∷ []) file ++ files)
 node_more node file true nodes files found have = have
 node_more node None false nodes files found have = let none = found refl in let clash = none.1 in absurd cc
-node_more node (Some number) false nodes files found have = have
+node_more node (Some id) false nodes files found have = have
 
-looked_up_more : (s : Store) (directory : ℕ) (d : PlainDirent) (nodes : List ℕ) (files : List (Option ℕ)) → (not (is_dots d.name) ≡ true → IsThereIfLookedUp s directory d)
+looked_up_more : (s : Store) (directory : FileId) (d : PlainDirent) (nodes : List ℕ) (files : List (Option FileId)) → (not (is_dots d.name) ≡ true → IsThereIfLookedUp s directory d)
     → HaveFiles nodes files → HaveFiles (nodes_of_entry d.entry d.name ++ nodes) (file_if (nodes_of_entry d.entry d.name) (get s.names (directory, d.name)) ++ files)
 looked_up_more s directory d nodes files there have = by d.entry refl
   where
-    file : Option ℕ
+    file : Option FileId
     file = get s.names (directory, d.name)
 
     dots : (entry : EntryOut) (b : Bool) → d.entry ≡ Some entry → is_dots d.name ≡ b
@@ -192,7 +193,7 @@ judged_apart : (P : PlainDirent → Type 0) (d : PlainDirent) (rest : List Plain
 judged_apart P d rest true each = ((λ is. All-head P d rest each), All-tail P d rest each)
 judged_apart P d rest false each = ((λ is. absurd cc), each)
 
-listed_have : (s : Store) (directory : ℕ) (entries : List PlainDirent) → All (IsThereIfLookedUp s directory) (judged entries) → HaveFiles (nodes_of_listing entries) (files_listed s directory entries)
+listed_have : (s : Store) (directory : FileId) (entries : List PlainDirent) → All (IsThereIfLookedUp s directory) (judged entries) → HaveFiles (nodes_of_listing entries) (files_listed s directory entries)
 listed_have s directory [] each = tt
 listed_have s directory (d ∷ entries) each =
     let apart = judged_apart (IsThereIfLookedUp s directory) d (judged entries) (not (is_dots d.name)) each in
@@ -229,8 +230,8 @@ success_has g other fits lists = tt
 -- ---- so their names are known
 
 -- the name of a node that has a file is given for it
-name_bound : (name_of : ℕ → Option NodeName) (nodes : List ℕ) (names : List NodeName) (files : List (Option ℕ)) (node : ℕ) (name : NodeName) → HaveFiles nodes files
-    → map name_of nodes ≡ map (λ n. Some n) names → Contains nodes node → name_of node ≡ Some name → (file : ℕ) × Contains (bound names files) (name, file)
+name_bound : (name_of : ℕ → Option NodeName) (nodes : List ℕ) (names : List NodeName) (files : List (Option FileId)) (node : ℕ) (name : NodeName) → HaveFiles nodes files
+    → map name_of nodes ≡ map (λ n. Some n) names → Contains nodes node → name_of node ≡ Some name → (file : FileId) × Contains (bound names files) (name, file)
 name_bound name_of [] names files node name have named there is = absurd (omega (arith, there.1))
 name_bound name_of (n ∷ nodes) [] files node name have named there is = absurd cc
 name_bound name_of (n ∷ nodes) (m ∷ names) [] node name have named there is = absurd have
@@ -248,7 +249,7 @@ name_bound name_of (n ∷ nodes) (m ∷ names) (Some file ∷ files) node name h
     ]
 
 -- the step of a success knows the names of the nodes that its answer gives
-pub step_gives : (old new : TreeState) (call : PlainCall) (wrote : Option ℕ) (so_far : List PlainDirent) (name_of : ℕ → Option NodeName) (node id by : ℕ)
+pub step_gives : (old new : TreeState) (call : PlainCall) (wrote : Option ℕ) (so_far : List PlainDirent) (name_of : ℕ → Option NodeName) (node : ℕ) (id by : ℕ)
     → (s : Steps old new call wrote so_far) → map name_of (gives call.operation) ≡ map (λ n. Some n) (names_given call)
     → Contains (gives call.operation) node → name_of node ≡ Some (Given id by) → IsKnownIn (Given id by) new
 step_gives old new call wrote so_far name_of node id by s named there is =
@@ -266,7 +267,7 @@ step_gives old new call wrote so_far name_of node id by s named there is =
         let have = success_has g call.operation hold.1.1.0 hold.1.1.1.1.1.0 in
         let found = name_bound name_of (gives call.operation) (names_given call) (said g call.operation).files node (Given id by) have named there is in
         nodes_have (given_in (setting old.store s.files call call.operation count []) call call.operation) old.nodes (Given id by) found.0
-        (subst (λ (given : List (NodeName × ℕ)). Contains given (Given id by, found.0)) (given_whatever old.store s.files call call.operation count so_far) found.1)
+        (subst (λ (given : List (NodeName × FileId)). Contains given (Given id by, found.0)) (given_whatever old.store s.files call call.operation count so_far) found.1)
 
     after : (o : PlainOperation) → call.operation ≡ o → (e : Outcome (Unit {0})) → ended o ≡ e → IsKnownIn (Given id by) (tree_by old (tree_done old s.files call call.operation count) e)
     after o asks (Fails error) fails =
@@ -277,13 +278,13 @@ step_gives old new call wrote so_far name_of node id by s named there is =
     after o asks Unanswered ends = done
 
 -- that of an OPENDIR that opens a handle anew knows the directory
-opened_there : (names : FinMap place_cmp ℕ) (directory : Option ℕ) (asked number : ℕ) (opens : Bool) (handles : FinMap nat_cmp OpenDirectory) → directory ≡ Some number → opens ≡ true
+opened_there : (names : FinMap place_cmp FileId) (directory : Option FileId) (asked : ℕ) (id : FileId) (opens : Bool) (handles : FinMap nat_cmp OpenDirectory) → directory ≡ Some id → opens ≡ true
     → (h : OpenDirectory) × (get (with_opened names directory asked opens handles) asked ≡ Some h)
-opened_there names directory asked number opens handles is does = (
-  opened names number,
-  ap (λ (d : Option ℕ). get (with_opened names d asked opens handles) asked) is
-      ∙ ap (λ (b : Bool). get (with_opened names (Some number) asked b handles) asked) does
-      ∙ insert_there nat_cmp_total handles asked (opened names number),
+opened_there names directory asked id opens handles is does = (
+  opened names id,
+  ap (λ (d : Option FileId). get (with_opened names d asked opens handles) asked) is
+      ∙ ap (λ (b : Bool). get (with_opened names (Some id) asked b handles) asked) does
+      ∙ insert_there nat_cmp_total handles asked (opened names id),
 )
 
 pub step_opens : (old new : TreeState) (call : PlainCall) (wrote : Option ℕ) (so_far : List PlainDirent) (o : Outcome OpenOut) → (s : Steps old new call wrote so_far)
@@ -307,7 +308,7 @@ step_opens old new call wrote so_far o s is not does =
 -- ---- a call of which all is known
 
 -- a second node, and a directory that is listed
-other_known : (t : TreeState) (other : Option NodeName) → ((name : NodeName) → other ≡ Some name → IsKnownIn name t) → (file : Option ℕ) × (other_of t other ≡ Some file)
+other_known : (t : TreeState) (other : Option NodeName) → ((name : NodeName) → other ≡ Some name → IsKnownIn name t) → (file : Option FileId) × (other_of t other ≡ Some file)
 other_known t None known = (None, refl)
 other_known t (Some name) known = let found = known name refl in (Some found.0, ap (option_map (λ file. Some file)) found.1)
 
@@ -327,7 +328,7 @@ pub all_known : (t : TreeState) (call : PlainCall) → IsKnownIn call.node t →
 all_known t call node others handles none =
     let other = other_known t call.other others in
     let handle = handle_known t call.listing call.handle handles in
-    let made : Option OpenDirectory → Resolved = λ h. record { node = node.0; other = other.0; handle = h } in
+    let made : Option OpenDirectory → Resolved = λ h. record { asked = call.asked; node = node.0; other = other.0; handle = h } in
     let some : resolved t call ≡ Some (made handle.0) =
     ap (option_and_then (resolved_on t call)) node.1 ∙ ap (option_and_then (resolved_with t call node.0)) other.1 ∙ ap (option_map made) handle.1 in
     let clash : None ≡ Some (made handle.0) = sym none ∙ some in

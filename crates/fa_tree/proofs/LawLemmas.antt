@@ -1,16 +1,18 @@
 -- What follows from the definitions of a step, and of trees that are put together.
-use Rattle.std.proofs.Common.{◌≡◌, ℕ, List, Option, None, Some, refl, sym, ap, ◌∙◌}
-use Rattle.std.proofs.lemmas.Option.{slice_get_within, same_Some}
+use Rattle.std.proofs.Common.{◌≡◌, ℕ, List, Option, None, Some, refl, sym, ap, ◌∙◌, arith}
+use Rattle.std.specs.FinMap.{len}
+use Rattle.std.proofs.lemmas.Option.{same_Some}
 use Rattle.fa_capture.specs.Checks.{AllHold}
 use Rattle.fa_capture.proofs.CallerLemmas.{no_failure}
 use Rattle.fa_bodies.specs.Dirents.{PlainDirent}
 use Rattle.fa_ledger.specs.Calls.{PlainCall}
 use Rattle.fa_ledger.specs.Operations.{PlainOperation}
+use Rattle.fa_tree.specs.declared.id.FileId.{FileId}
 use Rattle.fa_tree.specs.State.{TreeState, IsDirectory}
 use Rattle.fa_tree.specs.Resolved.{Resolved, resolved}
 use Rattle.fa_tree.specs.Operations.{count_written}
 use Rattle.fa_tree.specs.Steps.{checks_of_files, step_checks, tree_after, Steps}
-use Rattle.fa_tree.specs.Building.{file_of_kind, IsNonDirectory}
+use Rattle.fa_tree.specs.Building.{file_of_kind, next_added, IsNonDirectory}
 use Rattle.fa_tree.specs.Laws.{StepIsOne, StepsWhereAllHold, NoStepWhereOneFails, BuildingKeepsTrees}
 use Rattle.fa_tree.proofs.ShapeLemmas.{empty_is_tree, making_keeps_tree, linking_keeps_tree}
 
@@ -39,13 +41,13 @@ pub no_step_where_one_fails : NoStepWhereOneFails
 no_step_where_one_fails old new call wrote so_far code failure steps = no_failure (step_checks old call wrote so_far) code steps.allowed failure
 
 -- what is no directory is none
-none_of_other : (t : TreeState) (file : ℕ) → IsNonDirectory t.store file → IsDirectory t.store file → ⊥
+none_of_other : (t : TreeState) (file : FileId) → IsNonDirectory t.store file → IsDirectory t.store file → ⊥
 none_of_other t file is directory = is.2 (ap (λ f. f.kind) (same_Some is.0 directory.0 (sym is.1 ∙ directory.1)) ∙ directory.2)
 
 pub building_keeps_trees : BuildingKeepsTrees
 building_keeps_trees = record {
   empty = empty_is_tree;
-  added = λ t parent name kind bits body tree may. making_keeps_tree t.store parent name (file_of_kind kind bits body) tree may.0.0.0;
+  added = λ t parent name kind bits body tree may. making_keeps_tree t.store (next_added t) parent name (file_of_kind kind bits body) tree may.0.0.0 (tree.next (len t.store.files) (omega arith)) refl;
   linked = λ t parent name file tree may.
-      linking_keeps_tree t.store parent name file tree may.0.0.0 (slice_get_within t.store.files file may.2.0 may.2.1) (none_of_other t file may.2);
+      linking_keeps_tree t.store parent name file tree may.0.0.0 (may.2.0, may.2.1) (none_of_other t file may.2);
 }

@@ -1,7 +1,7 @@
 -- The entries of a listing: what holds of all that are judged, and the nodes that they give.
-use Rattle.std.proofs.Common.{append_assoc, ◌≡◌, ◌≢◌, ℕ, Bool, true, false, List, [], ◌∷◌, ◌++◌, length, slice_get, Option, None, Some, refl, sym, ap, subst, ◌∙◌, ◌<◌}
+use Rattle.std.proofs.Common.{append_assoc, ◌≡◌, ◌≢◌, ℕ, Bool, true, false, List, [], ◌∷◌, ◌++◌, length, Option, None, Some, refl, sym, ap, subst, ◌∙◌, ◌<◌}
 use Rattle.std.specs.Prelude.{◌↔◌, All, IsTrue, if◌then◌else◌, not, option_map}
-use Rattle.std.specs.FinMap.{get}
+use Rattle.std.specs.FinMap.{FinMap, get}
 use Rattle.std.proofs.lemmas.List.{append-nil}
 use Rattle.std.specs.Bool.{MatchBool}
 use Rattle.std.specs.List.{AllWithin, HoldsAt}
@@ -12,8 +12,10 @@ use Rattle.fa_bodies.specs.declared.mode.Kind.{Kind}
 use Rattle.fa_bodies.specs.Dirents.{PlainDirent}
 use Rattle.fa_ledger.specs.Counts.{is_dots, nodes_of_entry}
 use Rattle.fa_ledger.specs.declared.name.NodeName.{NodeName}
-use Rattle.fa_tree.specs.State.{File, Store}
-use Rattle.fa_tree.specs.Directories.{judged}
+use Rattle.fa_tree.specs.declared.id.FileId.{FileId}
+use Rattle.fa_tree.specs.State.{File, Store, file_cmp}
+use Rattle.fa_tree.specs.Directories.{judged, IsTypedIfLookedUp}
+use Rattle.fa_tree.specs.parts.ListingParts.{IsTypedNow}
 use Rattle.fa_tree.specs.Directories.{file_if, files_listed}
 use Rattle.fa_tree.specs.Bindings.{bound}
 use Rattle.fa_tree.proofs.BindingLemmas.{bound_to_none}
@@ -21,9 +23,9 @@ use Rattle.fa_tree.proofs.BindingLemmas.{bound_to_none}
 -- ---- the type of a file
 
 -- what is told of the type of a file, if there is one of this number
-pub typed_by : (files : List File) (number : ℕ) (kind : Kind) (P : Kind → Type 0) (b : Bool) → Some kind ≡ option_map (λ (f : File). f.kind) (slice_get files number)
-    → IsTrue b ↔ P kind → IsTrue b ↔ ((f : File) → slice_get files number ≡ Some f → P f.kind)
-typed_by files number kind P b is told = by (slice_get files number) is
+pub typed_by : (files : FinMap file_cmp File) (id : FileId) (kind : Kind) (P : Kind → Type 0) (b : Bool) → Some kind ≡ option_map (λ (f : File). f.kind) (get files id)
+    → IsTrue b ↔ P kind → IsTrue b ↔ ((f : File) → get files id ≡ Some f → P f.kind)
+typed_by files id kind P b is told = by (get files id) is
   where
     by : (o : Option File) → Some kind ≡ option_map (λ (f : File). f.kind) o → IsTrue b ↔ ((f : File) → o ≡ Some f → P f.kind)
     by None is = absurd cc
@@ -63,6 +65,14 @@ run_of_judged P ds b ran = (
   (λ each. true_from_All (HoldsIfJudged P) (FailsJudged P) b ds (λ d holds fails. fails.1 (holds fails.0)) ran (judged_each P ds each)),
 )
 
+-- the types of all fit, each as one fact
+pub all_typed_now : (s : Store) (directory : FileId) (entries : List PlainDirent) (told : Bool) → IsTrue told ↔ All (IsTypedNow s directory) (judged entries)
+    → IsTrue told ↔ All (IsTypedIfLookedUp s directory) (judged entries)
+all_typed_now s directory entries told is = (
+  λ t k d within. (is.0 t k d within).typed,
+  λ each. is.1 (λ k d within. record { typed = each k d within }),
+)
+
 -- ---- the nodes that they give
 
 -- what is not unlike the empty list is empty
@@ -71,12 +81,12 @@ gives_none [] told = refl
 gives_none (node ∷ nodes) told = let no = told (λ is. cc) in absurd cc
 
 -- an entry that gives no node adds no file
-none_more : (s : Store) (directory : ℕ) (d : PlainDirent) (ds : List PlainDirent) → nodes_of_entry d.entry d.name ≡ []
+none_more : (s : Store) (directory : FileId) (d : PlainDirent) (ds : List PlainDirent) → nodes_of_entry d.entry d.name ≡ []
     → files_listed s directory (d ∷ ds) ≡ files_listed s directory ds
 none_more s directory d ds is = ap (λ nodes. file_if nodes (get s.names (directory, d.name)) ++ files_listed s directory ds) is
 
 -- and one that gives a node adds that of its name
-one_more : (s : Store) (directory : ℕ) (d : PlainDirent) (ds : List PlainDirent) → nodes_of_entry d.entry d.name ≢ []
+one_more : (s : Store) (directory : FileId) (d : PlainDirent) (ds : List PlainDirent) → nodes_of_entry d.entry d.name ≢ []
     → files_listed s directory (d ∷ ds) ≡ get s.names (directory, d.name) ∷ files_listed s directory ds
 one_more s directory d ds gives = by (nodes_of_entry d.entry d.name) gives
   where
@@ -84,17 +94,17 @@ one_more s directory d ds gives = by (nodes_of_entry d.entry d.name) gives
     by [] gives = absurd (gives refl)
     by (node ∷ nodes) gives = refl
 
-module _ (s : Store) (directory : ℕ) (all items : List (NodeName × ℕ)) (names : List NodeName) (left rest : List PlainDirent) (d : PlainDirent)
+module _ (s : Store) (directory : FileId) (all items : List (NodeName × FileId)) (names : List NodeName) (left rest : List PlainDirent) (d : PlainDirent)
     (so_far : all ≡ items ++ bound names (files_listed s directory left)) (next : left ≡ d ∷ rest) where
   -- what is left after an entry
-  after : (files : List (Option ℕ)) → files_listed s directory (d ∷ rest) ≡ files → all ≡ items ++ bound names files
+  after : (files : List (Option FileId)) → files_listed s directory (d ∷ rest) ≡ files → all ≡ items ++ bound names files
   after files is = so_far ∙ ap (λ fs. items ++ bound names fs) (ap (files_listed s directory) next ∙ is)
 
   pub entry_skipped : (nodes_of_entry d.entry d.name ≢ [] → IsTrue false) → all ≡ items ++ bound names (files_listed s directory rest)
   entry_skipped told = after (files_listed s directory rest) (none_more s directory d rest (gives_none (nodes_of_entry d.entry d.name) told))
 
   -- what is left after an entry that takes the next name
-  named : (more : List NodeName) (name : NodeName) (file : Option ℕ) → nodes_of_entry d.entry d.name ≢ [] → names ≡ name ∷ more → get s.names (directory, d.name) ≡ file
+  named : (more : List NodeName) (name : NodeName) (file : Option FileId) → nodes_of_entry d.entry d.name ≢ [] → names ≡ name ∷ more → get s.names (directory, d.name) ≡ file
       → all ≡ items ++ bound (name ∷ more) (file ∷ files_listed s directory rest)
   named more name file gives is found =
       after (file ∷ files_listed s directory rest) (one_more s directory d rest gives ∙ ap (λ f. f ∷ files_listed s directory rest) found)
@@ -104,7 +114,7 @@ module _ (s : Store) (directory : ℕ) (all items : List (NodeName × ℕ)) (nam
       → all ≡ items ++ bound more (files_listed s directory rest)
   entry_in_vain more name gives is found = named more name None gives is found
 
-  pub entry_bound : (more : List NodeName) (name : NodeName) (file : ℕ) (now : List (NodeName × ℕ)) → nodes_of_entry d.entry d.name ≢ [] → names ≡ name ∷ more
+  pub entry_bound : (more : List NodeName) (name : NodeName) (file : FileId) (now : List (NodeName × FileId)) → nodes_of_entry d.entry d.name ≢ [] → names ≡ name ∷ more
       → get s.names (directory, d.name) ≡ Some file → now ≡ items ++ (name, file) ∷ [] → all ≡ now ++ bound more (files_listed s directory rest)
   entry_bound more name file now gives is found pushed =
       named more name (Some file) gives is found
@@ -112,12 +122,12 @@ module _ (s : Store) (directory : ℕ) (all items : List (NodeName × ℕ)) (nam
       ∙ ap (λ xs. xs ++ bound more (files_listed s directory rest)) (sym pushed)
 
 -- nothing is left where the names are at their end
-pub no_name_left : (all items : List (NodeName × ℕ)) (names : List NodeName) (files : List (Option ℕ)) → all ≡ items ++ bound names files → length names ≡ 0 → items ≡ all
+pub no_name_left : (all items : List (NodeName × FileId)) (names : List NodeName) (files : List (Option FileId)) → all ≡ items ++ bound names files → length names ≡ 0 → items ≡ all
 no_name_left all items [] files so_far none = sym (so_far ∙ append-nil items)
 no_name_left all items (name ∷ names) files so_far none = absurd cc
 
 -- nor where the entries are
-pub no_entry_left : (s : Store) (directory : ℕ) (all items : List (NodeName × ℕ)) (names : List NodeName) (left : List PlainDirent)
+pub no_entry_left : (s : Store) (directory : FileId) (all items : List (NodeName × FileId)) (names : List NodeName) (left : List PlainDirent)
     → all ≡ items ++ bound names (files_listed s directory left) → left ≡ [] → items ≡ all
 no_entry_left s directory all items names left so_far none =
     sym (so_far ∙ ap (λ ds. items ++ bound names (files_listed s directory ds)) none ∙ ap (λ xs. items ++ xs) (bound_to_none names) ∙ append-nil items)

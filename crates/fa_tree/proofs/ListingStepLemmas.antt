@@ -12,6 +12,7 @@ use Rattle.fa_ledger.specs.declared.operation.Outcome.TheVariants.{Fails, Succee
 use Rattle.fa_ledger.specs.Calls.{PlainCall}
 use Rattle.fa_ledger.specs.Operations.{PlainList, PlainOperation, bare}
 use Rattle.fa_ledger.specs.Operations.PlainOperation.{Lists}
+use Rattle.fa_tree.specs.declared.id.FileId.{FileId}
 use Rattle.fa_tree.specs.State.{Store, OpenDirectory, TreeState, IsDirectory, node_cmp}
 use Rattle.fa_tree.specs.Resolved.{Resolved, resolved}
 use Rattle.fa_tree.specs.Rules.{HasCause}
@@ -37,20 +38,20 @@ pub entries_still : {E : Type 0} (r : Result Bool E) (t u : TreeState) → t ≡
 entries_still r t u same size h of listing so_far entries also told =
     rw (also) (subst (λ (v : TreeState). IfOk r (λ b. IsTrue b ↔ IsListed v.store h listing size so_far entries)) same told)
 
-pub types_still : (t u : TreeState) → t ≡ u → (directory : ℕ) (entries : List PlainDirent) (b : Bool)
+pub types_still : (t u : TreeState) → t ≡ u → (directory : FileId) (entries : List PlainDirent) (b : Bool)
     → IsTrue b ↔ All (IsTypedIfLookedUp t.store directory) (judged entries) → IsTrue b ↔ All (IsTypedIfLookedUp u.store directory) (judged entries)
 types_still t u same directory entries b told =
     subst (λ (v : TreeState). IsTrue b ↔ All (IsTypedIfLookedUp v.store directory) (judged entries)) same told
 
 -- ---- the checks of a call that lists, by what came of it
 
-module _ (nodes : FinMap node_cmp ℕ) (s : Store) (x : Resolved) (call : PlainCall) (so_far : List PlainDirent) where
+module _ (nodes : FinMap node_cmp FileId) (s : Store) (x : Resolved) (call : PlainCall) (so_far : List PlainDirent) where
   -- the checks of a list with this size, of which this came
   abbrev checks : (size : ℕ) → Outcome (List PlainDirent) → List (ℕ × Type 0)
   checks size o = operation_checks nodes (settled s x call.listing so_far) call (Lists (record { size = size; outcome = o }))
 
   -- the names that come with it
-  abbrev names : (size : ℕ) → Outcome (List PlainDirent) → List (NodeName × ℕ)
+  abbrev names : (size : ℕ) → Outcome (List PlainDirent) → List (NodeName × FileId)
   names size o = given_in (settled s x call.listing so_far) call (Lists (record { size = size; outcome = o }))
 
   module _ (size : ℕ) (o : Outcome (List PlainDirent)) where
@@ -105,7 +106,7 @@ module _ (nodes : FinMap node_cmp ℕ) (s : Store) (x : Resolved) (call : PlainC
       unanswered_gives = ap (names size) is ∙ bound_to_none (names_given call)
 
     -- what gives names may take memory
-    pub giving_may_grow : (items : List (NodeName × ℕ)) → items ≡ names size o → (items ≡ [] → ⊥) → DoneAnd (bare o) (Unit {0})
+    pub giving_may_grow : (items : List (NodeName × FileId)) → items ≡ names size o → (items ≡ [] → ⊥) → DoneAnd (bare o) (Unit {0})
     giving_may_grow items are some = by o refl
       where
         by : (w : Outcome (List PlainDirent)) → o ≡ w → DoneAnd (bare w) (Unit {0})
@@ -127,7 +128,7 @@ such_also Memory P Q may_come may so grows holds = grows holds
 -- ---- the step
 
 -- the tree after a call that lists, with the names of nodes that come with it
-abbrev pub listed_after : TreeState → List (NodeName × ℕ) → TreeState
+abbrev pub listed_after : TreeState → List (NodeName × FileId) → TreeState
 listed_after t given = record { store = t.store; nodes = nodes_after given t.nodes; handles = t.handles }
 
 after_by : (t : TreeState) (x : Resolved) (call : PlainCall) (l : PlainList) (count : ℕ) (so_far : List PlainDirent)
@@ -163,14 +164,14 @@ module _ (t : TreeState) (call : PlainCall) (l : PlainList) (asks : call.operati
       (subst (λ (files : Option Resolved). FirstFailure (checks_of_files t call (Lists l) (count_written (Lists l) wrote) so_far files) UNKNOWN_HERE) (sym is) (inl ((λ none. none), refl)))
 
   -- a call that lists leads from one tree to another
-  pub lists_to : (new : TreeState) (x : Resolved) (given : List (NodeName × ℕ)) → resolved t call ≡ Some x
+  pub lists_to : (new : TreeState) (x : Resolved) (given : List (NodeName × FileId)) → resolved t call ≡ Some x
       → AllHold (operation_checks t.nodes (settled t.store x call.listing so_far) call (Lists l))
       → given ≡ given_in (settled t.store x call.listing so_far) call (Lists l) → new ≡ listed_after t given → Steps t new call wrote so_far
   lists_to new x given is hold comes left =
       steps_so t call (Lists l) asks wrote so_far x is new (judged_so x hold) (left ∙ ap (listed_after t) comes ∙ sym (after_by t x call l (count_written (Lists l) wrote) so_far))
 
 -- names of nodes that are bound in the tree's fields are bound in the tree
-pub bound_tree : (old : TreeState) (stored : StoredShown) (before between nodes : FinMap node_cmp ℕ) (given items : List (NodeName × ℕ))
+pub bound_tree : (old : TreeState) (stored : StoredShown) (before between nodes : FinMap node_cmp FileId) (given items : List (NodeName × FileId))
     → ◌≡◌ {A = TreeState} (record { store = stored.store; nodes = before; handles = stored.handles }) old → between ≡ before → given ≡ items → nodes ≡ nodes_after given between
     → ◌≡◌ {A = TreeState} (record { store = stored.store; nodes = nodes; handles = stored.handles }) (listed_after old items)
 bound_tree old stored before between nodes given items same kept all now =

@@ -1,22 +1,24 @@
 -- What look-ups find in names, in open directories, and in what slots show of them.
 use Rattle.std.proofs.Common.{◌≡◌, ℕ, Bool, true, false, cond, List, [], ◌∷◌, map, filter, Option, None, Some, refl, sym, ap, ◌∙◌}
-use Rattle.std.specs.Prelude.{◌==◌, ◌&&◌, ◌||◌, not, nat_eq, is_some}
+use Rattle.std.specs.Prelude.{◌&&◌, ◌||◌, not, is_some}
 use Rattle.std.specs.List.{list_any}
 use Rattle.std.specs.Option.{option_map, option_and_then, option_map_or}
 use Rattle.std.specs.Ordering.{nat_cmp, eq_by_cmp}
 use Rattle.std.specs.declared.cmp.Ordering.{Ordering}
-use Rattle.std.specs.Cmp.{IsTotalOrder, nat_cmp_total, nat_eq_equiv}
+use Rattle.std.specs.Cmp.{IsTotalOrder, nat_cmp_total}
 use Rattle.std.specs.Cmp.Lexicographic.{nat_list_cmp_total}
 use Rattle.std.specs.FinMap as map
 use Rattle.std.specs.FinMap.{FinMap, find, get-entries, get-from_entries}
 use Rattle.std.specs.FinSet as set
 use Rattle.std.specs.FinSet.{FinSet}
+use Rattle.fa_tree.specs.declared.id.FileId.{FileId}
 use Rattle.fa_tree.specs.State as state
-use Rattle.fa_tree.specs.State.{place_cmp, name_cmp, OpenDirectory}
+use Rattle.fa_tree.specs.State.{place_cmp, name_cmp, OpenDirectory, file_eq}
 use Rattle.fa_tree.specs.Edits.{each_open}
 use Rattle.fa_tree.specs.Opening.{names_in, opened}
 use Rattle.fa_tree.specs.declared.slots.Place.{Place}
 use Rattle.fa_tree.specs.declared.slots.Slot.{Slot}
+use Rattle.fa_tree.specs.parts.FileIdLaws.{file_equiv}
 use Rattle.fa_tree.specs.parts.PlaceLaws.{place_cmp_total, place_tests}
 use Rattle.fa_tree.specs.parts.SlotParts.{place_of, is_at, slot_at, file_in, put_or_not, names_shown}
 use Rattle.fa_tree.specs.parts.NameViews.{was_since, has_stayed, in_or_out, since_shown, stayed_shown}
@@ -42,18 +44,18 @@ get-each_open change handles asked =
 
 -- ---- a directory that is opened
 
-find_in : (directory : ℕ) (name : List ℕ) (es : List (state.Place × ℕ))
-    → find name_cmp name (map (λ e. (e.0.1, e.1)) (filter (λ e. e.0.0 == directory) es)) ≡ find place_cmp (directory, name) es
+find_in : (directory : FileId) (name : List ℕ) (es : List (state.Place × FileId))
+    → find name_cmp name (map (λ e. (e.0.1, e.1)) (filter (λ e. file_eq e.0.0 directory) es)) ≡ find place_cmp (directory, name) es
 find_in directory name [] = refl
-find_in directory name (e ∷ es) = by (e.0.0 == directory) refl (find_in directory name es)
+find_in directory name (e ∷ es) = by (file_eq e.0.0 directory) refl (find_in directory name es)
   where
-    rest : List (state.Place × ℕ)
-    rest = filter (λ e. e.0.0 == directory) es
+    rest : List (state.Place × FileId)
+    rest = filter (λ e. file_eq e.0.0 directory) es
 
-    same : eq_by_cmp place_cmp (directory, name) e.0 ≡ ((e.0.0 == directory) && eq_by_cmp name_cmp name e.0.1)
-    same = place_tests (directory, name) e.0 ∙ ap (λ b. b && eq_by_cmp name_cmp name e.0.1) (nat_eq_equiv.symm directory e.0.0)
+    same : eq_by_cmp place_cmp (directory, name) e.0 ≡ ((file_eq e.0.0 directory) && eq_by_cmp name_cmp name e.0.1)
+    same = place_tests (directory, name) e.0 ∙ ap (λ b. b && eq_by_cmp name_cmp name e.0.1) (file_equiv.symm directory e.0.0)
 
-    by : (b : Bool) → (e.0.0 == directory) ≡ b
+    by : (b : Bool) → (file_eq e.0.0 directory) ≡ b
         → find name_cmp name (map (λ e. (e.0.1, e.1)) rest) ≡ find place_cmp (directory, name) es
         → find name_cmp name (map (λ e. (e.0.1, e.1)) (cond b (e ∷ rest) rest)) ≡ cond (eq_by_cmp place_cmp (directory, name) e.0) (Some e.1) (find place_cmp (directory, name) es)
     by true test later =
@@ -63,23 +65,23 @@ find_in directory name (e ∷ es) = by (e.0.0 == directory) refl (find_in direct
         later ∙ ap (λ b. cond b (Some e.1) (find place_cmp (directory, name) es)) (sym (same ∙ ap (λ b. b && eq_by_cmp name_cmp name e.0.1) test))
 
 -- the names of a directory, with their files
-pub find-names_in : (names : FinMap place_cmp ℕ) (directory : ℕ) (name : List ℕ) → find name_cmp name (names_in names directory) ≡ map.get names (directory, name)
+pub find-names_in : (names : FinMap place_cmp FileId) (directory : FileId) (name : List ℕ) → find name_cmp name (names_in names directory) ≡ map.get names (directory, name)
 find-names_in names directory name = find_in directory name (map.entries names) ∙ sym (get-entries names (directory, name))
 
 -- the files that have stayed in a directory that is opened now
-pub get-opened : (names : FinMap place_cmp ℕ) (directory : ℕ) (name : List ℕ) → map.get (opened names directory).stayed name ≡ map.get names (directory, name)
+pub get-opened : (names : FinMap place_cmp FileId) (directory : FileId) (name : List ℕ) → map.get (opened names directory).stayed name ≡ map.get names (directory, name)
 get-opened names directory name = get-from_entries nat_list_cmp_total (names_in names directory) name ∙ find-names_in names directory name
 
-some_found : (name : List ℕ) (es : List (List ℕ × ℕ)) → list_any (eq_by_cmp name_cmp name) (map (λ e. e.0) es) ≡ is_some (find name_cmp name es)
+some_found : (name : List ℕ) (es : List (List ℕ × FileId)) → list_any (eq_by_cmp name_cmp name) (map (λ e. e.0) es) ≡ is_some (find name_cmp name es)
 some_found name [] = refl
 some_found name (e ∷ es) = some_either (eq_by_cmp name_cmp name e.0) _ _ (some_found name es)
   where
-    some_either : (b c : Bool) (x : Option ℕ) → c ≡ is_some x → (b || c) ≡ is_some (cond b (Some e.1) x)
+    some_either : (b c : Bool) (x : Option FileId) → c ≡ is_some x → (b || c) ≡ is_some (cond b (Some e.1) x)
     some_either true c x same = refl
     some_either false c x same = same
 
 -- the names that have been in it
-pub contains-opened : (names : FinMap place_cmp ℕ) (directory : ℕ) (name : List ℕ) → set.contains (opened names directory).since name ≡ is_some (map.get names (directory, name))
+pub contains-opened : (names : FinMap place_cmp FileId) (directory : FileId) (name : List ℕ) → set.contains (opened names directory).since name ≡ is_some (map.get names (directory, name))
 contains-opened names directory name =
     set.contains-from_list nat_list_cmp_total (map (λ e. e.0) (names_in names directory)) name
     ∙ some_found name (names_in names directory) ∙ ap is_some (find-names_in names directory name)
@@ -123,17 +125,17 @@ get-names_shown (e ∷ slots) place =
     ∙ then_one file_in (is_at place e.0) e.1 _ _ (get-names_shown slots place)
 
 -- in its directory a slot counts where its name does
-pub get-stayed_shown : (directory at : ℕ) (slots : List (Place × Slot)) (name : List ℕ)
+pub get-stayed_shown : (directory : FileId) (at : ℕ) (slots : List (Place × Slot)) (name : List ℕ)
     → map.get (stayed_shown directory at slots) name ≡ option_and_then (has_stayed at) (slot_at slots (directory, name))
 get-stayed_shown directory at [] name = map.get-empty name_cmp name
 get-stayed_shown directory at (e ∷ slots) name =
-    in_directory (nat_eq directory e.0.directory) refl
+    in_directory (file_eq directory e.0.directory) refl
     ∙ then_one (has_stayed at) (is_at (directory, name) e.0) e.1 _ _ (get-stayed_shown directory at slots name)
   where
-    rest : FinMap name_cmp ℕ
+    rest : FinMap name_cmp FileId
     rest = stayed_shown directory at slots
 
-    in_directory : (b : Bool) → nat_eq directory e.0.directory ≡ b
+    in_directory : (b : Bool) → file_eq directory e.0.directory ≡ b
         → map.get (cond b (put_or_not rest e.0.name.items (has_stayed at e.1)) rest) name ≡ cond (is_at (directory, name) e.0) (has_stayed at e.1) (map.get rest name)
     in_directory true test =
         get-put_or_not nat_list_cmp_total rest e.0.name.items (has_stayed at e.1) name
@@ -141,17 +143,17 @@ get-stayed_shown directory at (e ∷ slots) name =
     in_directory false test =
         ap (λ b. cond b (has_stayed at e.1) (map.get rest name)) (sym (place_tests (directory, name) (place_of e.0) ∙ ap (λ b. b && eq_by_cmp name_cmp name e.0.name.items) test))
 
-pub contains-since_shown : (directory at : ℕ) (slots : List (Place × Slot)) (name : List ℕ)
+pub contains-since_shown : (directory : FileId) (at : ℕ) (slots : List (Place × Slot)) (name : List ℕ)
     → set.contains (since_shown directory at slots) name ≡ option_map_or (was_since at) (slot_at slots (directory, name)) false
 contains-since_shown directory at [] name = set.contains-empty name_cmp name
 contains-since_shown directory at (e ∷ slots) name =
-    in_directory (nat_eq directory e.0.directory) refl
+    in_directory (file_eq directory e.0.directory) refl
     ∙ or_one (was_since at) (is_at (directory, name) e.0) e.1 _ _ (contains-since_shown directory at slots name)
   where
     rest : FinSet name_cmp
     rest = since_shown directory at slots
 
-    in_directory : (b : Bool) → nat_eq directory e.0.directory ≡ b
+    in_directory : (b : Bool) → file_eq directory e.0.directory ≡ b
         → set.contains (cond b (in_or_out rest e.0.name.items (was_since at e.1)) rest) name ≡ cond (is_at (directory, name) e.0) (was_since at e.1) (set.contains rest name)
     in_directory true test =
         contains-in_or_out nat_list_cmp_total rest e.0.name.items (was_since at e.1) name

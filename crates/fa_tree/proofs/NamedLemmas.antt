@@ -13,6 +13,7 @@ use Rattle.fa_ledger.specs.declared.operation.Outcome.{Outcome}
 use Rattle.fa_ledger.specs.declared.operation.Outcome.TheVariants.{Fails, Succeeds, Unanswered}
 use Rattle.fa_ledger.specs.Calls.{PlainCall}
 use Rattle.fa_ledger.specs.Operations.{ended}
+use Rattle.fa_tree.specs.declared.id.FileId.{FileId}
 use Rattle.fa_tree.specs.State.{TreeState, node_cmp}
 use Rattle.fa_tree.specs.Resolved.{Resolved}
 use Rattle.fa_tree.specs.Operations.{count_written}
@@ -28,18 +29,18 @@ use Rattle.fa_tree.proofs.OutcomeLemmas.{errors_give_nothing, given_whatever}
 -- ---- names of nodes
 
 -- each name that some nodes have stands for the same file among others
-abbrev pub NodesWithin : (part whole : FinMap node_cmp ℕ) → Type 0
-NodesWithin part whole = (name : NodeName) (file : ℕ) → get part name ≡ Some file → get whole name ≡ Some file
+abbrev pub NodesWithin : (part whole : FinMap node_cmp FileId) → Type 0
+NodesWithin part whole = (name : NodeName) (file : FileId) → get part name ≡ Some file → get whole name ≡ Some file
 
 -- a name that may be given leaves the others, and they may be given after it
-module _ (one : NodeName × ℕ) (given : List (NodeName × ℕ)) (nodes : FinMap node_cmp ℕ) (may : AreBound nodes (one ∷ given)) where
+module _ (one : NodeName × FileId) (given : List (NodeName × FileId)) (nodes : FinMap node_cmp FileId) (may : AreBound nodes (one ∷ given)) where
   one_within : NodesWithin nodes (insert nodes one.0 one.1)
   one_within name file is = by (eq_by_cmp node_cmp name one.0) refl (get-insert node_total nodes one.0 one.1 name)
     where
       by : (b : Bool) → eq_by_cmp node_cmp name one.0 ≡ b → get (insert nodes one.0 one.1) name ≡ cond b (Some one.1) (get nodes name) → get (insert nodes one.0 one.1) name ≡ Some file
       by true tie has =
           let own : name ≡ one.0 = name_same name one.0 tie in
-          has ∙ ap (λ (n : ℕ). Some n) (may.known one.0 one.1 file (contains_first one given) (subst (λ (k : NodeName). get nodes k ≡ Some file) own is))
+          has ∙ ap (λ (n : FileId). Some n) (may.known one.0 one.1 file (contains_first one given) (subst (λ (k : NodeName). get nodes k ≡ Some file) own is))
       by false apart has = has ∙ is
 
   rest_bound : AreBound (insert nodes one.0 one.1) given
@@ -56,23 +57,23 @@ module _ (one : NodeName × ℕ) (given : List (NodeName × ℕ)) (nodes : FinMa
   }
 
 -- names that may be given leave what was known
-pub nodes_grown : (given : List (NodeName × ℕ)) (nodes : FinMap node_cmp ℕ) → AreBound nodes given → NodesWithin nodes (nodes_after given nodes)
+pub nodes_grown : (given : List (NodeName × FileId)) (nodes : FinMap node_cmp FileId) → AreBound nodes given → NodesWithin nodes (nodes_after given nodes)
 nodes_grown [] nodes may = λ name file is. is
 nodes_grown (one ∷ given) nodes may =
     λ name file is. nodes_grown given (insert nodes one.0 one.1) (rest_bound one given nodes may) name file (one_within one given nodes may name file is)
 
 -- a name that is given has its file
-name_inserted : (nodes : FinMap node_cmp ℕ) (name : NodeName) (file : ℕ) → get (insert nodes name file) name ≡ Some file
+name_inserted : (nodes : FinMap node_cmp FileId) (name : NodeName) (file : FileId) → get (insert nodes name file) name ≡ Some file
 name_inserted nodes name file = get-insert node_total nodes name file name ∙ ap (λ b. cond b (Some file) (get nodes name)) (ap is_eq (tied_itself node_total name))
 
 -- each name that is given stands for its file
-given_stands : (given : List (NodeName × ℕ)) (nodes : FinMap node_cmp ℕ) → AreBound nodes given → (name : NodeName) (file : ℕ) → Contains given (name, file)
+given_stands : (given : List (NodeName × FileId)) (nodes : FinMap node_cmp FileId) → AreBound nodes given → (name : NodeName) (file : FileId) → Contains given (name, file)
     → get (nodes_after given nodes) name ≡ Some file
 given_stands [] nodes may name file has = absurd (omega (arith, has.1))
 given_stands (one ∷ given) nodes may name file (zero, within, is) =
     let same : one ≡ (name, file) = is in
     nodes_grown given (insert nodes one.0 one.1) (rest_bound one given nodes may) name file
-    (subst (λ (p : NodeName × ℕ). get (insert nodes p.0 p.1) name ≡ Some file) (sym same) (name_inserted nodes name file))
+    (subst (λ (p : NodeName × FileId). get (insert nodes p.0 p.1) name ≡ Some file) (sym same) (name_inserted nodes name file))
 given_stands (one ∷ given) nodes may name file (suc k, within, is) =
     given_stands given (insert nodes one.0 one.1) (rest_bound one given nodes may) name file (k, omega (arith, within), is)
 
@@ -86,7 +87,7 @@ module _ (old new : TreeState) (call : PlainCall) (wrote : Option ℕ) (so_far :
       subst (λ (files : Option Resolved). AllHold (checks_of_files old call call.operation (count_written call.operation wrote) so_far files)) s.named s.allowed in of_files.1
 
   -- the names that it gives, each with its file
-  abbrev pub given : List (NodeName × ℕ)
+  abbrev pub given : List (NodeName × FileId)
   given = given_in (setting old.store s.files call call.operation (count_written call.operation wrote) []) call call.operation
 
   -- they may be given
@@ -118,12 +119,12 @@ given_names_stand old new call wrote so_far s name file has =
     stands : get (tree_done old s.files call call.operation count).nodes name ≡ Some file
     stands =
         given_stands (given old new call wrote so_far s) old.nodes (may_be_given old new call wrote so_far s) name file
-        (subst (λ (these : List (NodeName × ℕ)). Contains these (name, file)) (given_whatever old.store s.files call call.operation count so_far) has)
+        (subst (λ (these : List (NodeName × FileId)). Contains these (name, file)) (given_whatever old.store s.files call call.operation count so_far) has)
 
     by : (e : Outcome (Unit {0})) → ended call.operation ≡ e → get (tree_by old (tree_done old s.files call call.operation count) e).nodes name ≡ Some file
     by (Fails error) fails =
         let none = errors_give_nothing (setting old.store s.files call call.operation count so_far) call call.operation error fails in
-        let nowhere : Contains [] (name, file) = subst (λ (given : List (NodeName × ℕ)). Contains given (name, file)) none has in
+        let nowhere : Contains [] (name, file) = subst (λ (given : List (NodeName × FileId)). Contains given (name, file)) none has in
         absurd (omega (arith, nowhere.1))
     by (Succeeds success) is = stands
     by Unanswered is = stands

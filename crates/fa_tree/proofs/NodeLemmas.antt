@@ -16,6 +16,7 @@ use Rattle.std.specs.FinMap.{FinMap, IsAntisymmetric, find}
 use Rattle.fa_ledger.specs.contracts.name.NodeNamePartialEq.TheImpl as derived
 use Rattle.fa_ledger.specs.declared.name.NodeName.{NodeName}
 use Rattle.fa_ledger.specs.declared.name.NodeName.TheVariants.{Root, Given}
+use Rattle.fa_tree.specs.declared.id.FileId.{FileId}
 use Rattle.fa_tree.specs.State.{node_cmp}
 use Rattle.fa_tree.specs.Bindings.{nodes_after}
 
@@ -86,15 +87,15 @@ ties (Given id by) (Given other since) =
 
 -- ---- what a table of nodes shows
 
-found : (q : NodeName) (es : List (NodeName × ℕ)) → find node_cmp q es ≡ lookup (derived.eq-value.it q) es
+found : (q : NodeName) (es : List (NodeName × FileId)) → find node_cmp q es ≡ lookup (derived.eq-value.it q) es
 found q [] = refl
 found q (e ∷ es) = rw (ties q e.0, found q es) refl
 
-pub get_shown : (es : List (NodeName × ℕ)) (q : NodeName) → map.get (map.from_entries {R = node_cmp} es) q ≡ lookup (derived.eq-value.it q) es
+pub get_shown : (es : List (NodeName × FileId)) (q : NodeName) → map.get (map.from_entries {R = node_cmp} es) q ≡ lookup (derived.eq-value.it q) es
 get_shown es q = map.get-from_entries node_total es q ∙ found q es
 
 -- a table after a write shows the map with this entry
-pub shown_insert : (old new : List (NodeName × ℕ)) (name : NodeName) (file : ℕ)
+pub shown_insert : (old new : List (NodeName × FileId)) (name : NodeName) (file : FileId)
     → ((q : NodeName) → lookup (derived.eq-value.it q) new ≡ cond (derived.eq-value.it name q) (Some file) (lookup (derived.eq-value.it q) old))
     → map.from_entries {R = node_cmp} new ≡ map.insert (map.from_entries old) name file
 shown_insert old new name file wrote =
@@ -104,7 +105,7 @@ shown_insert old new name file wrote =
 -- ---- names that are given one after the other
 
 -- the next of those that are left, where there is one
-pub one_bound : (given : List (NodeName × ℕ)) (i : ℕ) (one : NodeName × ℕ) (nodes now all : FinMap node_cmp ℕ) → i < length given → one ≡ get_or given i one
+pub one_bound : (given : List (NodeName × FileId)) (i : ℕ) (one : NodeName × FileId) (nodes now all : FinMap node_cmp FileId) → i < length given → one ≡ get_or given i one
     → nodes_after (drop i given) nodes ≡ all → now ≡ map.insert nodes one.0 one.1 → nodes_after (drop (i + 1) given) now ≡ all
 one_bound given i one nodes now all less is left put =
     let next : drop i given ≡ one ∷ drop (suc i) given = drop-cons given i one less ∙ ap (λ x. x ∷ drop (suc i) given) (sym is) in
@@ -112,7 +113,7 @@ one_bound given i one nodes now all less is left put =
     ap (λ k. nodes_after (drop k given) now) later ∙ ap (nodes_after (drop (suc i) given)) put ∙ sym (ap (λ xs. nodes_after xs nodes) next) ∙ left
 
 -- none is left
-pub all_bound : (given : List (NodeName × ℕ)) (i : ℕ) (nodes all : FinMap node_cmp ℕ) → length given ≤ i → nodes_after (drop i given) nodes ≡ all → nodes ≡ all
+pub all_bound : (given : List (NodeName × FileId)) (i : ℕ) (nodes all : FinMap node_cmp FileId) → length given ≤ i → nodes_after (drop i given) nodes ≡ all → nodes ≡ all
 all_bound given i nodes all past left = sym (ap (λ xs. nodes_after xs nodes) (drop_all i given past)) ∙ left
 
 -- ---- names that stand for one file
@@ -130,13 +131,13 @@ name_self : (name : NodeName) → eq_by_cmp node_cmp name name ≡ true
 name_self name = ap is_eq (tied_itself node_total name)
 
 -- the first of the names given, as a table has them, and none of them stands for another file
-pub record AreSeen (nodes seen : FinMap node_cmp ℕ) (given : List (NodeName × ℕ)) (i : ℕ) : Type 0 where
-  pub known : (k : ℕ) (one : NodeName × ℕ) → k < i → slice_get given k ≡ Some one → (other : ℕ) → map.get nodes one.0 ≡ Some other → one.1 ≡ other
-  pub found : (k : ℕ) (one : NodeName × ℕ) → k < i → slice_get given k ≡ Some one → map.get seen one.0 ≡ Some one.1
-  pub only : (name : NodeName) (file : ℕ) → map.get seen name ≡ Some file → (k : ℕ) × (k < i) × (slice_get given k ≡ Some (name, file))
+pub record AreSeen (nodes seen : FinMap node_cmp FileId) (given : List (NodeName × FileId)) (i : ℕ) : Type 0 where
+  pub known : (k : ℕ) (one : NodeName × FileId) → k < i → slice_get given k ≡ Some one → (other : FileId) → map.get nodes one.0 ≡ Some other → one.1 ≡ other
+  pub found : (k : ℕ) (one : NodeName × FileId) → k < i → slice_get given k ≡ Some one → map.get seen one.0 ≡ Some one.1
+  pub only : (name : NodeName) (file : FileId) → map.get seen name ≡ Some file → (k : ℕ) × (k < i) × (slice_get given k ≡ Some (name, file))
 
 -- at first none is seen
-pub none_seen : (nodes seen : FinMap node_cmp ℕ) (given : List (NodeName × ℕ)) → seen ≡ map.empty → AreSeen nodes seen given 0
+pub none_seen : (nodes seen : FinMap node_cmp FileId) (given : List (NodeName × FileId)) → seen ≡ map.empty → AreSeen nodes seen given 0
 none_seen nodes seen given is = record {
   known = λ k one less there. absurd (omega (arith, less));
   found = λ k one less there. absurd (omega (arith, less));
@@ -146,51 +147,51 @@ none_seen nodes seen given is = record {
 }
 
 -- one more, for a file that it does not contradict
-module _ (nodes seen now : FinMap node_cmp ℕ) (given : List (NodeName × ℕ)) (i : ℕ) (one : NodeName × ℕ)
+module _ (nodes seen now : FinMap node_cmp FileId) (given : List (NodeName × FileId)) (i : ℕ) (one : NodeName × FileId)
     (before : AreSeen nodes seen given i) (there : slice_get given i ≡ Some one)
-    (may : (other : ℕ) → map.get nodes one.0 ≡ Some other → one.1 ≡ other)
-    (same : (other : ℕ) → map.get seen one.0 ≡ Some other → one.1 ≡ other)
+    (may : (other : FileId) → map.get nodes one.0 ≡ Some other → one.1 ≡ other)
+    (same : (other : FileId) → map.get seen one.0 ≡ Some other → one.1 ≡ other)
     (put : now ≡ map.insert seen one.0 one.1) where
   now_has : (name : NodeName) → map.get now name ≡ cond (eq_by_cmp node_cmp name one.0) (Some one.1) (map.get seen name)
   now_has name = ap (λ m. map.get m name) put ∙ map.get-insert node_total seen one.0 one.1 name
 
   -- an earlier one, or this one
-  earlier : (k : ℕ) (p : NodeName × ℕ) → k < i + 1 → slice_get given k ≡ Some p → (k < i) ⊎ (p ≡ one)
+  earlier : (k : ℕ) (p : NodeName × FileId) → k < i + 1 → slice_get given k ≡ Some p → (k < i) ⊎ (p ≡ one)
   earlier k p less is =
       elim (cases_lt k i) [
         | inl before_i ↦ inl before_i
         | inr not_before ↦ inr (let own : k ≡ i = omega arith in let both : Some p ≡ Some one = sym is ∙ ap (slice_get given) own ∙ there in cc)
       ]
 
-  known_now : (k : ℕ) (p : NodeName × ℕ) → k < i + 1 → slice_get given k ≡ Some p → (other : ℕ) → map.get nodes p.0 ≡ Some other → p.1 ≡ other
+  known_now : (k : ℕ) (p : NodeName × FileId) → k < i + 1 → slice_get given k ≡ Some p → (other : FileId) → map.get nodes p.0 ≡ Some other → p.1 ≡ other
   known_now k p less is other stands =
       elim (earlier k p less is) [
         | inl before_i ↦ before.known k p before_i is other stands
-        | inr own ↦ subst (λ (q : NodeName × ℕ). map.get nodes q.0 ≡ Some other → q.1 ≡ other) (sym own) (may other) stands
+        | inr own ↦ subst (λ (q : NodeName × FileId). map.get nodes q.0 ≡ Some other → q.1 ≡ other) (sym own) (may other) stands
       ]
 
-  still : (name : NodeName) (file : ℕ) → map.get seen name ≡ Some file → map.get now name ≡ Some file
+  still : (name : NodeName) (file : FileId) → map.get seen name ≡ Some file → map.get now name ≡ Some file
   still name file is = by (eq_by_cmp node_cmp name one.0) refl (now_has name)
     where
       by : (b : Bool) → eq_by_cmp node_cmp name one.0 ≡ b → map.get now name ≡ cond b (Some one.1) (map.get seen name) → map.get now name ≡ Some file
       by true tie has = has ∙ ap (λ n. Some n) (same file (subst (λ n. map.get seen n ≡ Some file) (name_same name one.0 tie) is))
       by false apart has = has ∙ is
 
-  found_now : (k : ℕ) (p : NodeName × ℕ) → k < i + 1 → slice_get given k ≡ Some p → map.get now p.0 ≡ Some p.1
+  found_now : (k : ℕ) (p : NodeName × FileId) → k < i + 1 → slice_get given k ≡ Some p → map.get now p.0 ≡ Some p.1
   found_now k p less is =
       elim (earlier k p less is) [
         | inl before_i ↦ still p.0 p.1 (before.found k p before_i is)
-        | inr own ↦ subst (λ (q : NodeName × ℕ). map.get now q.0 ≡ Some q.1) (sym own)
+        | inr own ↦ subst (λ (q : NodeName × FileId). map.get now q.0 ≡ Some q.1) (sym own)
             (now_has one.0 ∙ ap (λ b. cond b (Some one.1) (map.get seen one.0)) (name_self one.0))
       ]
 
-  only_now : (name : NodeName) (file : ℕ) → map.get now name ≡ Some file → (k : ℕ) × (k < i + 1) × (slice_get given k ≡ Some (name, file))
+  only_now : (name : NodeName) (file : FileId) → map.get now name ≡ Some file → (k : ℕ) × (k < i + 1) × (slice_get given k ≡ Some (name, file))
   only_now name file is = by (eq_by_cmp node_cmp name one.0) refl (sym (now_has name) ∙ is)
     where
       by : (b : Bool) → eq_by_cmp node_cmp name one.0 ≡ b → cond b (Some one.1) (map.get seen name) ≡ Some file → (k : ℕ) × (k < i + 1) × (slice_get given k ≡ Some (name, file))
       by true tie has =
           let own : one.1 ≡ file = (let both : Some one.1 ≡ Some file = has in cc) in
-          let pair : ◌≡◌ {A = NodeName × ℕ} one (name, file) = λ j. (sym (name_same name one.0 tie) j, own j) in
+          let pair : ◌≡◌ {A = NodeName × FileId} one (name, file) = λ j. (sym (name_same name one.0 tie) j, own j) in
           (i, omega arith, there ∙ ap (λ q. Some q) pair)
       by false apart has =
           let was = before.only name file has in

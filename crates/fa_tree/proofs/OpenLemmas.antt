@@ -7,6 +7,7 @@ use Rattle.std.specs.Ordering.{nat_cmp}
 use Rattle.std.specs.Cmp.{nat_cmp_total, nat_eq_equiv, unsigned_tied}
 use Rattle.std.specs.FinMap as map
 use Rattle.std.specs.FinMap.{FinMap}
+use Rattle.fa_tree.specs.declared.id.FileId.{FileId}
 use Rattle.fa_tree.specs.State.{OpenDirectory}
 use Rattle.fa_tree.specs.declared.open.Opening.{Opening}
 use Rattle.fa_tree.specs.declared.slots.Place.{Place}
@@ -27,10 +28,10 @@ get-handles_shown slots (o ∷ openings) at handles asked =
     ∙ ap (λ b. option_or (option_map shows (last_opening asked (at + 1) openings)) (cond b (Some (open_shown slots o.directory at)) (map.get handles asked))) (unsigned_tied asked o.asked)
     ∙ one (last_opening asked (at + 1) openings) (nat_eq asked o.asked)
   where
-    shows : ℕ × ℕ → OpenDirectory
+    shows : ℕ × FileId → OpenDirectory
     shows = λ p. open_shown slots p.1 p.0
 
-    one : (later : Option (ℕ × ℕ)) (b : Bool)
+    one : (later : Option (ℕ × FileId)) (b : Bool)
         → option_or (option_map shows later) (cond b (Some (open_shown slots o.directory at)) (map.get handles asked))
         ≡ option_or (option_map shows (option_or later (cond b (Some (at, o.directory)) None))) (map.get handles asked)
     one (Some p) b = refl
@@ -51,12 +52,12 @@ get-shown_openings slots openings asked =
 -- ---- the last opening
 
 -- it is in the list
-last_in : (asked at : ℕ) (openings : List Opening) (p : ℕ × ℕ) → last_opening asked at openings ≡ Some p
+last_in : (asked at : ℕ) (openings : List Opening) (p : ℕ × FileId) → last_opening asked at openings ≡ Some p
     → (i : ℕ) × (p.0 ≡ at + i) × (i < length openings) × ((other : Opening) → (get_or openings i other).directory ≡ p.1)
 last_in asked at [] p is = absurd (let clash : None ≡ Some p = is in cc)
 last_in asked at (o ∷ openings) p is = by (last_opening asked (at + 1) openings) (nat_eq asked o.asked) is (last_in asked (at + 1) openings p)
   where
-    by : (later : Option (ℕ × ℕ)) (b : Bool) → option_or later (cond b (Some (at, o.directory)) None) ≡ Some p
+    by : (later : Option (ℕ × FileId)) (b : Bool) → option_or later (cond b (Some (at, o.directory)) None) ≡ Some p
         → (later ≡ Some p → (i : ℕ) × (p.0 ≡ (at + 1) + i) × (i < length openings) × ((other : Opening) → (get_or openings i other).directory ≡ p.1))
         → (i : ℕ) × (p.0 ≡ at + i) × (i < length (o ∷ openings)) × ((other : Opening) → (get_or (o ∷ openings) i other).directory ≡ p.1)
     by (Some q) b is so = let rest = so is in (suc rest.0, omega (arith, rest.1), omega (arith, rest.2), rest.3)
@@ -69,7 +70,7 @@ last_in asked at (o ∷ openings) p is = by (last_opening asked (at + 1) opening
 pub last_within : (openings : List Opening) (places : List (ℕ × ℕ)) → AreLast places openings → (asked at : ℕ) → lookup (nat_eq asked) places ≡ Some at → at < length openings
 last_within openings places last asked at there = by (last_opening asked 0 openings) refl (sym (last asked) ∙ there)
   where
-    by : (x : Option (ℕ × ℕ)) → last_opening asked 0 openings ≡ x → option_map (λ p. p.0) x ≡ Some at → at < length openings
+    by : (x : Option (ℕ × FileId)) → last_opening asked 0 openings ≡ x → option_map (λ p. p.0) x ≡ Some at → at < length openings
     by None was is = absurd (let clash : None ≡ Some at = is in cc)
     by (Some p) was is =
         let same : p.0 ≡ at = cc in
@@ -80,7 +81,7 @@ pub last_is : (openings : List Opening) (places : List (ℕ × ℕ)) → AreLast
     → (other : Opening) → last_opening asked 0 openings ≡ Some (at, (get_or openings at other).directory)
 last_is openings places last asked at there other = by (last_opening asked 0 openings) refl (sym (last asked) ∙ there)
   where
-    by : (x : Option (ℕ × ℕ)) → last_opening asked 0 openings ≡ x → option_map (λ p. p.0) x ≡ Some at → x ≡ Some (at, (get_or openings at other).directory)
+    by : (x : Option (ℕ × FileId)) → last_opening asked 0 openings ≡ x → option_map (λ p. p.0) x ≡ Some at → x ≡ Some (at, (get_or openings at other).directory)
     by None was is = absurd (let clash : None ≡ Some at = is in cc)
     by (Some p) was is =
         let same : p.0 ≡ at = cc in
@@ -92,7 +93,7 @@ last_is openings places last asked at there other = by (last_opening asked 0 ope
 pub last_none : (openings : List Opening) (places : List (ℕ × ℕ)) → AreLast places openings → (asked : ℕ) → lookup (nat_eq asked) places ≡ None → last_opening asked 0 openings ≡ None
 last_none openings places last asked none = by (last_opening asked 0 openings) (sym (last asked) ∙ none)
   where
-    by : (x : Option (ℕ × ℕ)) → option_map (λ p. p.0) x ≡ None → x ≡ None
+    by : (x : Option (ℕ × FileId)) → option_map (λ p. p.0) x ≡ None → x ≡ None
     by None is = refl
     by (Some p) is = absurd (let clash : Some p.0 ≡ None = is in cc)
 
@@ -110,7 +111,7 @@ last_opening-push asked at (p ∷ openings) o =
     ∙ ap (λ n. cond (nat_eq asked o.asked) (Some (n, o.directory)) (last_opening asked (at + 1) openings)) count)
     ∙ one (nat_eq asked o.asked) (last_opening asked (at + 1) openings)
   where
-    one : (b : Bool) (x : Option (ℕ × ℕ))
+    one : (b : Bool) (x : Option (ℕ × FileId))
         → option_or (cond b (Some (at + length (p ∷ openings), o.directory)) x) (cond (nat_eq asked p.asked) (Some (at, p.directory)) None)
         ≡ cond b (Some (at + length (p ∷ openings), o.directory)) (option_or x (cond (nat_eq asked p.asked) (Some (at, p.directory)) None))
     one true x = refl

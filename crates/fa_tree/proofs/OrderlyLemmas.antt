@@ -8,6 +8,7 @@ use Rattle.std.specs.FinMap.{get}
 use Rattle.std.specs.Str.{bytes_eq}
 use Rattle.std.proofs.lemmas.List.Sums.{sum_by-cons, sum_by-append, get_or-le-sum_by}
 use Rattle.fa_bodies.specs.Dirents.{PlainDirent}
+use Rattle.fa_tree.specs.declared.id.FileId.{FileId}
 use Rattle.fa_tree.specs.Directories.{times_listed, room_for_any, IsOrderly}
 use Rattle.fa_tree.specs.State.{OpenDirectory}
 
@@ -54,10 +55,10 @@ at_most_once (suc (suc n)) bound = absurd (bound (omega arith))
 module _ (h : OpenDirectory) where
   -- each name that stayed was listed so often at most, or at least
   abbrev pub NoneTwice : (times : List ℕ → ℕ) → Type 0
-  NoneTwice times = (name : List ℕ) (file : ℕ) → get h.stayed name ≡ Some file → times name ≤ 1
+  NoneTwice times = (name : List ℕ) (file : FileId) → get h.stayed name ≡ Some file → times name ≤ 1
 
   abbrev pub AllListed : (times : List ℕ → ℕ) → Type 0
-  AllListed times = (name : List ℕ) (file : ℕ) → get h.stayed name ≡ Some file → 1 ≤ times name
+  AllListed times = (name : List ℕ) (file : FileId) → get h.stayed name ≡ Some file → 1 ≤ times name
 
   -- what a closure answers of each name
   module _ {F : Type 0} (g : Shared F (Bor (List ℕ) × Unit {0}) Bool) (f : F) (times : List ℕ → ℕ) where
@@ -78,13 +79,13 @@ module _ (h : OpenDirectory) where
       (λ all. absurd (by (get h.stayed twice.0) refl (told_at twice.2 (λ name b. is_some (get h.stayed name) ≡ not b) tells) all)),
     )
       where
-        by : (found : Option ℕ) → get h.stayed twice.0 ≡ found → is_some found ≡ true → NoneTwice times → ⊥
+        by : (found : Option FileId) → get h.stayed twice.0 ≡ found → is_some found ≡ true → NoneTwice times → ⊥
         by None was is all = cc
         by (Some file) was is all = omega (arith, all twice.0 file was, twice.1)
 
     -- all names that stayed were listed, where it answers whether a name was
-    pub listed_or_not : (r : Bool) → (IsTrue r → (name : List ℕ) (file : ℕ) → get h.stayed name ≡ Some file → FnReturnsAt g f name true)
-        → (IsFalse r → (name : List ℕ) × (file : ℕ) × (get h.stayed name ≡ Some file) × FnReturnsAt g f name false)
+    pub listed_or_not : (r : Bool) → (IsTrue r → (name : List ℕ) (file : FileId) → get h.stayed name ≡ Some file → FnReturnsAt g f name true)
+        → (IsFalse r → (name : List ℕ) × (file : FileId) × (get h.stayed name ≡ Some file) × FnReturnsAt g f name false)
         → ((p : Bor (List ℕ)) (b : Bool) → g.post f (p, tt) b → IsTrue b ↔ (1 ≤ times p.now)) → IsTrue r ↔ AllListed times
     listed_or_not true all missing tells = (
       (λ t name file stayed. (told_at (all t name file stayed) (λ name b. IsTrue b ↔ (1 ≤ times name)) tells).0 refl),

@@ -11,6 +11,7 @@ use Rattle.fa_ledger.specs.Calls.{PlainCall}
 use Rattle.fa_ledger.specs.Operations.{PlainAction, PlainOperation, action_ended, bare, ended}
 use Rattle.fa_ledger.specs.Operations.PlainOperation.{Lists, Acts}
 use Rattle.fa_ledger.specs.Operations.PlainAction.{Lookup, Getattr, Setattr, Readlink, Symlink, Mknod, Mkdir, Link, Read, Create}
+use Rattle.fa_tree.specs.declared.id.FileId.{FileId}
 use Rattle.fa_tree.specs.State.{Store, node_cmp}
 use Rattle.fa_tree.specs.Resolved.{Resolved}
 use Rattle.fa_tree.specs.Rules.{Rule, Said, HasCause, nothing_said, attributes_said, bytes_said, entry_said, if_done}
@@ -100,13 +101,13 @@ given_whatever s x call (Lists l) count so_far = by l.outcome
     by Unanswered = refl
 
 -- no name is given for a file where none are
-pub none_bound : (nodes : FinMap node_cmp ℕ) → AreBound nodes []
+pub none_bound : (nodes : FinMap node_cmp FileId) → AreBound nodes []
 none_bound nodes = record {
   known = λ name file other has is. absurd (omega (arith, has.1));
   one = λ name file other has also. absurd (omega (arith, has.1));
 }
 
-module _ (nodes : FinMap node_cmp ℕ) (r : Rule) (d : Said) (names : List NodeName) where
+module _ (nodes : FinMap node_cmp FileId) (r : Rule) (d : Said) (names : List NodeName) where
   -- the checks of an operation of such a rule, whose answer says this and gives these names, by what came of it
   abbrev by_outcome : Outcome (Unit {0}) → List (ℕ × Type 0)
   by_outcome e =

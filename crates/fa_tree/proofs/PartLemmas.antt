@@ -19,6 +19,7 @@ use Rattle.fa_ledger.specs.Calls.{PlainCall}
 use Rattle.fa_ledger.specs.Kinds.{OnlyReads}
 use Rattle.fa_ledger.specs.Operations.{PlainOperation, ended}
 use Rattle.fa_ledger.proofs.CallerLemmas.{unanswered, lost, lost_ended}
+use Rattle.fa_tree.specs.declared.id.FileId.{FileId}
 use Rattle.fa_tree.specs.State.{OpenDirectory, Store, TreeState, place_cmp, node_cmp, file_of}
 use Rattle.fa_tree.specs.Resolved.{Resolved, other_of, handle_of, resolved_with, resolved_on, resolved}
 use Rattle.fa_tree.specs.Edits.{Edit, names_after, open_after, handles_after}
@@ -49,7 +50,7 @@ whole_part Kept t = record { store = refl; nodes = λ name file is. is; handles 
 
 -- ---- names of nodes
 
-insert_within : (part whole : FinMap node_cmp ℕ) (one : NodeName × ℕ) → NodesWithin part whole → NodesWithin (insert part one.0 one.1) (insert whole one.0 one.1)
+insert_within : (part whole : FinMap node_cmp FileId) (one : NodeName × FileId) → NodesWithin part whole → NodesWithin (insert part one.0 one.1) (insert whole one.0 one.1)
 insert_within part whole one within name file is =
     by (eq_by_cmp node_cmp name one.0) (get-insert node_total part one.0 one.1 name) (get-insert node_total whole one.0 one.1 name)
   where
@@ -59,13 +60,13 @@ insert_within part whole one within name file is =
     by false here there = there ∙ within name file (sym here ∙ is)
 
 -- names that are part of others stay so when the same are given
-after_within : (given : List (NodeName × ℕ)) (part whole : FinMap node_cmp ℕ) → NodesWithin part whole → NodesWithin (nodes_after given part) (nodes_after given whole)
+after_within : (given : List (NodeName × FileId)) (part whole : FinMap node_cmp FileId) → NodesWithin part whole → NodesWithin (nodes_after given part) (nodes_after given whole)
 after_within [] part whole within = within
 after_within (one ∷ given) part whole within =
     after_within given (insert part one.0 one.1) (insert whole one.0 one.1) (insert_within part whole one within)
 
 -- and may be given to the part where they may to the whole
-bound_within : (given : List (NodeName × ℕ)) (part whole : FinMap node_cmp ℕ) → NodesWithin part whole → AreBound whole given → AreBound part given
+bound_within : (given : List (NodeName × FileId)) (part whole : FinMap node_cmp FileId) → NodesWithin part whole → AreBound whole given → AreBound part given
 bound_within given part whole within may = record {
   known = λ name file other there is. may.known name file other there (within name other is);
   one = may.one;
@@ -73,17 +74,17 @@ bound_within given part whole within may = record {
 
 -- ---- what a call names
 
-file_within : (part whole : TreeState) → NodesWithin part.nodes whole.nodes → (name : NodeName) (file : ℕ) → file_of part name ≡ Some file → file_of whole name ≡ Some file
+file_within : (part whole : TreeState) → NodesWithin part.nodes whole.nodes → (name : NodeName) (file : FileId) → file_of part name ≡ Some file → file_of whole name ≡ Some file
 file_within part whole within Root file is = is
 file_within part whole within (Given id by) file is = within (Given id by) file is
 
-other_within : (part whole : TreeState) → NodesWithin part.nodes whole.nodes → (name : Option NodeName) (other : Option ℕ) → other_of part name ≡ Some other → other_of whole name ≡ Some other
+other_within : (part whole : TreeState) → NodesWithin part.nodes whole.nodes → (name : Option NodeName) (other : Option FileId) → other_of part name ≡ Some other → other_of whole name ≡ Some other
 other_within part whole within None other is = is
 other_within part whole within (Some name) other is = by (file_of part name) refl is
   where
-    by : (found : Option ℕ) → file_of part name ≡ found → option_map (λ (file : ℕ). Some file) found ≡ Some other → option_map (λ (file : ℕ). Some file) (file_of whole name) ≡ Some other
+    by : (found : Option FileId) → file_of part name ≡ found → option_map (λ (file : FileId). Some file) found ≡ Some other → option_map (λ (file : FileId). Some file) (file_of whole name) ≡ Some other
     by None none some = absurd cc
-    by (Some file) has some = ap (option_map (λ (f : ℕ). Some f)) (file_within part whole within name file has) ∙ some
+    by (Some file) has some = ap (option_map (λ (f : FileId). Some f)) (file_within part whole within name file has) ∙ some
 
 -- a call that lists uses a handle that is kept
 abbrev pub UsesKept : (ℕ → Type 0) → PlainCall → Type 0
@@ -97,15 +98,15 @@ module _ (Kept : ℕ → Type 0) (whole part : TreeState) (p : IsPartOf Kept who
   handle_part (Some listing) (Some h) kept = ap (option_map (λ (o : OpenDirectory). Some o)) (p.handles h (kept listing refl h refl))
 
   module _ (call : PlainCall) (kept : UsesKept Kept call) (x : Resolved) where
-    with_part : (node : ℕ) (other : Option ℕ) → resolved_with part call node other ≡ resolved_with whole call node other
+    with_part : (node : FileId) (other : Option FileId) → resolved_with part call node other ≡ resolved_with whole call node other
     with_part node other =
-        let made : Option OpenDirectory → Resolved = λ h. record { node = node; other = other; handle = h } in
+        let made : Option OpenDirectory → Resolved = λ h. record { asked = call.asked; node = node; other = other; handle = h } in
         ap (option_map made) (handle_part call.listing call.handle kept)
 
-    on_part : (node : ℕ) → resolved_on part call node ≡ Some x → resolved_on whole call node ≡ Some x
+    on_part : (node : FileId) → resolved_on part call node ≡ Some x → resolved_on whole call node ≡ Some x
     on_part node is = by (other_of part call.other) refl is
       where
-        by : (found : Option (Option ℕ)) → other_of part call.other ≡ found → option_and_then (resolved_with part call node) found ≡ Some x
+        by : (found : Option (Option FileId)) → other_of part call.other ≡ found → option_and_then (resolved_with part call node) found ≡ Some x
             → option_and_then (resolved_with whole call node) (other_of whole call.other) ≡ Some x
         by None none some = absurd cc
         by (Some other) has some =
@@ -115,7 +116,7 @@ module _ (Kept : ℕ → Type 0) (whole part : TreeState) (p : IsPartOf Kept who
     resolved_within : resolved part call ≡ Some x → resolved whole call ≡ Some x
     resolved_within is = by (file_of part call.node) refl is
       where
-        by : (found : Option ℕ) → file_of part call.node ≡ found → option_and_then (resolved_on part call) found ≡ Some x
+        by : (found : Option FileId) → file_of part call.node ≡ found → option_and_then (resolved_on part call) found ≡ Some x
             → option_and_then (resolved_on whole call) (file_of whole call.node) ≡ Some x
         by None none some = absurd cc
         by (Some node) has some = ap (option_and_then (resolved_on whole call)) (file_within part whole p.nodes call.node node has) ∙ on_part node some
@@ -133,7 +134,7 @@ module _ (Kept : ℕ → Type 0) (whole part : TreeState) (p : IsPartOf Kept who
 -- ---- open directories
 
 -- an open directory that is noted in both stays the same in both
-opened_both : (names : FinMap place_cmp ℕ) (directory : Option ℕ) (asked : ℕ) (opens : Bool) (one two : FinMap nat_cmp OpenDirectory) (q : ℕ) → get one q ≡ get two q
+opened_both : (names : FinMap place_cmp FileId) (directory : Option FileId) (asked : ℕ) (opens : Bool) (one two : FinMap nat_cmp OpenDirectory) (q : ℕ) → get one q ≡ get two q
     → get (with_opened names directory asked opens one) q ≡ get (with_opened names directory asked opens two) q
 opened_both names (Some directory) asked true one two q same =
     get-insert nat_cmp_total one asked (opened names directory) q
@@ -151,7 +152,7 @@ tied_numbers m n tie = by (nat_cmp m n) refl tie
     by Greater is tie = absurd cc
 
 -- one that is noted leaves the others
-opened_apart : (names : FinMap place_cmp ℕ) (directory : Option ℕ) (asked : ℕ) (opens : Bool) (handles : FinMap nat_cmp OpenDirectory) (q : ℕ) → (opens ≡ true → q ≡ asked → ⊥)
+opened_apart : (names : FinMap place_cmp FileId) (directory : Option FileId) (asked : ℕ) (opens : Bool) (handles : FinMap nat_cmp OpenDirectory) (q : ℕ) → (opens ≡ true → q ≡ asked → ⊥)
     → get (with_opened names directory asked opens handles) q ≡ get handles q
 opened_apart names (Some directory) asked true handles q apart = by (eq_by_cmp nat_cmp q asked) refl (get-insert nat_cmp_total handles asked (opened names directory) q)
   where
@@ -163,7 +164,7 @@ opened_apart names (Some directory) asked false handles q apart = refl
 opened_apart names None asked opens handles q apart = refl
 
 -- nothing is noted where none is opened
-none_opened : (names : FinMap place_cmp ℕ) (directory : Option ℕ) (asked : ℕ) (handles : FinMap nat_cmp OpenDirectory) → with_opened names directory asked false handles ≡ handles
+none_opened : (names : FinMap place_cmp FileId) (directory : Option FileId) (asked : ℕ) (handles : FinMap nat_cmp OpenDirectory) → with_opened names directory asked false handles ≡ handles
 none_opened names (Some directory) asked handles = refl
 none_opened names None asked handles = refl
 
@@ -174,13 +175,13 @@ OpensNone Kept call = opens_anew call ≡ true → Kept call.asked → ⊥
 -- ---- what an operation makes of both
 
 module _ (Kept : ℕ → Type 0) (whole part : TreeState) (p : IsPartOf Kept whole part) (x : Resolved) (call : PlainCall) (o : PlainOperation) (count : ℕ) where
-  abbrev given : List (NodeName × ℕ)
+  abbrev given : List (NodeName × FileId)
   given = given_in (setting whole.store x call o count []) call o
 
   abbrev edited : List Edit
   edited = (rule whole.store x o).edits
 
-  abbrev names_left : FinMap place_cmp ℕ
+  abbrev names_left : FinMap place_cmp FileId
   names_left = (changed whole.store x call.truncates o count).names
 
   each_kept : (q : ℕ) → Kept q → get (handles_after edited part.handles) q ≡ get (handles_after edited whole.handles) q

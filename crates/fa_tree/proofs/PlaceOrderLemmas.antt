@@ -1,8 +1,9 @@
 -- The names after an edit.
-use Rattle.std.proofs.Common.{◌≡◌, ◌≢◌, ◌⊎◌, ℕ, Bool, true, false, cond, Option, None, Some, refl, sym, ap, subst, ◌∙◌, inl, inr}
+use Rattle.std.proofs.Common.{◌≡◌, ◌≢◌, ◌⊎◌, Bool, true, false, cond, Option, None, Some, refl, sym, ap, subst, ◌∙◌, inl, inr}
 use Rattle.std.specs.Ordering.{eq_by_cmp, is_eq}
 use Rattle.std.specs.Cmp.{tied_itself}
 use Rattle.std.specs.FinMap.{FinMap, get, insert, remove, get-insert, get-remove, same_map}
+use Rattle.fa_tree.specs.declared.id.FileId.{FileId}
 use Rattle.fa_tree.specs.State.{Place, place_cmp}
 use Rattle.fa_tree.specs.parts.PlaceLaws.{place_cmp_total, places_apart, same_place}
 
@@ -11,7 +12,7 @@ pub place_self : (a : Place) → eq_by_cmp place_cmp a a ≡ true
 place_self a = ap is_eq (tied_itself place_cmp_total a)
 
 -- a name after one is added: the one that is added, or one that was there
-pub name_added : (names : FinMap place_cmp ℕ) (added q : Place) (file x : ℕ) → get (insert names added file) q ≡ Some x
+pub name_added : (names : FinMap place_cmp FileId) (added q : Place) (file : FileId) (x : FileId) → get (insert names added file) q ≡ Some x
     → ((q ≡ added) × (x ≡ file)) ⊎ (get names q ≡ Some x)
 name_added names added q file x is =
     by (eq_by_cmp place_cmp q added) refl (sym (get-insert place_cmp_total names added file q) ∙ is)
@@ -21,7 +22,7 @@ name_added names added q file x is =
     by false apart is = inr is
 
 -- a name after one is taken away: one that was there, at another place
-pub name_left : (names : FinMap place_cmp ℕ) (removed q : Place) (x : ℕ) → get (remove names removed) q ≡ Some x
+pub name_left : (names : FinMap place_cmp FileId) (removed q : Place) (x : FileId) → get (remove names removed) q ≡ Some x
     → (q ≢ removed) × (get names q ≡ Some x)
 name_left names removed q x is =
     by (eq_by_cmp place_cmp q removed) refl (sym (get-remove place_cmp_total names removed q) ∙ is)
@@ -31,7 +32,7 @@ name_left names removed q x is =
     by false apart is = ((λ same. let tie : eq_by_cmp place_cmp q removed ≡ true = subst (λ (p : Place). eq_by_cmp place_cmp q p ≡ true) same (place_self q) in absurd cc), is)
 
 -- a name that goes after one is added at another place may go before it
-pub name_goes_first : (names : FinMap place_cmp ℕ) (added removed : Place) (file : ℕ) → added ≢ removed
+pub name_goes_first : (names : FinMap place_cmp FileId) (added removed : Place) (file : FileId) → added ≢ removed
     → remove (insert names added file) removed ≡ insert (remove names removed) added file
 name_goes_first names added removed file apart = same_map place_cmp_total places_apart _ _ (λ q.
     get-remove place_cmp_total (insert names added file) removed q
@@ -41,7 +42,7 @@ name_goes_first names added removed file apart = same_map place_cmp_total places
     ∙ sym (get-insert place_cmp_total (remove names removed) added file q
     ∙ ap (cond (eq_by_cmp place_cmp q added) (Some file)) (get-remove place_cmp_total names removed q)))
   where
-    either : (a b : Bool) → (a ≡ true → b ≡ true → ⊥) → (x : Option ℕ) → cond a None (cond b (Some file) x) ≡ cond b (Some file) (cond a None x)
+    either : (a b : Bool) → (a ≡ true → b ≡ true → ⊥) → (x : Option FileId) → cond a None (cond b (Some file) x) ≡ cond b (Some file) (cond a None x)
     either true true clash x = absurd (clash refl refl)
     either true false clash x = refl
     either false b clash x = refl

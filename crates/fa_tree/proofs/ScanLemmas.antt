@@ -1,23 +1,24 @@
 -- What a scan of all slots finds.
 use Rattle.std.proofs.Common.{◌≡◌, ℕ, ◌+◌, Bool, true, false, cond, List, [], ◌∷◌, filter, length, Option, None, Some, refl, sym, ap, subst, ◌∙◌, arith}
-use Rattle.std.specs.Prelude.{◌==◌, ◌&&◌, ◌||◌, not, nat_eq, is_some, count_by, ◌↔◌, IsTrue}
+use Rattle.std.specs.Prelude.{◌&&◌, ◌||◌, not, is_some, count_by, ◌↔◌, IsTrue}
 use Rattle.std.specs.List.{find, list_any, IsDistinct, AllByRecursion}
 use Rattle.std.specs.Map.{keys_of}
 use Rattle.std.specs.Option.{option_and_then}
 use Rattle.std.specs.Ordering.{eq_by_cmp, is_eq}
 use Rattle.std.specs.declared.cmp.Ordering.{Ordering}
 use Rattle.std.specs.declared.cmp.Ordering.TheVariants.{Less, Equal, Greater}
-use Rattle.std.specs.Cmp.{nat_eq_equiv}
 use Rattle.std.specs.FinMap as map
 use Rattle.std.specs.FinMap.{FinMap, put, get-entries, entries-insert, len-entries, len-empty}
-use Rattle.std.proofs.lemmas.Bool.Decides.{nat_tests}
 use Rattle.std.proofs.lemmas.List.Sums.{length-filter}
 use Rattle.std.proofs.lemmas.Bool.{or_parts}
+use Rattle.fa_tree.specs.declared.id.FileId.{FileId}
+use Rattle.fa_tree.specs.contracts.id.FileIdPartialEq.TheImpl as derived
 use Rattle.fa_tree.specs.State as state
-use Rattle.fa_tree.specs.State.{place_cmp}
+use Rattle.fa_tree.specs.State.{place_cmp, file_eq}
 use Rattle.fa_tree.specs.declared.slots.Place.{Place}
 use Rattle.fa_tree.specs.declared.slots.Slot.{Slot}
 use Rattle.fa_tree.specs.declared.slots.Slot.TheVariants.{There, Gone}
+use Rattle.fa_tree.specs.parts.FileIdLaws.{same_file, file_tested, same_equal, self_equal}
 use Rattle.fa_tree.specs.parts.PlaceLaws.{place_cmp_total, places_apart, place_equiv, same_place}
 use Rattle.fa_tree.specs.parts.SlotParts.{place_of, is_at, slot_at, file_in, is_of, put_or_not, names_shown}
 use Rattle.fa_tree.proofs.EditedLemmas.{remove_none}
@@ -60,8 +61,8 @@ slot_behind e slots apart place slot found = by (is_at place e.0) refl
 -- ---- whether a directory is empty
 
 -- a name in a directory
-abbrev pub has_in : ℕ → Place × Slot → Bool
-has_in directory e = nat_eq e.0.directory directory && is_some (file_in e.1)
+abbrev pub has_in : FileId → Place × Slot → Bool
+has_in directory e = derived.eq-value.it e.0.directory directory && is_some (file_in e.1)
 
 no_file : (slot : Slot) → is_some (file_in slot) ≡ false → file_in slot ≡ None
 no_file (There file born) none = absurd (let clash : true ≡ false = none in cc)
@@ -72,7 +73,7 @@ some_file (There file born) none = absurd (let clash : Some file ≡ None = none
 some_file (Gone at) none = refl
 
 -- where no slot has a name in it the directory has none
-none_in : (directory : ℕ) (slots : List (Place × Slot)) → list_any (has_in directory) slots ≡ false → (name : List ℕ) → option_and_then file_in (slot_at slots (directory, name)) ≡ None
+none_in : (directory : FileId) (slots : List (Place × Slot)) → list_any (has_in directory) slots ≡ false → (name : List ℕ) → option_and_then file_in (slot_at slots (directory, name)) ≡ None
 none_in directory [] none name = refl
 none_in directory (e ∷ slots) none name =
     let parts = or_parts (has_in directory e) (list_any (has_in directory) slots) none in
@@ -82,24 +83,24 @@ none_in directory (e ∷ slots) none name =
         → option_and_then file_in (cond b (Some e.1) (slot_at slots (directory, name))) ≡ None
     by true test here later =
         let own : (directory, name) ≡ place_of e.0 = same_place (directory, name) (place_of e.0) test in
-        let in_it : nat_eq e.0.directory directory ≡ true = ap (λ p. nat_eq e.0.directory p.0) own ∙ nat_eq_equiv.refl e.0.directory in
+        let in_it : derived.eq-value.it e.0.directory directory ≡ true = ap (λ p. derived.eq-value.it e.0.directory p.0) own ∙ self_equal e.0.directory in
         no_file e.1 (sym (ap (λ b. b && is_some (file_in e.1)) in_it) ∙ here)
     by false test here later = later
 
 -- and where the directory has none no slot has
-none_has : (directory : ℕ) (slots : List (Place × Slot)) → AreApart slots → ((name : List ℕ) → option_and_then file_in (slot_at slots (directory, name)) ≡ None)
+none_has : (directory : FileId) (slots : List (Place × Slot)) → AreApart slots → ((name : List ℕ) → option_and_then file_in (slot_at slots (directory, name)) ≡ None)
     → list_any (has_in directory) slots ≡ false
 none_has directory [] apart none = refl
 none_has directory (e ∷ slots) apart none = ap (λ b. b || list_any (has_in directory) slots) here ∙ none_has directory slots apart.1 later
   where
-    by : (b : Bool) → nat_eq e.0.directory directory ≡ b → (b && is_some (file_in e.1)) ≡ false
+    by : (b : Bool) → derived.eq-value.it e.0.directory directory ≡ b → (b && is_some (file_in e.1)) ≡ false
     by true test =
-        let own : e.0.directory ≡ directory = grind (arith, nat_tests) in
+        let own : e.0.directory ≡ directory = same_equal e.0.directory directory test in
         some_file e.1 (sym (ap (option_and_then file_in) (slot_first e slots)) ∙ ap (λ d. option_and_then file_in (slot_at (e ∷ slots) (d, e.0.name.items))) own ∙ none e.0.name.items)
     by false test = refl
 
     here : has_in directory e ≡ false
-    here = by (nat_eq e.0.directory directory) refl
+    here = by (derived.eq-value.it e.0.directory directory) refl
 
     behind : (name : List ℕ) (found : Option Slot) → slot_at slots (directory, name) ≡ found → option_and_then file_in found ≡ None
     behind name None is = refl
@@ -113,7 +114,7 @@ not_true true is = absurd (let clash : false ≡ true = is in cc)
 not_true false is = refl
 
 -- a scan for a name in a directory tells whether it is empty
-pub scanned_empty : (directory : ℕ) (slots : List (Place × Slot)) → AreApart slots → (some : Bool) → some ≡ list_any (has_in directory) slots
+pub scanned_empty : (directory : FileId) (slots : List (Place × Slot)) → AreApart slots → (some : Bool) → some ≡ list_any (has_in directory) slots
     → IsTrue (not some) ↔ ((name : List ℕ) → map.get (names_shown slots) (directory, name) ≡ None)
 scanned_empty directory slots apart some any = (
   λ empty name. get-names_shown slots (directory, name) ∙ none_in directory slots (sym any ∙ not_true some empty) name,
@@ -122,16 +123,16 @@ scanned_empty directory slots apart some any = (
 
 -- ---- a place of a file
 
-of_file : (file : ℕ) (slot : Slot) → is_of file slot ≡ true → file_in slot ≡ Some file
-of_file file (There of born) is = let same : of ≡ file = grind (arith, nat_tests) in ap (λ n. Some n) same
+of_file : (file : FileId) (slot : Slot) → is_of file slot ≡ true → file_in slot ≡ Some file
+of_file file (There of born) is = let same : of ≡ file = same_file of file is in ap (λ n. Some n) same
 of_file file (Gone at) is = absurd (let clash : false ≡ true = is in cc)
 
-file_of : (file : ℕ) (slot : Slot) → file_in slot ≡ Some file → is_of file slot ≡ true
-file_of file (There of born) is = let same : of ≡ file = cc in grind (arith, nat_tests)
+file_of : (file : FileId) (slot : Slot) → file_in slot ≡ Some file → is_of file slot ≡ true
+file_of file (There of born) is = let same : of ≡ file = cc in file_tested of file same
 file_of file (Gone at) is = absurd (let clash : None ≡ Some file = is in cc)
 
 -- the first slot with a name for a file is at a place of the file
-found_at : (file : ℕ) (slots : List (Place × Slot)) → AreApart slots → (e : Place × Slot) → find (λ e. is_of file e.1) slots ≡ Some e
+found_at : (file : FileId) (slots : List (Place × Slot)) → AreApart slots → (e : Place × Slot) → find (λ e. is_of file e.1) slots ≡ Some e
     → (slot_at slots (place_of e.0) ≡ Some e.1) × (file_in e.1 ≡ Some file)
 found_at file [] apart e found = absurd (let clash : None ≡ Some e = found in cc)
 found_at file (x ∷ slots) apart e found = by (is_of file x.1) refl found (found_at file slots apart.1 e)
@@ -145,7 +146,7 @@ found_at file (x ∷ slots) apart e found = by (is_of file x.1) refl found (foun
     by false test found later = let rest = later found in (slot_behind x slots apart.0 (place_of e.0) e.1 rest.0, rest.1)
 
 -- where no slot has one no place is the file's
-found_none : (file : ℕ) (slots : List (Place × Slot)) → find (λ e. is_of file e.1) slots ≡ None → (place : state.Place) → option_and_then file_in (slot_at slots place) ≡ Some file → ⊥
+found_none : (file : FileId) (slots : List (Place × Slot)) → find (λ e. is_of file e.1) slots ≡ None → (place : state.Place) → option_and_then file_in (slot_at slots place) ≡ Some file → ⊥
 found_none file [] none place is = let clash : None ≡ Some file = is in absurd cc
 found_none file (e ∷ slots) none place is = by (is_of file e.1) refl none (is_at place e.0) is (λ rest is. found_none file slots rest place is)
   where
@@ -157,11 +158,11 @@ found_none file (e ∷ slots) none place is = by (is_of file e.1) refl none (is_
     by false test none false is later = later none is
 
 -- a scan for a name of a file finds one where there is one
-pub scanned_none : (file : ℕ) (slots : List (Place × Slot)) → find (λ e. is_of file e.1) slots ≡ None
-    → (directory : ℕ) (name : List ℕ) → map.get (names_shown slots) (directory, name) ≡ Some file → ⊥
+pub scanned_none : (file : FileId) (slots : List (Place × Slot)) → find (λ e. is_of file e.1) slots ≡ None
+    → (directory : FileId) (name : List ℕ) → map.get (names_shown slots) (directory, name) ≡ Some file → ⊥
 scanned_none file slots none directory name is = found_none file slots none (directory, name) (sym (get-names_shown slots (directory, name)) ∙ is)
 
-pub scanned_there : (file : ℕ) (slots : List (Place × Slot)) → AreApart slots → (e : Place × Slot) → find (λ e. is_of file e.1) slots ≡ Some e
+pub scanned_there : (file : FileId) (slots : List (Place × Slot)) → AreApart slots → (e : Place × Slot) → find (λ e. is_of file e.1) slots ≡ Some e
     → map.get (names_shown slots) (place_of e.0) ≡ Some file
 scanned_there file slots apart e found =
     let at = found_at file slots apart e found in
@@ -195,35 +196,35 @@ module _ {K X : Type 0} (R : K → K → Ordering) (p : K × X → Bool) where
       by Greater test none later = later_one (p e) (p (k, v)) (filter p (put R k v es)) (filter p es) (later none)
 
 -- the slots with a name for a file are as many as the names for it
-count_of : (file : ℕ) (slots : List (Place × Slot)) → AreApart slots
-    → length (filter (λ e. is_of file e.1) slots) ≡ length (filter (λ entry. entry.1 == file) (map.entries (names_shown slots)))
-count_of file [] apart = none (map.entries (names_shown [])) (sym (len-entries (names_shown [])) ∙ len-empty place_cmp ℕ)
+count_of : (file : FileId) (slots : List (Place × Slot)) → AreApart slots
+    → length (filter (λ e. is_of file e.1) slots) ≡ length (filter (λ entry. file_eq entry.1 file) (map.entries (names_shown slots)))
+count_of file [] apart = none (map.entries (names_shown [])) (sym (len-entries (names_shown [])) ∙ len-empty place_cmp FileId)
   where
-    none : (es : List (state.Place × ℕ)) → length es ≡ 0 → 0 ≡ length (filter (λ entry. entry.1 == file) es)
+    none : (es : List (state.Place × FileId)) → length es ≡ 0 → 0 ≡ length (filter (λ entry. file_eq entry.1 file) es)
     none [] long = refl
     none (e ∷ es) long = absurd (omega arith)
 count_of file (e ∷ slots) apart = by e.1 (count_of file slots apart.1)
   where
-    before : FinMap place_cmp ℕ
+    before : FinMap place_cmp FileId
     before = names_shown slots
 
     absent : map.get before (place_of e.0) ≡ None
     absent = get-names_shown slots (place_of e.0) ∙ ap (option_and_then file_in) apart.0
 
-    by : (slot : Slot) → length (filter (λ e. is_of file e.1) slots) ≡ length (filter (λ entry. entry.1 == file) (map.entries before))
+    by : (slot : Slot) → length (filter (λ e. is_of file e.1) slots) ≡ length (filter (λ entry. file_eq entry.1 file) (map.entries before))
         → length (cond (is_of file slot) (e ∷ filter (λ e. is_of file e.1) slots) (filter (λ e. is_of file e.1) slots))
-        ≡ length (filter (λ entry. entry.1 == file) (map.entries (put_or_not before (place_of e.0) (file_in slot))))
+        ≡ length (filter (λ entry. file_eq entry.1 file) (map.entries (put_or_not before (place_of e.0) (file_in slot))))
     by (There of born) same =
-        one (of == file) (filter (λ e. is_of file e.1) slots)
-        ∙ ap (λ n. cond (of == file) 1 0 + n) same
-        ∙ sym (ap (λ es. length (filter (λ entry. entry.1 == file) es)) (entries-insert place_cmp_total before (place_of e.0) of)
-        ∙ count_put place_cmp (λ entry. entry.1 == file) (place_of e.0) of (map.entries before) (sym (get-entries before (place_of e.0)) ∙ absent))
+        one (file_eq of file) (filter (λ e. is_of file e.1) slots)
+        ∙ ap (λ n. cond (file_eq of file) 1 0 + n) same
+        ∙ sym (ap (λ es. length (filter (λ entry. file_eq entry.1 file) es)) (entries-insert place_cmp_total before (place_of e.0) of)
+        ∙ count_put place_cmp (λ entry. file_eq entry.1 file) (place_of e.0) of (map.entries before) (sym (get-entries before (place_of e.0)) ∙ absent))
       where
         one : (b : Bool) (es : List (Place × Slot)) → length (cond b (e ∷ es) es) ≡ cond b 1 0 + length es
         one true es = omega arith
         one false es = omega arith
-    by (Gone at) same = same ∙ sym (ap (λ names. length (filter (λ entry. entry.1 == file) (map.entries names))) (remove_none place_cmp_total places_apart before (place_of e.0) absent))
+    by (Gone at) same = same ∙ sym (ap (λ names. length (filter (λ entry. file_eq entry.1 file) (map.entries names))) (remove_none place_cmp_total places_apart before (place_of e.0) absent))
 
-pub scanned_count : (file : ℕ) (slots : List (Place × Slot)) → AreApart slots
-    → length (filter (λ e. is_of file e.1) slots) ≡ count_by (λ entry. entry.1 == file) (map.entries (names_shown slots))
-scanned_count file slots apart = count_of file slots apart ∙ length-filter (λ entry. entry.1 == file) (map.entries (names_shown slots))
+pub scanned_count : (file : FileId) (slots : List (Place × Slot)) → AreApart slots
+    → length (filter (λ e. is_of file e.1) slots) ≡ count_by (λ entry. file_eq entry.1 file) (map.entries (names_shown slots))
+scanned_count file slots apart = count_of file slots apart ∙ length-filter (λ entry. file_eq entry.1 file) (map.entries (names_shown slots))

@@ -48,8 +48,8 @@ first_found : (calls : List PlainCall) (z place : ℕ) (call : PlainCall) → Ri
 first_found [] z place call rises there asked = absurd cc
 first_found (first ∷ calls) z zero call rises there asked =
     let same : first ≡ call = cc in
-    let number : first.asked ≡ z = ap (λ x. x.asked) same ∙ asked in
-    let test : (first.asked == z) ≡ true = grind (arith, nat_tests, number) in
+    let id : first.asked ≡ z = ap (λ x. x.asked) same ∙ asked in
+    let test : (first.asked == z) ≡ true = grind (arith, nat_tests, id) in
     rw test (ap (λ x. Some x) same)
 first_found (first ∷ calls) z (suc place) call rises there asked =
     let before : first.asked < call.asked = rises 0 (suc place) first call (omega arith) refl there in
@@ -64,7 +64,7 @@ pub asked_nowhere : (calls : List PlainCall) (z : ℕ) → ((place : ℕ) (call 
 asked_nowhere [] z none = refl
 asked_nowhere (first ∷ calls) z none =
     elim (cases_Bool (first.asked == z)) [
-      | inl test ↦ let number : first.asked ≡ z = grind (arith, nat_tests, test) in absurd (none 0 first refl number)
+      | inl test ↦ let id : first.asked ≡ z = grind (arith, nat_tests, test) in absurd (none 0 first refl id)
       | inr test ↦ rw test (asked_nowhere calls z (λ place. none (suc place)))
     ]
 

@@ -1,15 +1,16 @@
 -- What a walk over all slots tells of the names that stayed in a directory.
 use Rattle.std.proofs.Common.{◌≡◌, ℕ, ◌<◌, Bool, true, false, cond, List, [], ◌∷◌, length, Option, None, Some, zero, suc, refl, sym, ap, subst, ◌∙◌, arith}
-use Rattle.std.specs.Prelude.{nat_eq, is_some}
+use Rattle.std.specs.Prelude.{is_some}
 use Rattle.std.specs.Borrow.{Bor}
 use Rattle.std.specs.Fn.{Shared, FnReturnsAt}
 use Rattle.std.specs.List.{All, HoldsAt}
 use Rattle.std.specs.Option.{option_and_then}
-use Rattle.std.specs.Cmp.{nat_eq_equiv}
 use Rattle.std.specs.FinMap as map
-use Rattle.std.proofs.lemmas.Bool.Decides.{nat_tests}
+use Rattle.fa_tree.specs.declared.id.FileId.{FileId}
+use Rattle.fa_tree.specs.contracts.id.FileIdPartialEq.TheImpl as derived
 use Rattle.fa_tree.specs.declared.slots.Place.{Place}
 use Rattle.fa_tree.specs.declared.slots.Slot.{Slot}
+use Rattle.fa_tree.specs.parts.FileIdLaws.{same_equal, self_equal}
 use Rattle.fa_tree.specs.parts.PlaceLaws.{same_place}
 use Rattle.fa_tree.specs.parts.SlotParts.{place_of, is_at, slot_at}
 use Rattle.fa_tree.specs.parts.NameViews.{has_stayed, stayed_shown}
@@ -20,14 +21,14 @@ use Rattle.fa_tree.proofs.ScanLemmas.{AreApart, slot_first, slot_behind}
 pub answered : {F T R : Type 0} (g : Shared F (Bor T × Unit {0}) R) (f : F) (test : T → R) → ((p : Bor T) (r : R) → g.post f (p, tt) r → r ≡ test p.now) → (x : T) (r : R) → FnReturnsAt g f x r → r ≡ test x
 answered g f test tests x r returned = tests returned.shown r returned.says.met ∙ ap test returned.shows
 
-module _ (directory at : ℕ) (Answers : List ℕ → Bool → Type 0) where
+module _ (directory : FileId) (at : ℕ) (Answers : List ℕ → Bool → Type 0) where
   -- the test answers true at the name of a slot, if its file stayed in the directory
   abbrev pub Passes : Place × Slot → Type 0
-  Passes e = nat_eq e.0.directory directory ≡ true → is_some (has_stayed at e.1) ≡ true → Answers e.0.name.items true
+  Passes e = derived.eq-value.it e.0.directory directory ≡ true → is_some (has_stayed at e.1) ≡ true → Answers e.0.name.items true
 
   -- the file of a slot stayed in the directory, and the test answers false at its name
   abbrev pub Fails : Place × Slot → Type 0
-  Fails e = (nat_eq e.0.directory directory ≡ true) × (is_some (has_stayed at e.1) ≡ true) × Answers e.0.name.items false
+  Fails e = (derived.eq-value.it e.0.directory directory ≡ true) × (is_some (has_stayed at e.1) ≡ true) × Answers e.0.name.items false
 
   found_passes : (slots : List (Place × Slot)) → All Passes slots → (name : List ℕ) (slot : Slot) → slot_at slots (directory, name) ≡ Some slot → is_some (has_stayed at slot) ≡ true → Answers name true
   found_passes [] all name slot found there = absurd (let clash : None ≡ Some slot = found in cc)
@@ -40,11 +41,11 @@ module _ (directory at : ℕ) (Answers : List ℕ → Bool → Type 0) where
           let own : (directory, name) ≡ place_of e.0 = same_place (directory, name) (place_of e.0) test in
           let same : e.1 ≡ slot = cc in
           subst (λ q. Answers q true) (sym (ap (λ p. p.1) own))
-          (all 0 e (omega arith) (ap (λ p. nat_eq e.0.directory p.0) own ∙ nat_eq_equiv.refl e.0.directory) (ap (λ s. is_some (has_stayed at s)) same ∙ there))
+          (all 0 e (omega arith) (ap (λ p. derived.eq-value.it e.0.directory p.0) own ∙ self_equal e.0.directory) (ap (λ s. is_some (has_stayed at s)) same ∙ there))
       by false test found later = later found
 
   -- where all slots pass it answers true at each name that stayed
-  pub walked_all : (slots : List (Place × Slot)) → All Passes slots → (name : List ℕ) (file : ℕ) → map.get (stayed_shown directory at slots) name ≡ Some file → Answers name true
+  pub walked_all : (slots : List (Place × Slot)) → All Passes slots → (name : List ℕ) (file : FileId) → map.get (stayed_shown directory at slots) name ≡ Some file → Answers name true
   walked_all slots all name file stayed = by (slot_at slots (directory, name)) refl (sym (get-stayed_shown directory at slots name) ∙ stayed)
     where
       by : (x : Option Slot) → slot_at slots (directory, name) ≡ x → option_and_then (has_stayed at) x ≡ Some file → Answers name true
@@ -60,7 +61,7 @@ module _ (directory at : ℕ) (Answers : List ℕ → Bool → Type 0) where
 
   -- and where one fails it answers false at one
   pub walked_missing : (slots : List (Place × Slot)) → AreApart slots → (k : ℕ) × (k < length slots) × HoldsAt Fails slots k
-      → (name : List ℕ) × (file : ℕ) × (map.get (stayed_shown directory at slots) name ≡ Some file) × Answers name false
+      → (name : List ℕ) × (file : FileId) × (map.get (stayed_shown directory at slots) name ≡ Some file) × Answers name false
   walked_missing slots apart failed = by (has_stayed at slot) refl one.2.1
     where
       one : (e : Place × Slot) × (slot_at slots (place_of e.0) ≡ Some e.1) × Fails e
@@ -72,10 +73,10 @@ module _ (directory at : ℕ) (Answers : List ℕ → Bool → Type 0) where
       slot : Slot
       slot = one.0.1
 
-      by : (x : Option ℕ) → has_stayed at slot ≡ x → is_some x ≡ true → (name : List ℕ) × (file : ℕ) × (map.get (stayed_shown directory at slots) name ≡ Some file) × Answers name false
+      by : (x : Option FileId) → has_stayed at slot ≡ x → is_some x ≡ true → (name : List ℕ) × (file : FileId) × (map.get (stayed_shown directory at slots) name ≡ Some file) × Answers name false
       by None was is = absurd (let clash : false ≡ true = is in cc)
       by (Some file) was is =
-          let same : directory ≡ key.directory = grind (arith, nat_tests, one.2.0) in (
+          let same : directory ≡ key.directory = sym (same_equal key.directory directory one.2.0) in (
             key.name.items,
             file,
             get-stayed_shown directory at slots key.name.items

@@ -1,16 +1,17 @@
 -- What the changes of names and of files make of what is stored.
-use Rattle.std.proofs.Common.{◌≡◌, ℕ, zero, suc, true, false, if◌then◌else◌, List, [], ◌∷◌, Option, None, Some, Result, Ok, Err, slice_get, slice_set, refl, sym, ap, subst, ◌∙◌, arith}
-use Rattle.std.specs.Prelude.{◌==◌, OnOk, OnErr}
+use Rattle.std.proofs.Common.{◌≡◌, ℕ, Bool, true, false, cond, if◌then◌else◌, List, [], ◌∷◌, Option, None, Some, Result, Ok, Err, refl, sym, ap, subst, ◌∙◌}
+use Rattle.std.specs.Prelude.{OnOk, OnErr}
 use Rattle.std.specs.Option.{option_map_or, option_eq}
-use Rattle.std.specs.FinMap.{get}
-use Rattle.std.proofs.lemmas.Bool.{eqb-true}
-use Rattle.std.proofs.lemmas.Bool.Decides.{nat_tests}
+use Rattle.std.specs.FinMap.{FinMap, get, insert, get-insert, same_map}
 use Rattle.fa_bodies.specs.declared.mode.Kind.{Kind}
 use Rattle.fa_bodies.specs.declared.mode.Kind.TheVariants.{Fifo, CharDevice, Directory, BlockDevice, Regular, Symlink, Socket}
 use Rattle.fa_bodies.specs.declared.setattr.SetattrIn.{SetattrIn}
 use Rattle.fa_bodies.specs.FlagBits.{fattr_mode, fattr_size}
 use Rattle.fa_bodies.specs.Flags.{has_flag, fattr_bits}
-use Rattle.fa_tree.specs.State.{File, IsSymlink}
+use Rattle.fa_tree.specs.declared.id.FileId.{FileId}
+use Rattle.fa_tree.specs.contracts.id.FileIdPartialEq.TheImpl as derived
+use Rattle.fa_tree.specs.State.{File, file_cmp, file_eq, IsSymlink}
+use Rattle.fa_tree.proofs.FileLemmas.{insert_there}
 use Rattle.fa_tree.specs.Contents.{resized}
 use Rattle.fa_tree.specs.Rules.{with_file}
 use Rattle.fa_tree.specs.Edits.{names_after, open_after}
@@ -18,27 +19,28 @@ use Rattle.fa_tree.specs.Edits.Edit.{Added, Removed}
 use Rattle.fa_tree.specs.Lookups.{bits_set, file_set}
 use Rattle.fa_tree.specs.Renaming.{MayBeRenamed, moved, rename_edits, MayBeExchanged, exchanged}
 use Rattle.fa_tree.specs.Shape.{IsTree}
+use Rattle.fa_tree.specs.parts.FileIdLaws.{file_cmp_total, files_apart, file_self, same_equal}
 use Rattle.fa_tree.specs.parts.FileParts.{with_bits, with_bytes}
 use Rattle.fa_tree.specs.parts.NameParts.{NamesShown, edited}
 use Rattle.fa_tree.specs.parts.StoredParts.{StoredShown, mode_set, stored_edited, stored_with}
 use Rattle.fa_tree.proofs.EditedLemmas.{each_same}
-use Rattle.fa_tree.proofs.ShapeLemmas.{with_stay, files_keep_tree, removal_keeps_tree, renaming_keeps_tree, exchanging_keeps_tree}
+use Rattle.fa_tree.proofs.ShapeLemmas.{put_here, with_stay, files_keep_tree, removal_keeps_tree, renaming_keeps_tree, exchanging_keeps_tree}
 
 -- ---- names
 
 -- a name fewer
-pub removed_tree : (old new : NamesShown) (files : List File) (directory : ℕ) (name : List ℕ) → IsTree (record { names = old.names; files = files })
+pub removed_tree : (old new : NamesShown) (files : FinMap file_cmp File) (directory : FileId) (name : List ℕ) → IsTree (record { names = old.names; files = files })
     → new ≡ edited (Removed directory name ∷ []) old → IsTree (record { names = new.names; files = files })
 removed_tree old new files directory name tree gone = rw (gone) (removal_keeps_tree (record { names = old.names; files = files }) (directory, name) tree)
 
 -- what may be renamed in a state may be renamed in the same state
-pub still_renamed : (t u : StoredShown) (old_directory : ℕ) (old_name : List ℕ) (new_directory : ℕ) (new_name : List ℕ) → t ≡ u
+pub still_renamed : (t u : StoredShown) (old_directory : FileId) (old_name : List ℕ) (new_directory : FileId) (new_name : List ℕ) → t ≡ u
     → MayBeRenamed u.store old_directory old_name new_directory new_name → MayBeRenamed t.store old_directory old_name new_directory new_name
 still_renamed t u old_directory old_name new_directory new_name same may =
     subst (λ (v : StoredShown). MayBeRenamed v.store old_directory old_name new_directory new_name) (sym same) may
 
 -- a name moved, or not where memory was refused
-pub renamed_or_not : {A E : Type 0} (r : Result A E) (old new : NamesShown) (files : List File) (old_directory : ℕ) (old_name : List ℕ) (new_directory : ℕ) (new_name : List ℕ) (file : ℕ)
+pub renamed_or_not : {A E : Type 0} (r : Result A E) (old new : NamesShown) (files : FinMap file_cmp File) (old_directory : FileId) (old_name : List ℕ) (new_directory : FileId) (new_name : List ℕ) (file : FileId)
     → IsTree (record { names = old.names; files = files }) → MayBeRenamed (record { names = old.names; files = files }) old_directory old_name new_directory new_name
     → get old.names (old_directory, old_name) ≡ Some file
     → OnOk r (new ≡ edited (moved old_directory old_name new_directory new_name file (get old.names (new_directory, new_name))) old) → OnErr r (new ≡ old)
@@ -49,13 +51,13 @@ renamed_or_not (Ok v) old new files old_directory old_name new_directory new_nam
 renamed_or_not (Err e) old new files old_directory old_name new_directory new_name file tree may there renamed same = rw (same) tree
 
 -- what may be exchanged in a state may be exchanged in the same state
-pub still_exchanged : (t u : StoredShown) (old_directory : ℕ) (old_name : List ℕ) (new_directory : ℕ) (new_name : List ℕ) → t ≡ u
+pub still_exchanged : (t u : StoredShown) (old_directory : FileId) (old_name : List ℕ) (new_directory : FileId) (new_name : List ℕ) → t ≡ u
     → MayBeExchanged u.store old_directory old_name new_directory new_name → MayBeExchanged t.store old_directory old_name new_directory new_name
 still_exchanged t u old_directory old_name new_directory new_name same may =
     subst (λ (v : StoredShown). MayBeExchanged v.store old_directory old_name new_directory new_name) (sym same) may
 
 -- two names with each other's file
-pub exchanged_tree : (old new : NamesShown) (files : List File) (old_directory : ℕ) (old_name : List ℕ) (new_directory : ℕ) (new_name : List ℕ) (file other : ℕ)
+pub exchanged_tree : (old new : NamesShown) (files : FinMap file_cmp File) (old_directory : FileId) (old_name : List ℕ) (new_directory : FileId) (new_name : List ℕ) (file other : FileId)
     → IsTree (record { names = old.names; files = files }) → MayBeExchanged (record { names = old.names; files = files }) old_directory old_name new_directory new_name
     → get old.names (old_directory, old_name) ≡ Some file → get old.names (new_directory, new_name) ≡ Some other
     → new ≡ edited (exchanged old_directory old_name new_directory new_name file other) old → IsTree (record { names = new.names; files = files })
@@ -66,27 +68,27 @@ exchanged_tree old new files old_directory old_name new_directory new_name file 
     (exchanging_keeps_tree (record { names = old.names; files = files }) old_directory old_name new_directory new_name tree may)))
 
 -- what is found where the test says that it is this file
-pub found_same : (found : Option ℕ) (file : ℕ) → option_eq (λ m n. m == n) found (Some file) ≡ true → found ≡ Some file
+pub found_same : (found : Option FileId) (file : FileId) → option_eq derived.eq-value.it found (Some file) ≡ true → found ≡ Some file
 found_same None file test = absurd cc
-found_same (Some other) file test = ap (λ k. Some k) (eqb-true other file test)
+found_same (Some other) file test = ap (λ k. Some k) (same_equal other file test)
 
 -- no edit changes nothing
 unedited : (t : StoredShown) → stored_edited [] t ≡ t
 unedited t = λ i. record { store = t.store; handles = each_same (open_after []) t.handles (λ asked h is. refl) i }
 
 -- a name is not moved to another of the same file
-unmoved : (t : StoredShown) (old_directory : ℕ) (old_name : List ℕ) (new_directory : ℕ) (new_name : List ℕ) (file : ℕ)
+unmoved : (t : StoredShown) (old_directory : FileId) (old_name : List ℕ) (new_directory : FileId) (new_name : List ℕ) (file : FileId)
     → get t.store.names (old_directory, old_name) ≡ Some file → get t.store.names (new_directory, new_name) ≡ Some file
     → t ≡ stored_edited (rename_edits t.store old_directory old_name new_directory new_name) t
 unmoved t old_directory old_name new_directory new_name file there also =
-    let test : (file == file) ≡ true = grind (arith, nat_tests) in
+    let test : file_eq file file ≡ true = file_self file in
     sym (ap (λ found. stored_edited (option_map_or (λ f. moved old_directory old_name new_directory new_name f (get t.store.names (new_directory, new_name))) found []) t) there
     ∙ ap (λ found. stored_edited (moved old_directory old_name new_directory new_name file found) t) also
     ∙ ap (λ b. stored_edited (if b then [] else Removed old_directory old_name ∷ Removed new_directory new_name ∷ Added new_directory new_name file ∷ []) t) test
     ∙ unedited t)
 
 -- and so in the same state
-pub still_unmoved : (t u : StoredShown) (old_directory : ℕ) (old_name : List ℕ) (new_directory : ℕ) (new_name : List ℕ) (file : ℕ) → t ≡ u
+pub still_unmoved : (t u : StoredShown) (old_directory : FileId) (old_name : List ℕ) (new_directory : FileId) (new_name : List ℕ) (file : FileId) → t ≡ u
     → get t.store.names (old_directory, old_name) ≡ Some file → get t.store.names (new_directory, new_name) ≡ Some file
     → u ≡ stored_edited (rename_edits u.store old_directory old_name new_directory new_name) u
 still_unmoved t u old_directory old_name new_directory new_name file same there also =
@@ -95,61 +97,54 @@ still_unmoved t u old_directory old_name new_directory new_name file same there 
 
 -- ---- files
 
--- a file is put where it is
-set_own : (files : List File) (at : ℕ) (file : File) → slice_get files at ≡ Some file → slice_set files at file ≡ files
-set_own [] at file is = refl
-set_own (f ∷ files) zero file is = let own : f ≡ file = cc in ap (λ x. x ∷ files) (sym own)
-set_own (f ∷ files) (suc at) file is = ap (λ l. f ∷ l) (set_own files at file is)
-
 -- a change that leaves the file
-with_same : (files : List File) (at : ℕ) (change : File → File) → ((file : File) → slice_get files at ≡ Some file → change file ≡ file)
+with_same : (files : FinMap file_cmp File) (at : FileId) (change : File → File) → ((file : File) → get files at ≡ Some file → change file ≡ file)
     → with_file files at change ≡ files
-with_same files at change same = by (slice_get files at) refl
+with_same files at change same = by (get files at) refl
   where
-    by : (found : Option File) → slice_get files at ≡ found → option_map_or (λ file. slice_set files at (change file)) found files ≡ files
+    by : (found : Option File) → get files at ≡ found → option_map_or (λ file. insert files at (change file)) found files ≡ files
     by None is = refl
-    by (Some file) is = ap (slice_set files at) (same file is) ∙ set_own files at file is
-
--- what is set is there
-set_there : (files : List File) (number : ℕ) (file new : File) → slice_get files number ≡ Some file → slice_get (slice_set files number new) number ≡ Some new
-set_there [] number file new is = absurd cc
-set_there (f ∷ files) zero file new is = refl
-set_there (f ∷ files) (suc number) file new is = set_there files number file new is
+    by (Some file) is = ap (insert files at) (same file is) ∙ insert_there files at file is
 
 -- a file that a change was made of is there
-pub with_there : (files : List File) (number : ℕ) (file : File) (change : File → File) → slice_get files number ≡ Some file
-    → slice_get (with_file files number change) number ≡ Some (change file)
-with_there files number file change is =
-    ap (λ o. slice_get (option_map_or (λ f. slice_set files number (change f)) o files) number) is ∙ set_there files number file (change file) is
+pub with_there : (files : FinMap file_cmp File) (id : FileId) (file : File) (change : File → File) → get files id ≡ Some file
+    → get (with_file files id change) id ≡ Some (change file)
+with_there files id file change is =
+    ap (λ o. get (option_map_or (λ f. insert files id (change f)) o files) id) is ∙ put_here files id (change file)
 
 -- where there was none there is none
-pub with_none : (files : List File) (number : ℕ) (change : File → File) → slice_get files number ≡ None
-    → slice_get (with_file files number change) number ≡ None
-with_none files number change is =
-    ap (λ o. slice_get (option_map_or (λ f. slice_set files number (change f)) o files) number) is ∙ is
+pub with_none : (files : FinMap file_cmp File) (id : FileId) (change : File → File) → get files id ≡ None
+    → get (with_file files id change) id ≡ None
+with_none files id change is =
+    ap (λ o. get (option_map_or (λ f. insert files id (change f)) o files) id) is ∙ is
 
--- what is set twice is set once
-set_twice : (files : List File) (at : ℕ) (f g : File) → slice_set (slice_set files at f) at g ≡ slice_set files at g
-set_twice [] at f g = refl
-set_twice (file ∷ files) zero f g = refl
-set_twice (file ∷ files) (suc at) f g = ap (λ l. file ∷ l) (set_twice files at f g)
+-- what is put twice is put once
+put_twice : (files : FinMap file_cmp File) (at : FileId) (f g : File) → insert (insert files at f) at g ≡ insert files at g
+put_twice files at f g = same_map file_cmp_total files_apart _ _ (λ q.
+    get-insert file_cmp_total (insert files at f) at g q
+    ∙ ap (cond (file_eq q at) (Some g)) (get-insert file_cmp_total files at f q)
+    ∙ once (file_eq q at) (get files q) ∙ sym (get-insert file_cmp_total files at g q))
+  where
+    once : (b : Bool) (x : Option File) → cond b (Some g) (cond b (Some f) x) ≡ cond b (Some g) x
+    once true x = refl
+    once false x = refl
 
 -- what a change makes of the files, by the file that is there
-with_of : (files : List File) (at : ℕ) (change : File → File) (found : Option File) → slice_get files at ≡ found
-    → with_file files at change ≡ option_map_or (λ file. slice_set files at (change file)) found files
-with_of files at change found is = ap (λ o. option_map_or (λ file. slice_set files at (change file)) o files) is
+with_of : (files : FinMap file_cmp File) (at : FileId) (change : File → File) (found : Option File) → get files at ≡ found
+    → with_file files at change ≡ option_map_or (λ file. insert files at (change file)) found files
+with_of files at change found is = ap (λ o. option_map_or (λ file. insert files at (change file)) o files) is
 
 -- two changes of a file are one
-with_both : (files : List File) (at : ℕ) (first second : File → File) → with_file (with_file files at first) at second ≡ with_file files at (λ f. second (first f))
-with_both files at first second = by (slice_get files at) refl
+with_both : (files : FinMap file_cmp File) (at : FileId) (first second : File → File) → with_file (with_file files at first) at second ≡ with_file files at (λ f. second (first f))
+with_both files at first second = by (get files at) refl
   where
-    by : (found : Option File) → slice_get files at ≡ found → with_file (with_file files at first) at second ≡ with_file files at (λ f. second (first f))
+    by : (found : Option File) → get files at ≡ found → with_file (with_file files at first) at second ≡ with_file files at (λ f. second (first f))
     by None is =
         ap (λ l. with_file l at second) (with_of files at first None is) ∙ with_of files at second None is ∙ sym (with_of files at (λ f. second (first f)) None is)
     by (Some file) is =
         ap (λ l. with_file l at second) (with_of files at first (Some file) is)
-        ∙ with_of (slice_set files at (first file)) at second (Some (first file)) (set_there files at file (first file) is)
-        ∙ set_twice files at (first file) (second (first file))
+        ∙ with_of (insert files at (first file)) at second (Some (first file)) (put_here files at (first file))
+        ∙ put_twice files at (first file) (second (first file))
         ∙ sym (with_of files at (λ f. second (first f)) (Some file) is)
 
 -- ---- SETATTR
@@ -165,30 +160,30 @@ bits_stay a Regular bits test = rw (test) refl
 bits_stay a Socket bits test = rw (test) refl
 
 -- a tree stays one where a file is changed but not its type
-pub change_keeps_tree : (t : StoredShown) (files : List File) (file : ℕ) (change : File → File) → ((f : File) → (change f).kind ≡ f.kind) → IsTree t.store
+pub change_keeps_tree : (t : StoredShown) (files : FinMap file_cmp File) (file : FileId) (change : File → File) → ((f : File) → (change f).kind ≡ f.kind) → IsTree t.store
     → files ≡ with_file t.store.files file change → IsTree (record { names = t.store.names; files = files })
 change_keeps_tree t files file change kept tree set =
     rw (set) (files_keep_tree t.store (with_file t.store.files file change) (with_stay t.store.files file change kept) tree)
 
 -- or nothing where memory was refused
-pub changed_or_not : {A E : Type 0} (r : Result A E) (t : StoredShown) (files : List File) (file : ℕ) (change : File → File) → ((f : File) → (change f).kind ≡ f.kind) → IsTree t.store
+pub changed_or_not : {A E : Type 0} (r : Result A E) (t : StoredShown) (files : FinMap file_cmp File) (file : FileId) (change : File → File) → ((f : File) → (change f).kind ≡ f.kind) → IsTree t.store
     → OnOk r (files ≡ with_file t.store.files file change) → OnErr r (files ≡ t.store.files) → IsTree (record { names = t.store.names; files = files })
 changed_or_not (Ok v) t files file change kept tree set same = change_keeps_tree t files file change kept tree set
 changed_or_not (Err e) t files file change kept tree set same = rw (same) tree
 
 -- no mode leaves a file as it is
-pub mode_left : (t : StoredShown) (file : ℕ) (a : SetattrIn) → has_flag (fattr_bits a.valid) fattr_mode ≡ false
+pub mode_left : (t : StoredShown) (file : FileId) (a : SetattrIn) → has_flag (fattr_bits a.valid) fattr_mode ≡ false
     → t ≡ stored_with (with_file t.store.files file (mode_set a)) t
 mode_left t file a test =
     ap (λ files. stored_with files t) (sym (with_same t.store.files file (mode_set a)
     (λ f is. ap (λ bits. with_bits bits f) (bits_stay a f.kind f.bits test))))
 
 -- and so a symbolic link
-pub link_left : (t : StoredShown) (file : ℕ) (a : SetattrIn) → IsSymlink t.store file → t ≡ stored_with (with_file t.store.files file (mode_set a)) t
+pub link_left : (t : StoredShown) (file : FileId) (a : SetattrIn) → IsSymlink t.store file → t ≡ stored_with (with_file t.store.files file (mode_set a)) t
 link_left t file a link =
     ap (λ files. stored_with files t) (sym (with_same t.store.files file (mode_set a) (λ f is. ap (λ bits. with_bits bits f) (kept f is))))
   where
-    kept : (f : File) → slice_get t.store.files file ≡ Some f → bits_set a f.kind f.bits ≡ f.bits
+    kept : (f : File) → get t.store.files file ≡ Some f → bits_set a f.kind f.bits ≡ f.bits
     kept f is =
         let same : f ≡ link.0 = (let both : Some f ≡ Some link.0 = sym is ∙ link.1 in cc) in
         ap (λ kind. bits_set a kind f.bits) (ap (λ (x : File). x.kind) same ∙ link.2)
@@ -201,22 +196,22 @@ set_with : (a : SetattrIn) (file : File) → has_flag (fattr_bits a.valid) fattr
 set_with a file test = rw (test) refl
 
 -- the same change of each file
-with_alike : (files : List File) (at : ℕ) (f g : File → File) → ((file : File) → f file ≡ g file) → with_file files at f ≡ with_file files at g
-with_alike files at f g same = by (slice_get files at)
+with_alike : (files : FinMap file_cmp File) (at : FileId) (f g : File → File) → ((file : File) → f file ≡ g file) → with_file files at f ≡ with_file files at g
+with_alike files at f g same = by (get files at)
   where
-    by : (found : Option File) → option_map_or (λ file. slice_set files at (f file)) found files ≡ option_map_or (λ file. slice_set files at (g file)) found files
+    by : (found : Option File) → option_map_or (λ file. insert files at (f file)) found files ≡ option_map_or (λ file. insert files at (g file)) found files
     by None = refl
-    by (Some file) = ap (slice_set files at) (same file)
+    by (Some file) = ap (insert files at) (same file)
 
 -- what SETATTR leaves, without a size
-pub set_mode_only : (old between new : StoredShown) (file : ℕ) (a : SetattrIn) → has_flag (fattr_bits a.valid) fattr_size ≡ false → between ≡ old
+pub set_mode_only : (old between new : StoredShown) (file : FileId) (a : SetattrIn) → has_flag (fattr_bits a.valid) fattr_size ≡ false → between ≡ old
     → new ≡ stored_with (with_file between.store.files file (mode_set a)) between → new ≡ stored_with (with_file old.store.files file (file_set a)) old
 set_mode_only old between new file a test same set =
     set ∙ ap (λ t. stored_with (with_file t.store.files file (mode_set a)) t) same
     ∙ ap (λ files. stored_with files old) (with_alike old.store.files file (mode_set a) (file_set a) (λ f. set_without a f test))
 
 -- and with one
-pub set_whole : (old between new : StoredShown) (file : ℕ) (a : SetattrIn) → has_flag (fattr_bits a.valid) fattr_size ≡ true
+pub set_whole : (old between new : StoredShown) (file : FileId) (a : SetattrIn) → has_flag (fattr_bits a.valid) fattr_size ≡ true
     → between ≡ stored_with (with_file old.store.files file (with_bytes (λ bytes. resized bytes a.size))) old
     → new ≡ stored_with (with_file between.store.files file (mode_set a)) between → new ≡ stored_with (with_file old.store.files file (file_set a)) old
 set_whole old between new file a test same set =

@@ -9,6 +9,7 @@ use Rattle.fa_ledger.specs.Calls.{PlainCall}
 use Rattle.fa_ledger.specs.Operations.{PlainAction}
 use Rattle.fa_ledger.specs.Operations.PlainAction.{Getattr, Setattr, Readlink, Unlink, Rmdir, Rename2, Open, Read}
 use Rattle.fa_ledger.specs.Operations.PlainOperation.{Acts}
+use Rattle.fa_tree.specs.declared.id.FileId.{FileId}
 use Rattle.fa_tree.specs.State.{Store, TreeState, node_cmp}
 use Rattle.fa_tree.specs.Resolved.{Resolved}
 use Rattle.fa_tree.specs.Operations.{action_said}
@@ -18,8 +19,8 @@ use Rattle.fa_tree.specs.Refusals.{DoneAnd, MayGrow}
 use Rattle.fa_tree.specs.parts.StoredParts.{StoredShown, stored_noted}
 
 -- what is stored after a success, with the nodes after it, is the tree that it leaves
-pub left_tree : (old stored : StoredShown) (before nodes : FinMap node_cmp ℕ) (t : TreeState) (x : Resolved) (call : PlainCall) (a : PlainAction) (count : ℕ)
-    (given : List (NodeName × ℕ)) → ◌≡◌ {A = TreeState} (record { store = old.store; nodes = before; handles = old.handles }) t
+pub left_tree : (old stored : StoredShown) (before nodes : FinMap node_cmp FileId) (t : TreeState) (x : Resolved) (call : PlainCall) (a : PlainAction) (count : ℕ)
+    (given : List (NodeName × FileId)) → ◌≡◌ {A = TreeState} (record { store = old.store; nodes = before; handles = old.handles }) t
     → stored ≡ stored_noted x call.truncates a call.asked (opens_anew call) count old
     → given_in (setting t.store x call (Acts a) count []) call (Acts a) ≡ given → nodes ≡ nodes_after given before
     → ◌≡◌ {A = TreeState} (record { store = stored.store; nodes = nodes; handles = stored.handles }) (tree_done t x call (Acts a) count)
@@ -29,12 +30,12 @@ left_tree old stored before nodes t x call a count given same left is now =
     same (λ told. rw (left, now, sym told) refl) is
 
 -- without files no name is given for one
-unbound : (names : List NodeName) (given : NodeName × ℕ) → bound names [] ≡ given ∷ [] → ⊥
+unbound : (names : List NodeName) (given : NodeName × FileId) → bound names [] ≡ given ∷ [] → ⊥
 unbound [] given is = cc
 unbound (name ∷ names) given is = cc
 
 -- an action whose success gives a name to a node may grow
-pub giving_grows : (before after : Store) (x : Resolved) (direct : Bool) (names : List NodeName) (a : PlainAction) (given : NodeName × ℕ)
+pub giving_grows : (before after : Store) (x : Resolved) (direct : Bool) (names : List NodeName) (a : PlainAction) (given : NodeName × FileId)
     → bound names (action_said before after x direct a).files ≡ given ∷ [] → MayGrow a
 giving_grows before after x direct names (Getattr (Succeeds a)) given is = absurd (unbound names given is)
 giving_grows before after x direct names (Getattr other) given is = absurd (unbound names given is)

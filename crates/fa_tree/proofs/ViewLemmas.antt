@@ -1,16 +1,17 @@
 -- What slots and openings show after each of the table's changes.
 use Rattle.std.proofs.Common.{◌≡◌, ℕ, ◌+◌, ◌<◌, ◌≤◌, Bool, true, false, cond, List, [], ◌∷◌, ◌++◌, length, Option, None, Some, refl, sym, ap, subst, ◌∙◌, arith}
-use Rattle.std.specs.Prelude.{◌==◌, ◌&&◌, ◌||◌, nat_eq, nat_lt, is_some, if◌then◌else◌}
+use Rattle.std.specs.Prelude.{◌&&◌, ◌||◌, nat_lt, is_some, if◌then◌else◌}
 use Rattle.std.specs.Option.{option_map, option_and_then, option_map_or}
 use Rattle.std.specs.Ordering.{nat_cmp, eq_by_cmp}
-use Rattle.std.specs.Cmp.{nat_cmp_total, nat_eq_equiv}
+use Rattle.std.specs.Cmp.{nat_cmp_total}
 use Rattle.std.specs.Cmp.Lexicographic.{nat_list_cmp_total}
 use Rattle.std.specs.FinMap as map
 use Rattle.std.specs.FinMap.{FinMap, same_map, nat_cmp-IsAntisymmetric}
 use Rattle.std.specs.FinSet as set
 use Rattle.std.specs.FinSet.{same_set}
 use Rattle.std.proofs.lemmas.Bool.Decides.{nat_tests}
-use Rattle.fa_tree.specs.State.{place_cmp, name_cmp, OpenDirectory}
+use Rattle.fa_tree.specs.declared.id.FileId.{FileId}
+use Rattle.fa_tree.specs.State.{place_cmp, name_cmp, OpenDirectory, file_eq}
 use Rattle.fa_tree.specs.Edits.{each_open, open_after, open_after_one}
 use Rattle.fa_tree.specs.Edits.Edit.{Added, Removed}
 use Rattle.fa_tree.specs.Opening.{opened}
@@ -18,6 +19,7 @@ use Rattle.fa_tree.specs.declared.open.Opening.{Opening}
 use Rattle.fa_tree.specs.declared.slots.Place.{Place}
 use Rattle.fa_tree.specs.declared.slots.Slot.{Slot}
 use Rattle.fa_tree.specs.declared.slots.Slot.TheVariants.{There, Gone}
+use Rattle.fa_tree.specs.parts.FileIdLaws.{file_equiv}
 use Rattle.fa_tree.specs.parts.PlaceLaws.{place_cmp_total, places_apart, names_apart, place_tests}
 use Rattle.fa_tree.specs.parts.SlotParts.{slot_at, gone_at, file_in, names_shown, IsChangedAt}
 use Rattle.fa_tree.specs.parts.NameParts.{StaysThere, edited, opened_by}
@@ -28,7 +30,7 @@ use Rattle.fa_tree.proofs.NameLemmas.{get-each_open, get-opened, contains-opened
 
 -- what stands for an opening where each directory is changed
 each_changed : (slots other : List (Place × Slot)) (change : OpenDirectory → OpenDirectory) (n : ℕ)
-    → ((directory at : ℕ) → at < n → open_shown other directory at ≡ change (open_shown slots directory at))
+    → ((directory : FileId) (at : ℕ) → at < n → open_shown other directory at ≡ change (open_shown slots directory at))
     → (openings : List Opening) (at : ℕ) → at + length openings ≤ n
     → (handles before : FinMap nat_cmp OpenDirectory) → ((asked : ℕ) → map.get handles asked ≡ option_map change (map.get before asked))
     → (asked : ℕ) → map.get (handles_shown other at handles openings) asked ≡ option_map change (map.get (handles_shown slots at before openings) asked)
@@ -48,7 +50,7 @@ each_changed slots other change n changed (o ∷ openings) at few handles before
 
 -- the open directories where each is changed
 pub handles_changed : (slots other : List (Place × Slot)) (openings : List Opening) (change : OpenDirectory → OpenDirectory)
-    → ((directory at : ℕ) → at < length openings → open_shown other directory at ≡ change (open_shown slots directory at))
+    → ((directory : FileId) (at : ℕ) → at < length openings → open_shown other directory at ≡ change (open_shown slots directory at))
     → handles_shown other 0 map.empty openings ≡ each_open change (handles_shown slots 0 map.empty openings)
 handles_changed slots other openings change changed =
     same_map nat_cmp_total nat_cmp-IsAntisymmetric _ _ (λ asked.
@@ -68,7 +70,7 @@ handles_push slots (p ∷ openings) at handles o =
     ∙ ap (λ n. map.insert (handles_shown slots at handles (p ∷ openings)) o.asked (open_shown slots o.directory n)) more
 
 -- what holds of the open directories before, and of each that slots show
-each_shown : (slots : List (Place × Slot)) (P : OpenDirectory → Type 0) → ((directory at : ℕ) → P (open_shown slots directory at))
+each_shown : (slots : List (Place × Slot)) (P : OpenDirectory → Type 0) → ((directory : FileId) (at : ℕ) → P (open_shown slots directory at))
     → (openings : List Opening) (at : ℕ) (handles : FinMap nat_cmp OpenDirectory) → ((asked : ℕ) (h : OpenDirectory) → map.get handles asked ≡ Some h → P h)
     → (asked : ℕ) (h : OpenDirectory) → map.get (handles_shown slots at handles openings) asked ≡ Some h → P h
 each_shown slots P each [] at handles before = before
@@ -84,16 +86,16 @@ each_shown slots P each (o ∷ openings) at handles before =
 -- whose file stayed has its name still
 pub shown_stays : (slots : List (Place × Slot)) (openings : List Opening) → StaysThere (shown slots openings)
 shown_stays slots openings =
-    each_shown slots (λ h. (name : List ℕ) (file : ℕ) → map.get h.stayed name ≡ Some file → map.get (names_shown slots) (h.directory, name) ≡ Some file)
+    each_shown slots (λ h. (name : List ℕ) (file : FileId) → map.get h.stayed name ≡ Some file → map.get (names_shown slots) (h.directory, name) ≡ Some file)
     (λ directory at name file found.
     get-names_shown slots (directory, name) ∙ stays at (slot_at slots (directory, name)) file (sym (get-stayed_shown directory at slots name) ∙ found))
     openings 0 map.empty (λ asked h is. absurd (let clash : None ≡ Some h = sym (map.get-empty nat_cmp asked) ∙ is in cc))
   where
-    late : (b : Bool) (of file : ℕ) → cond b None (Some of) ≡ Some file → Some of ≡ Some file
+    late : (b : Bool) (of file : FileId) → cond b None (Some of) ≡ Some file → Some of ≡ Some file
     late true of file found = absurd (let clash : None ≡ Some file = found in cc)
     late false of file found = found
 
-    stays : (at : ℕ) (slot : Option Slot) (file : ℕ) → option_and_then (has_stayed at) slot ≡ Some file → option_and_then file_in slot ≡ Some file
+    stays : (at : ℕ) (slot : Option Slot) (file : FileId) → option_and_then (has_stayed at) slot ≡ Some file → option_and_then file_in slot ≡ Some file
     stays at None file found = absurd (let clash : None ≡ Some file = found in cc)
     stays at (Some (There of born)) file found = late (nat_lt at born) of file found
     stays at (Some (Gone gone)) file found = absurd (let clash : None ≡ Some file = found in cc)
@@ -113,7 +115,7 @@ stayed_now n (Some (There file born)) within =
 stayed_now n (Some (Gone at)) within = refl
 
 -- what is in a directory now has been in it since now, and stayed
-pub opened_now : (slots : List (Place × Slot)) (n directory : ℕ) → AreStampsWithin n slots → open_shown slots directory n ≡ opened (names_shown slots) directory
+pub opened_now : (slots : List (Place × Slot)) (n : ℕ) (directory : FileId) → AreStampsWithin n slots → open_shown slots directory n ≡ opened (names_shown slots) directory
 opened_now slots n directory within = λ i. record { directory = directory; since = same_since i; stayed = same_stayed i }
   where
     same_since : since_shown directory n slots ≡ (opened (names_shown slots) directory).since
@@ -146,36 +148,36 @@ shown_push slots openings o within = λ i. record { names = names_shown slots; h
 -- ---- a write at one place
 
 -- at names of its directory the write is seen by the name, and at those of others not at all
-written_in : (old new : List (Place × Slot)) (directory : ℕ) (name : List ℕ) (change : Option Slot → Option Slot) → IsChangedAt (directory, name) change old new
-    → (other : ℕ) (b : Bool) → nat_eq other directory ≡ b → (q : List ℕ)
+written_in : (old new : List (Place × Slot)) (directory : FileId) (name : List ℕ) (change : Option Slot → Option Slot) → IsChangedAt (directory, name) change old new
+    → (other : FileId) (b : Bool) → file_eq other directory ≡ b → (q : List ℕ)
     → slot_at new (other, q) ≡ cond (b && eq_by_cmp name_cmp q name) (change (slot_at old (other, q))) (slot_at old (other, q))
 written_in old new directory name change wrote other b test q =
     wrote (other, q)
     ∙ ap (λ t. cond t (change (slot_at old (other, q))) (slot_at old (other, q))) (place_tests (other, q) (directory, name) ∙ ap (λ t. t && eq_by_cmp name_cmp q name) test)
 
 -- an open directory of another number, and one of this number
-removed_elsewhere : (directory : ℕ) (name : List ℕ) (h : OpenDirectory) → (directory == h.directory) ≡ false → open_after_one (Removed directory name) h ≡ h
+removed_elsewhere : (directory : FileId) (name : List ℕ) (h : OpenDirectory) → (file_eq directory h.directory) ≡ false → open_after_one (Removed directory name) h ≡ h
 removed_elsewhere directory name h test =
     ap (λ b. if b then record { directory = h.directory; since = h.since; stayed = map.remove h.stayed name } else h) test
 
-added_elsewhere : (directory : ℕ) (name : List ℕ) (file : ℕ) (h : OpenDirectory) → (directory == h.directory) ≡ false → open_after_one (Added directory name file) h ≡ h
+added_elsewhere : (directory : FileId) (name : List ℕ) (file : FileId) (h : OpenDirectory) → (file_eq directory h.directory) ≡ false → open_after_one (Added directory name file) h ≡ h
 added_elsewhere directory name file h test =
     ap (λ b. if b then record { directory = h.directory; since = set.insert h.since name; stayed = h.stayed } else h) test
 
-removed_here : (directory : ℕ) (name : List ℕ) (h : OpenDirectory) → (directory == h.directory) ≡ true
+removed_here : (directory : FileId) (name : List ℕ) (h : OpenDirectory) → (file_eq directory h.directory) ≡ true
     → open_after_one (Removed directory name) h ≡ record { directory = h.directory; since = h.since; stayed = map.remove h.stayed name }
 removed_here directory name h test =
     ap (λ b. if b then record { directory = h.directory; since = h.since; stayed = map.remove h.stayed name } else h) test
 
-added_here : (directory : ℕ) (name : List ℕ) (file : ℕ) (h : OpenDirectory) → (directory == h.directory) ≡ true
+added_here : (directory : FileId) (name : List ℕ) (file : FileId) (h : OpenDirectory) → (file_eq directory h.directory) ≡ true
     → open_after_one (Added directory name file) h ≡ record { directory = h.directory; since = set.insert h.since name; stayed = h.stayed }
 added_here directory name file h test =
     ap (λ b. if b then record { directory = h.directory; since = set.insert h.since name; stayed = h.stayed } else h) test
 
-module _ (old new : List (Place × Slot)) (directory : ℕ) (name : List ℕ) (change : Option Slot → Option Slot) (wrote : IsChangedAt (directory, name) change old new)
-    (at other : ℕ) where
+module _ (old new : List (Place × Slot)) (directory : FileId) (name : List ℕ) (change : Option Slot → Option Slot) (wrote : IsChangedAt (directory, name) change old new)
+    (at : ℕ) (other : FileId) where
   -- a directory of which the place is not
-  elsewhere : nat_eq other directory ≡ false → open_shown new other at ≡ open_shown old other at
+  elsewhere : file_eq other directory ≡ false → open_shown new other at ≡ open_shown old other at
   elsewhere test = λ i. record { directory = other; since = same_since i; stayed = same_stayed i }
     where
       same_since : since_shown other at new ≡ since_shown other at old
@@ -191,7 +193,7 @@ module _ (old new : List (Place × Slot)) (directory : ℕ) (name : List ℕ) (c
           ∙ sym (get-stayed_shown other at old q))
 
   -- and one of which it is: a file that came or went since then has not stayed
-  stayed_here : nat_eq other directory ≡ true → ((slot : Option Slot) → option_and_then (has_stayed at) (change slot) ≡ None)
+  stayed_here : file_eq other directory ≡ true → ((slot : Option Slot) → option_and_then (has_stayed at) (change slot) ≡ None)
       → stayed_shown other at new ≡ map.remove (stayed_shown other at old) name
   stayed_here test gone = same_map nat_list_cmp_total names_apart _ _ (λ q.
       get-stayed_shown other at new q
@@ -204,7 +206,7 @@ module _ (old new : List (Place × Slot)) (directory : ℕ) (name : List ℕ) (c
       stays_not true slot = gone slot
       stays_not false slot = refl
 
-  since_added : nat_eq other directory ≡ true → ((slot : Option Slot) → option_map_or (was_since at) (change slot) false ≡ true)
+  since_added : file_eq other directory ≡ true → ((slot : Option Slot) → option_map_or (was_since at) (change slot) false ≡ true)
       → since_shown other at new ≡ set.insert (since_shown other at old) name
   since_added test come = same_set nat_list_cmp_total names_apart _ _ (λ q.
       contains-since_shown other at new q
@@ -217,7 +219,7 @@ module _ (old new : List (Place × Slot)) (directory : ℕ) (name : List ℕ) (c
       comes true slot = come slot
       comes false slot = refl
 
-  since_kept : nat_eq other directory ≡ true → ((slot : Option Slot) → option_map_or (was_since at) (change slot) false ≡ option_map_or (was_since at) slot false)
+  since_kept : file_eq other directory ≡ true → ((slot : Option Slot) → option_map_or (was_since at) (change slot) false ≡ option_map_or (was_since at) slot false)
       → since_shown other at new ≡ since_shown other at old
   since_kept test kept = same_set nat_list_cmp_total names_apart _ _ (λ q.
       contains-since_shown other at new q
@@ -231,7 +233,7 @@ module _ (old new : List (Place × Slot)) (directory : ℕ) (name : List ℕ) (c
 
 -- ---- a name is put
 
-module _ (old new : List (Place × Slot)) (directory : ℕ) (name : List ℕ) (file n : ℕ)
+module _ (old new : List (Place × Slot)) (directory : FileId) (name : List ℕ) (file : FileId) (n : ℕ)
     (wrote : IsChangedAt (directory, name) (λ slot. Some (There file n)) old new) where
   names_put : names_shown new ≡ map.insert (map.remove (names_shown old) (directory, name)) (directory, name) file
   names_put = same_map place_cmp_total places_apart _ _ (λ q.
@@ -245,15 +247,15 @@ module _ (old new : List (Place × Slot)) (directory : ℕ) (name : List ℕ) (f
       puts true slot = refl
       puts false slot = refl
 
-  open_put : (other at : ℕ) → at < n → open_shown new other at ≡ open_after (Removed directory name ∷ Added directory name file ∷ []) (open_shown old other at)
-  open_put other at before = by (directory == other) refl
+  open_put : (other : FileId) (at : ℕ) → at < n → open_shown new other at ≡ open_after (Removed directory name ∷ Added directory name file ∷ []) (open_shown old other at)
+  open_put other at before = by (file_eq directory other) refl
     where
       came : nat_lt at n ≡ true
       came = grind (arith, nat_tests)
 
-      by : (b : Bool) → (directory == other) ≡ b → open_shown new other at ≡ open_after (Removed directory name ∷ Added directory name file ∷ []) (open_shown old other at)
+      by : (b : Bool) → (file_eq directory other) ≡ b → open_shown new other at ≡ open_after (Removed directory name ∷ Added directory name file ∷ []) (open_shown old other at)
       by true test =
-          let same = nat_eq_equiv.symm other directory ∙ test in
+          let same = file_equiv.symm other directory ∙ test in
           let removed = removed_here directory name (open_shown old other at) test in
           let added = added_here directory name file (record { directory = other; since = since_shown other at old; stayed = map.remove (stayed_shown other at old) name }) test in
           (λ i. record {
@@ -263,7 +265,7 @@ module _ (old new : List (Place × Slot)) (directory : ℕ) (name : List ℕ) (f
           })
           ∙ sym (ap (open_after_one (Added directory name file)) removed ∙ added)
       by false test =
-          let other_one = nat_eq_equiv.symm other directory ∙ test in
+          let other_one = file_equiv.symm other directory ∙ test in
           elsewhere old new directory name (λ slot. Some (There file n)) wrote at other other_one
           ∙ sym (ap (open_after_one (Added directory name file)) (removed_elsewhere directory name (open_shown old other at) test)
           ∙ added_elsewhere directory name file (open_shown old other at) test)
@@ -276,7 +278,7 @@ module _ (old new : List (Place × Slot)) (directory : ℕ) (name : List ℕ) (f
 
 -- ---- a name is taken away
 
-module _ (old new : List (Place × Slot)) (directory : ℕ) (name : List ℕ) (n : ℕ)
+module _ (old new : List (Place × Slot)) (directory : FileId) (name : List ℕ) (n : ℕ)
     (wrote : IsChangedAt (directory, name) (gone_at n) old new) where
   names_removed : names_shown new ≡ map.remove (names_shown old) (directory, name)
   names_removed = same_map place_cmp_total places_apart _ _ (λ q.
@@ -291,8 +293,8 @@ module _ (old new : List (Place × Slot)) (directory : ℕ) (name : List ℕ) (n
       goes true (Some (Gone before)) = refl
       goes false slot = refl
 
-  open_removed : (other at : ℕ) → at < n → open_shown new other at ≡ open_after (Removed directory name ∷ []) (open_shown old other at)
-  open_removed other at before = by (directory == other) refl
+  open_removed : (other : FileId) (at : ℕ) → at < n → open_shown new other at ≡ open_after (Removed directory name ∷ []) (open_shown old other at)
+  open_removed other at before = by (file_eq directory other) refl
     where
       went : nat_lt at n ≡ true
       went = grind (arith, nat_tests)
@@ -307,9 +309,9 @@ module _ (old new : List (Place × Slot)) (directory : ℕ) (name : List ℕ) (n
       gone (Some (There file born)) = refl
       gone (Some (Gone before)) = refl
 
-      by : (b : Bool) → (directory == other) ≡ b → open_shown new other at ≡ open_after (Removed directory name ∷ []) (open_shown old other at)
+      by : (b : Bool) → (file_eq directory other) ≡ b → open_shown new other at ≡ open_after (Removed directory name ∷ []) (open_shown old other at)
       by true test =
-          let same = nat_eq_equiv.symm other directory ∙ test in
+          let same = file_equiv.symm other directory ∙ test in
           (λ i. record {
             directory = other;
             since = since_kept old new directory name (gone_at n) wrote at other same kept i;
@@ -317,7 +319,7 @@ module _ (old new : List (Place × Slot)) (directory : ℕ) (name : List ℕ) (n
           })
           ∙ sym (removed_here directory name (open_shown old other at) test)
       by false test =
-          let other_one = nat_eq_equiv.symm other directory ∙ test in
+          let other_one = file_equiv.symm other directory ∙ test in
           elsewhere old new directory name (gone_at n) wrote at other other_one ∙ sym (removed_elsewhere directory name (open_shown old other at) test)
 
   pub shown_removed : (openings : List Opening) → length openings ≡ n → shown new openings ≡ edited (Removed directory name ∷ []) (shown old openings)

@@ -6,15 +6,16 @@ use Rattle.std.specs.Ordering.{nat_cmp}
 use Rattle.std.specs.FinMap as map
 use Rattle.std.specs.FinMap.{FinMap}
 use Rattle.std.specs.FinSet as set
-use Rattle.fa_tree.specs.State.{place_cmp, OpenDirectory}
+use Rattle.fa_tree.specs.declared.id.FileId.{FileId}
+use Rattle.fa_tree.specs.State.{place_cmp, file_eq, OpenDirectory}
 
 -- one name more, for a file, or one fewer
 pub data Edit : Type 0 where
-  Added : (directory : ℕ) (name : List ℕ) (file : ℕ) → Edit
-  Removed : (directory : ℕ) (name : List ℕ) → Edit
+  Added : (directory : FileId) (name : List ℕ) (file : FileId) → Edit
+  Removed : (directory : FileId) (name : List ℕ) → Edit
 
 -- the names after these edits
-abbrev pub names_after : List Edit → FinMap place_cmp ℕ → FinMap place_cmp ℕ
+abbrev pub names_after : List Edit → FinMap place_cmp FileId → FinMap place_cmp FileId
 names_after [] names = names
 names_after (Added directory name file ∷ edits) names = names_after edits (map.insert names (directory, name) file)
 names_after (Removed directory name ∷ edits) names = names_after edits (map.remove names (directory, name))
@@ -23,9 +24,9 @@ names_after (Removed directory name ∷ edits) names = names_after edits (map.re
 -- has not when it is added again.
 abbrev pub open_after_one : Edit → OpenDirectory → OpenDirectory
 open_after_one (Added directory name file) h =
-    (if directory == h.directory then record { directory = h.directory; since = set.insert h.since name; stayed = h.stayed } else h)
+    (if file_eq directory h.directory then record { directory = h.directory; since = set.insert h.since name; stayed = h.stayed } else h)
 open_after_one (Removed directory name) h =
-    (if directory == h.directory then record { directory = h.directory; since = h.since; stayed = map.remove h.stayed name } else h)
+    (if file_eq directory h.directory then record { directory = h.directory; since = h.since; stayed = map.remove h.stayed name } else h)
 
 -- an open directory after these edits
 abbrev pub open_after : List Edit → OpenDirectory → OpenDirectory

@@ -1,5 +1,5 @@
 -- What holds of steps.
-use Rattle.std.specs.Prelude.{◌≡◌, ◌↔◌, ℕ, ℤ, Bool, List, [], Contains, Option, Some, option_map}
+use Rattle.std.specs.Prelude.{◌≡◌, ◌⊎◌, ◌↔◌, ℕ, ℤ, Bool, List, [], Contains, Option, Some, option_map}
 use Rattle.std.specs.Ordering.{nat_cmp}
 use Rattle.std.specs.FinMap.{FinMap, get}
 use Rattle.fa_capture.specs.Checks.{AllHold, FirstFailure}
@@ -11,8 +11,10 @@ use Rattle.fa_bodies.specs.Requests.{PlainBody}
 use Rattle.fa_bodies.specs.Replies.{PlainReply}
 use Rattle.fa_ledger.specs.Kinds.{OnlyReads}
 use Rattle.fa_ledger.specs.Operations.{PlainOperation, operation_of}
+use Rattle.fa_tree.specs.declared.id.FileId.{FileId}
+use Rattle.fa_tree.specs.declared.id.FileId.TheVariants as file_id
 use Rattle.fa_tree.specs.Rules.{HasCause}
-use Rattle.fa_tree.specs.State.{OpenDirectory, Store, TreeState, IsOfKind}
+use Rattle.fa_tree.specs.State.{OpenDirectory, Store, TreeState, IsFile, IsOfKind}
 use Rattle.fa_tree.specs.Resolved.{Resolved}
 use Rattle.fa_tree.specs.Operations.{rule, changed, count_written}
 use Rattle.fa_tree.specs.Edits.{Edit, open_after, handles_after}
@@ -68,23 +70,23 @@ EachOpenByItself =
 -- A name of a node stands for the same file after a step.
 abbrev pub NamesKeepFiles : Type 0
 NamesKeepFiles =
-    (old new : TreeState) (call : PlainCall) (wrote : Option ℕ) (so_far : List PlainDirent) (name : NodeName) (file : ℕ)
+    (old new : TreeState) (call : PlainCall) (wrote : Option ℕ) (so_far : List PlainDirent) (name : NodeName) (file : FileId)
     → Steps old new call wrote so_far → get old.nodes name ≡ Some file → get new.nodes name ≡ Some file
 
 -- After a success each name that its answer gives stands for the file of the reply.
 abbrev pub GivenNamesStand : Type 0
 GivenNamesStand =
     (old new : TreeState) (call : PlainCall) (wrote : Option ℕ) (so_far : List PlainDirent) (s : Steps old new call wrote so_far)
-    → (name : NodeName) (file : ℕ)
+    → (name : NodeName) (file : FileId)
     → Contains (given_in (setting old.store s.files call call.operation (count_written call.operation wrote) so_far) call call.operation) (name, file)
     → get new.nodes name ≡ Some file
 
 -- The empty tree is a tree, and what may be added to one leaves one.
 pub record BuildingKeepsTrees : Type 0 where
   pub empty : (bits : ℕ) → IsTree (empty_tree bits).store
-  pub added : (t : TreeState) (parent : ℕ) (name : List ℕ) (kind : Kind) (bits : ℕ) (body : List ℕ) → IsTree t.store
+  pub added : (t : TreeState) (parent : FileId) (name : List ℕ) (kind : Kind) (bits : ℕ) (body : List ℕ) → IsTree t.store
       → MayBeAdded t parent name kind body → IsTree (tree_added t parent name (file_of_kind kind bits body)).store
-  pub linked : (t : TreeState) (parent : ℕ) (name : List ℕ) (file : ℕ) → IsTree t.store
+  pub linked : (t : TreeState) (parent : FileId) (name : List ℕ) (file : FileId) → IsTree t.store
       → MayBeLinkedTo t parent name file → IsTree (tree_linked t parent name file).store
 
 -- A success of a request leaves a tree where there was one.
@@ -93,8 +95,14 @@ ChangesKeepTrees =
     (s : Store) (x : Resolved) (truncates : Bool) (o : PlainOperation) (count : ℕ) → IsTree s → (rule s x o).needs
     → IsTree (changed s x truncates o count)
 
--- Each file keeps its number and its kind.
+-- After a success each file is there still, and of its kind.
 abbrev pub FilesStay : Type 0
 FilesStay =
-    (s : Store) (x : Resolved) (truncates : Bool) (o : PlainOperation) (count number : ℕ) (kind : Kind)
-    → IsOfKind s number kind → IsOfKind (changed s x truncates o count) number kind
+    (s : Store) (x : Resolved) (truncates : Bool) (o : PlainOperation) (count : ℕ) (id : FileId) (kind : Kind)
+    → (rule s x o).needs → IsOfKind s id kind → IsOfKind (changed s x truncates o count) id kind
+
+-- A request makes no file but its own: each that is there after it was there before, or is the one that it made.
+abbrev pub OnlyItsOwnIsMade : Type 0
+OnlyItsOwnIsMade =
+    (s : Store) (x : Resolved) (truncates : Bool) (o : PlainOperation) (count : ℕ) (id : FileId)
+    → IsFile (changed s x truncates o count) id → IsFile s id ⊎ (id ≡ file_id.Made x.asked)

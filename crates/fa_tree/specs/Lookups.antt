@@ -1,28 +1,29 @@
 -- LOOKUP, GETATTR, SETATTR and READLINK (POSIX: pathname resolution, fstatat, chmod and truncate, readlink).
-use Rattle.std.specs.Prelude.{◌≡◌, ◌≢◌, ℕ, if◌then◌else◌, List, [], ◌∷◌, slice_get, Some}
+use Rattle.std.specs.Prelude.{◌≡◌, ◌≢◌, ℕ, if◌then◌else◌, List, [], ◌∷◌, Some}
+use Rattle.std.specs.FinMap.{get}
 use Rattle.fa_bodies.specs.declared.mode.Kind.{Kind}
 use Rattle.fa_bodies.specs.declared.mode.Kind.TheVariants.{Fifo, CharDevice, Directory, BlockDevice, Regular, Symlink, Socket}
 use Rattle.fa_bodies.specs.declared.setattr.SetattrIn.{SetattrIn}
 use Rattle.fa_bodies.specs.FlagBits.{fattr_mode, fattr_size}
 use Rattle.fa_bodies.specs.Flags.{HasFlag, has_flag, fattr_bits}
 use Rattle.fa_bodies.specs.Modes.{mode_bits}
-use Rattle.std.specs.FinMap.{get}
 use Rattle.fa_bodies.specs.declared.attributes.AttrOut.{AttrOut}
 use Rattle.fa_bodies.specs.declared.entry.EntryOut.{EntryOut}
 use Rattle.fa_ledger.specs.declared.operation.Outcome.{Outcome}
+use Rattle.fa_tree.specs.declared.id.FileId.{FileId}
 use Rattle.fa_tree.specs.State.{File, Store, IsFree, IsThere, IsDirectory, IsLinked, IsRegular, IsSymlink}
 use Rattle.fa_tree.specs.Attributes.{permission_bits}
 use Rattle.fa_tree.specs.Contents.{resized}
 use Rattle.fa_tree.specs.Rules.{Rule, Said, FitsNamed, attributes_said, bytes_said, if_done, with_file}
 
 -- LOOKUP answers node id 0 where the name is not in the directory, and another where it is.
-abbrev pub IsFoundAs : Store → (directory : ℕ) → (name : List ℕ) → (nodeid : ℕ) → Type 0
+abbrev pub IsFoundAs : Store → (directory : FileId) → (name : List ℕ) → (nodeid : ℕ) → Type 0
 IsFoundAs s directory name nodeid =
     (nodeid ≡ 0 → IsFree s directory name) × (nodeid ≢ 0 → IsThere s directory name)
 
 -- SETATTR of a size succeeds on a regular file alone.
-abbrev pub MayBeSet : Store → ℕ → SetattrIn → Type 0
-MayBeSet s number a = HasFlag (fattr_bits a.valid) fattr_size → IsRegular s number
+abbrev pub MayBeSet : Store → FileId → SetattrIn → Type 0
+MayBeSet s id a = HasFlag (fattr_bits a.valid) fattr_size → IsRegular s id
 
 -- the permission bits that SETATTR leaves: those of its mode, if that counts; a symbolic link keeps its own (this profile)
 abbrev pub bits_set : SetattrIn → Kind → ℕ → ℕ
@@ -43,12 +44,12 @@ file_set a file = record {
 }
 
 -- READLINK gives the target.
-abbrev pub IsTargetOf : Store → ℕ → List ℕ → Type 0
-IsTargetOf s number target = (file : File) × (slice_get s.files number ≡ Some file) × (target ≡ file.bytes)
+abbrev pub IsTargetOf : Store → FileId → List ℕ → Type 0
+IsTargetOf s id target = (file : File) × (get s.files id ≡ Some file) × (target ≡ file.bytes)
 
 -- ---- the operations
 
-abbrev pub lookup_rule : Store → (directory : ℕ) → (name : List ℕ) → Rule
+abbrev pub lookup_rule : Store → (directory : FileId) → (name : List ℕ) → Rule
 lookup_rule s directory name = record {
   needs = IsDirectory s directory;
   edits = [];
@@ -61,7 +62,7 @@ lookup_rule s directory name = record {
 }
 
 -- where the entry says that the name is not there, no attributes are judged
-abbrev pub found_said : (before after : Store) → (directory : ℕ) → (name : List ℕ) → EntryOut → Said
+abbrev pub found_said : (before after : Store) → (directory : FileId) → (name : List ℕ) → EntryOut → Said
 found_said before after directory name entry = record {
   found = IsFoundAs before directory name entry.nodeid;
   attributes = entry.nodeid ≢ 0 → FitsNamed after directory name entry.attr;
@@ -70,11 +71,11 @@ found_said before after directory name entry = record {
   listing = Unit {0};
 }
 
-abbrev pub lookup_said : (before after : Store) → (directory : ℕ) → (name : List ℕ) → Outcome EntryOut → Said
+abbrev pub lookup_said : (before after : Store) → (directory : FileId) → (name : List ℕ) → Outcome EntryOut → Said
 lookup_said before after directory name o = if_done o (found_said before after directory name)
 
 -- it may always succeed
-abbrev pub getattr_rule : Store → (file : ℕ) → Rule
+abbrev pub getattr_rule : Store → (file : FileId) → Rule
 getattr_rule s file = record {
   needs = Unit {0};
   edits = [];
@@ -87,10 +88,10 @@ getattr_rule s file = record {
 }
 
 -- GETATTR and SETATTR
-abbrev pub file_said : Store → (file : ℕ) → Outcome AttrOut → Said
+abbrev pub file_said : Store → (file : FileId) → Outcome AttrOut → Said
 file_said s file o = if_done o (λ out. attributes_said s file out.attr)
 
-abbrev pub setattr_rule : Store → (file : ℕ) → SetattrIn → Rule
+abbrev pub setattr_rule : Store → (file : FileId) → SetattrIn → Rule
 setattr_rule s file a = record {
   needs = MayBeSet s file a;
   edits = [];
@@ -102,7 +103,7 @@ setattr_rule s file a = record {
   not_empty = ⊥;
 }
 
-abbrev pub readlink_rule : Store → (file : ℕ) → Rule
+abbrev pub readlink_rule : Store → (file : FileId) → Rule
 readlink_rule s file = record {
   needs = IsSymlink s file;
   edits = [];
@@ -114,5 +115,5 @@ readlink_rule s file = record {
   not_empty = ⊥;
 }
 
-abbrev pub readlink_said : Store → (file : ℕ) → Outcome (List ℕ) → Said
+abbrev pub readlink_said : Store → (file : FileId) → Outcome (List ℕ) → Said
 readlink_said s file o = if_done o (λ target. bytes_said (IsTargetOf s file target))

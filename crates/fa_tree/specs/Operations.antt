@@ -7,6 +7,7 @@ use Rattle.fa_ledger.specs.declared.operation.Outcome.TheVariants.{Succeeds}
 use Rattle.fa_ledger.specs.Operations.{PlainAction, PlainOperation}
 use Rattle.fa_ledger.specs.Operations.PlainAction.{Lookup, Getattr, Setattr, Readlink, Symlink, Mknod, Mkdir, Unlink, Rmdir, Rename, Rename2, Link, Open, Read, Write, Opendir, Create}
 use Rattle.fa_ledger.specs.Operations.PlainOperation.{Lists, Acts}
+use Rattle.fa_tree.specs.declared.id.FileId.{FileId}
 use Rattle.fa_tree.specs.State.{Store}
 use Rattle.fa_tree.specs.Resolved.{Resolved}
 use Rattle.fa_tree.specs.Edits.{names_after}
@@ -27,9 +28,9 @@ action_rule s x (Lookup name o) = lookup_rule s x.node name
 action_rule s x (Getattr o) = getattr_rule s x.node
 action_rule s x (Setattr a o) = setattr_rule s x.node a
 action_rule s x (Readlink o) = readlink_rule s x.node
-action_rule s x (Symlink name target o) = making_rule s x.node name (new_symlink target)
-action_rule s x (Mknod mode umask name o) = making_rule s x.node name (new_node mode umask)
-action_rule s x (Mkdir mode umask name o) = making_rule s x.node name (new_directory mode umask)
+action_rule s x (Symlink name target o) = making_rule s x.asked x.node name (new_symlink target)
+action_rule s x (Mknod mode umask name o) = making_rule s x.asked x.node name (new_node mode umask)
+action_rule s x (Mkdir mode umask name o) = making_rule s x.asked x.node name (new_directory mode umask)
 action_rule s x (Unlink name o) = unlink_rule s x.node name
 action_rule s x (Rmdir name o) = rmdir_rule s x.node name
 action_rule s x (Rename old_name new_name o) = rename_rule s x.node old_name x.other new_name
@@ -39,7 +40,7 @@ action_rule s x (Open o) = open_rule s x.node
 action_rule s x (Read offset size o) = read_rule s x.node
 action_rule s x (Write offset size payload o) = write_rule s x.node offset payload
 action_rule s x (Opendir o) = directory_rule s x.node
-action_rule s x (Create flags mode umask name o) = create_rule s x.node name flags (new_regular mode umask)
+action_rule s x (Create flags mode umask name o) = create_rule s x.asked x.node name flags (new_regular mode umask)
 
 abbrev pub rule : Store → Resolved → PlainOperation → Rule
 rule s x (Lists l) = directory_rule s x.node
@@ -91,7 +92,7 @@ said g (Acts a) = action_said g.before g.after g.files g.direct a
 -- ---- what a call adds to what its success says
 
 -- the directory that a success opens, if it opens one
-abbrev pub directory_opened : Resolved → PlainOperation → Option ℕ
+abbrev pub directory_opened : Resolved → PlainOperation → Option FileId
 directory_opened x (Acts (Opendir o)) = Some x.node
 directory_opened x other = None
 

@@ -1,14 +1,15 @@
 -- What is said of each operation, on the page of its family: its rule, which has what its success needs, what that makes of the store
 -- and when each error of POSIX has its cause; and what its answer says.
-use Rattle.std.specs.Prelude.{◌≡◌, ℕ, ℤ, Bool, List, [], ◌∷◌, slice_get, slice_set, Option}
+use Rattle.std.specs.Prelude.{◌≡◌, ℕ, ℤ, Bool, List, [], ◌∷◌, Option}
 use Rattle.std.specs.Option.{option_map_or}
-use Rattle.std.specs.FinMap.{get}
+use Rattle.std.specs.FinMap.{FinMap, get, insert}
 use Rattle.fa_bodies.specs.declared.attributes.Attributes.{Attributes}
 use Rattle.fa_bodies.specs.declared.entry.EntryOut.{EntryOut}
 use Rattle.fa_bodies.specs.declared.errno.TheConstants.{ENOENT, EEXIST, ENOTDIR, EISDIR, ENOTEMPTY}
 use Rattle.fa_ledger.specs.declared.operation.Outcome.{Outcome}
 use Rattle.fa_ledger.specs.declared.operation.Outcome.TheVariants.{Fails, Succeeds, Unanswered}
-use Rattle.fa_tree.specs.State.{File, Store, HasName}
+use Rattle.fa_tree.specs.declared.id.FileId.{FileId}
+use Rattle.fa_tree.specs.State.{File, Store, file_cmp, HasName}
 use Rattle.fa_tree.specs.Attributes.{Fits}
 use Rattle.fa_tree.specs.Edits.{Edit}
 
@@ -20,7 +21,7 @@ use Rattle.fa_tree.specs.Edits.{Edit}
 pub record Rule : Type 1 where
   pub needs : Type 0
   pub edits : List Edit
-  pub files : (truncates : Bool) → (count : ℕ) → List File
+  pub files : (truncates : Bool) → (count : ℕ) → FinMap file_cmp File
   -- ENOENT: a name is not there, or what is named is not linked
   pub missing : Type 0
   -- EEXIST: what may not be there is: the new name, or a name in the directory that would go
@@ -42,8 +43,8 @@ pub record HasCause (r : Rule) (error : ℤ) : Type 0 where
   pub not_empty : error ≡ ENOTEMPTY → r.not_empty
 
 -- the files, with this one changed
-abbrev pub with_file : List File → ℕ → (File → File) → List File
-with_file files number change = option_map_or (λ file. slice_set files number (change file)) (slice_get files number) files
+abbrev pub with_file : FinMap file_cmp File → FileId → (File → File) → FinMap file_cmp File
+with_file files id change = option_map_or (λ file. insert files id (change file)) (get files id) files
 
 -- ---- what answers say
 
@@ -52,7 +53,7 @@ with_file files number change = option_map_or (λ file. slice_set files number (
 pub record Said : Type 1 where
   pub found : Type 0
   pub attributes : Type 0
-  pub files : List (Option ℕ)
+  pub files : List (Option FileId)
   pub bytes : Type 0
   pub listing : Type 0
 
@@ -61,7 +62,7 @@ abbrev pub nothing_said : Said
 nothing_said = record { found = Unit {0}; attributes = Unit {0}; files = []; bytes = Unit {0}; listing = Unit {0} }
 
 -- the attributes of a file
-abbrev pub attributes_said : Store → ℕ → Attributes → Said
+abbrev pub attributes_said : Store → FileId → Attributes → Said
 attributes_said s file attr = record { found = Unit {0}; attributes = Fits s file attr; files = []; bytes = Unit {0}; listing = Unit {0} }
 
 -- bytes, of which this has to hold
@@ -69,11 +70,11 @@ abbrev pub bytes_said : Type 0 → Said
 bytes_said Fit = record { found = Unit {0}; attributes = Unit {0}; files = []; bytes = Fit; listing = Unit {0} }
 
 -- attributes are those of the file that has the name
-abbrev pub FitsNamed : Store → (directory : ℕ) → (name : List ℕ) → Attributes → Type 0
-FitsNamed s directory name attr = (file : ℕ) × HasName s directory name file × Fits s file attr
+abbrev pub FitsNamed : Store → (directory : FileId) → (name : List ℕ) → Attributes → Type 0
+FitsNamed s directory name attr = (file : FileId) × HasName s directory name file × Fits s file attr
 
 -- an entry: the attributes of the file that has the name, and a node for it
-abbrev pub entry_said : Store → (directory : ℕ) → (name : List ℕ) → EntryOut → Said
+abbrev pub entry_said : Store → (directory : FileId) → (name : List ℕ) → EntryOut → Said
 entry_said s directory name entry = record {
   found = Unit {0};
   attributes = FitsNamed s directory name entry.attr;

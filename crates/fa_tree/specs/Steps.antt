@@ -10,6 +10,7 @@ use Rattle.fa_ledger.specs.declared.operation.Outcome.{Outcome}
 use Rattle.fa_ledger.specs.declared.operation.Outcome.TheVariants.{Fails, Succeeds, Unanswered}
 use Rattle.fa_ledger.specs.Calls.{PlainCall}
 use Rattle.fa_ledger.specs.Operations.{PlainOperation, ended}
+use Rattle.fa_tree.specs.declared.id.FileId.{FileId}
 use Rattle.fa_tree.specs.State.{Store, TreeState, node_cmp}
 use Rattle.fa_tree.specs.Resolved.{Resolved, resolved}
 use Rattle.fa_tree.specs.Edits.{handles_after}
@@ -42,7 +43,7 @@ setting s x call o count so_far = record {
 }
 
 -- the names of nodes that come with it, each with its file in the store that it left
-abbrev pub given_in : Setting → PlainCall → PlainOperation → List (NodeName × ℕ)
+abbrev pub given_in : Setting → PlainCall → PlainOperation → List (NodeName × FileId)
 given_in g call o = bound (names_given call) (said g o).files
 
 -- the tree after a success, answered or not: what the request makes of it, and what its answer adds, which is names of nodes, and the
@@ -78,7 +79,7 @@ IfFailed Unanswered Such = Unit {0}
 
 -- The checks of an operation, in the order of their codes, where names of nodes stand for these files: a success is allowed and finds what
 -- it says, an error has its cause, and what a success says is so.
-abbrev pub operation_checks : FinMap node_cmp ℕ → Setting → PlainCall → PlainOperation → List (ℕ × Type 0)
+abbrev pub operation_checks : FinMap node_cmp FileId → Setting → PlainCall → PlainOperation → List (ℕ × Type 0)
 operation_checks nodes g call o =
     (SUCCESS_NOT_ALLOWED, UnlessFailed (ended o) ((rule g.before g.files o).needs × (said g o).found))
     ∷ (ERROR_WITHOUT_CAUSE, IfFailed (ended o) (HasCause (rule g.before g.files o)))

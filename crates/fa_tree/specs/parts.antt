@@ -1,6 +1,7 @@
 -- The vocabulary of the crate's private contracts.
 
--- the order of places, with its laws; and the table of slots
+-- the orders of files and of places, with their laws; and the table of slots
+pub mod FileIdLaws
 pub mod PlaceLaws
 pub mod SlotParts
 -- the table of names: its value, and what its body shows of it

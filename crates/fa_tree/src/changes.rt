@@ -1,6 +1,6 @@
 //! What actions make of what a tree stores.
 
-ghost use Rattle.std.specs.Prelude.{◌≡◌, ◌≢◌, ◌∷◌, [], ℕ, if◌then◌else◌, Option, None, Some, OnOk, OnErr};
+ghost use Rattle.std.specs.Prelude.{◌≡◌, ◌∷◌, [], if◌then◌else◌, Option, None, Some, OnOk, OnErr};
 ghost use Rattle.std.specs.FinMap.{get};
 ghost use Rattle.fa_bodies.specs.FlagBits.{fattr_size};
 ghost use Rattle.fa_bodies.specs.Flags.{HasFlag, fattr_bits};
@@ -11,7 +11,7 @@ ghost use Rattle.fa_tree.specs.Lookups.{file_set};
 ghost use Rattle.fa_tree.specs.Renaming.{MayBeRenamed, rename_edits};
 ghost use Rattle.fa_tree.specs.Rules.{with_file};
 ghost use Rattle.fa_tree.specs.Contents.{resized, file_written};
-ghost use Rattle.fa_tree.specs.Making.{MayBeMade, emptied, new_regular};
+ghost use Rattle.fa_tree.specs.Making.{MayBeMade, HasMadeNone, emptied, new_regular};
 ghost use Rattle.fa_tree.specs.parts.FileParts.{with_bytes};
 ghost use Rattle.fa_tree.specs.Operations.{action_rule};
 ghost use Rattle.fa_tree.specs.Refusals.{MayGrow};
@@ -124,21 +124,22 @@ impl Stored {
     /// Makes a regular file under a name, or opens the file that has it and empties that where it is to be emptied.
     fn create(
         &mut self,
+        asked: u32,
         directory: FileId,
         name: &[u8],
         mode: Mode,
         umask: u32,
         truncates: bool,
     ) -> Result<(), AllocError>
-        requires { get self.old.store.names (directory, name.now) ≡ None → MayBeMade self.old.store directory name.now }
-        ensures created { OnOk result (self.new ≡ stored_created directory name.now truncates (new_regular mode umask) self.old) }
+        requires { get self.old.store.names (directory, name.now) ≡ None → MayBeMade self.old.store directory name.now × HasMadeNone self.old.store asked }
+        ensures created { OnOk result (self.new ≡ stored_created asked directory name.now truncates (new_regular mode umask) self.old) }
         ensures unchanged { OnErr result (self.new ≡ self.old) }
     {
         match self.find(directory, name) {
             Some(file) => self.empty(file, truncates),
             None => {
                 let file = new_regular(self.alloc, mode, umask);
-                self.make(directory, name, file)?;
+                self.make(FileId::Made(asked), directory, name, file)?;
             }
         }
         Ok(())
@@ -159,12 +160,13 @@ impl Stored {
         ensures unchanged { OnErr result (self.new ≡ self.old) }
     {
         let alloc = self.alloc;
+        let made = FileId::Made(named.asked);
         let node = named.node;
         match action {
             Action::Setattr { setattr, .. } => self.set_attributes(node, setattr)?,
             Action::Symlink { name, target, .. } => {
                 let file = new_symlink(alloc, target)?;
-                self.make(node, name, file)?;
+                self.make(made, node, name, file)?;
             }
             Action::Mknod {
                 mode,
@@ -173,7 +175,7 @@ impl Stored {
                 ..
             } => {
                 let file = new_node(alloc, *mode, *umask);
-                self.make(node, name, file)?;
+                self.make(made, node, name, file)?;
             }
             Action::Mkdir {
                 mode,
@@ -182,14 +184,14 @@ impl Stored {
                 ..
             } => {
                 let file = new_directory(alloc, *mode, *umask);
-                self.make(node, name, file)?;
+                self.make(made, node, name, file)?;
             }
             Action::Create {
                 mode,
                 umask,
                 name,
                 ..
-            } => self.create(node, name, *mode, *umask, truncates)?,
+            } => self.create(named.asked, node, name, *mode, *umask, truncates)?,
             Action::Unlink { name, .. } => self.remove(node, name),
             Action::Rmdir { name, .. } => self.remove(node, name),
             Action::Rename {

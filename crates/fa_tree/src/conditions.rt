@@ -1,12 +1,13 @@
 //! What a success of a request asks of a tree.
 
-ghost use Rattle.std.specs.Prelude.{◌↔◌, ℕ, Option, IsTrue};
+ghost use Rattle.std.specs.Prelude.{◌↔◌, Option, IsTrue};
+ghost use Rattle.fa_tree.specs.declared.id.FileId.{FileId};
 ghost use Rattle.fa_ledger.specs.Operations.{action_shown};
 ghost use Rattle.fa_tree.specs.State.{HasName, IsDirectory, IsBelow, OpenDirectory};
 ghost use Rattle.fa_tree.specs.Operations.{action_rule};
 ghost use Rattle.fa_tree.specs.parts.NamedParts.{named_shown};
 ghost use Rattle.fa_tree.specs.Lookups.{MayBeSet};
-ghost use Rattle.fa_tree.specs.Making.{MayBeMade, MayBeCreated};
+ghost use Rattle.fa_tree.specs.Making.{MayBeMade, HasMadeNone, MayBeCreated};
 ghost use Rattle.fa_tree.specs.Removing.{MayBeUnlinked, MayBeRemoved};
 ghost use Rattle.fa_tree.specs.Renaming.{MayReplace, MayComeInto, MayBeRenamed};
 ghost use Rattle.fa_tree.specs.Linking.{MayBeLinked};
@@ -33,13 +34,26 @@ impl Stored {
         self.is_linked_directory(directory) && self.find(directory, name).is_none()
     }
 
+    /// Whether the request of this number has made no file.
+    fn has_made_none(&self, asked: u32) -> bool
+        ensures { IsTrue result ↔ HasMadeNone self.now.store asked }
+    {
+        self.files.get(FileId::Made(asked)).is_none()
+    }
+
     /// Whether CREATE may succeed.
-    pub(crate) fn may_be_created(&self, directory: FileId, name: &[u8], flags: OpenFlags) -> bool
-        ensures { IsTrue result ↔ MayBeCreated self.now.store directory name.now flags }
+    pub(crate) fn may_be_created(
+        &self,
+        asked: u32,
+        directory: FileId,
+        name: &[u8],
+        flags: OpenFlags,
+    ) -> bool
+        ensures { IsTrue result ↔ MayBeCreated self.now.store asked directory name.now flags }
     {
         self.is_linked_directory(directory)
             && match self.find(directory, name) {
-                None => true,
+                None => self.has_made_none(asked),
                 Some(file) => self.is_regular(file) && !flags.contains(OpenFlags::EXCL),
             }
     }
@@ -80,7 +94,7 @@ impl Stored {
 
     /// Whether a file may get this name, by what has the name now.
     fn may_take(&self, file: FileId, directory: FileId, name: &[u8]) -> bool
-        ensures { IsTrue result ↔ ((other : ℕ) → HasName self.now.store directory name.now other → MayReplace self.now.store file other) }
+        ensures { IsTrue result ↔ ((other : FileId) → HasName self.now.store directory name.now other → MayReplace self.now.store file other) }
     {
         match self.find(directory, name) {
             None => true,
@@ -147,7 +161,9 @@ impl Stored {
             Action::Readlink { .. } => self.is_symlink(node),
             Action::Symlink { name, .. }
             | Action::Mknod { name, .. }
-            | Action::Mkdir { name, .. } => self.may_be_made(node, name),
+            | Action::Mkdir { name, .. } => {
+                self.may_be_made(node, name) && self.has_made_none(named.asked)
+            }
             Action::Unlink { name, .. } => self.may_be_unlinked(node, name),
             Action::Rmdir { name, .. } => self.may_be_removed(node, name),
             Action::Rename {
@@ -172,7 +188,12 @@ impl Stored {
                 self.is_regular(node)
             }
             Action::Lookup { .. } | Action::Opendir { .. } => self.is_directory(node),
-            Action::Create { flags, name, .. } => self.may_be_created(node, name, *flags),
+            Action::Create { flags, name, .. } => self.may_be_created(
+                named.asked,
+                node,
+                name,
+                *flags,
+            ),
         }
     }
 }

@@ -1,6 +1,7 @@
 //! What the entries of a listing say of names, of types and of nodes.
 
-ghost use Rattle.std.specs.Prelude.{◌≡◌, ◌≢◌, ◌↔◌, ◌*◌, ◌^◌, [], All, not, slice_get, Some, IsTrue, IfOk};
+ghost use Rattle.std.specs.Prelude.{◌≡◌, ◌≢◌, ◌↔◌, ◌*◌, ◌^◌, [], All, not, Some, IsTrue, IfOk};
+ghost use Rattle.std.specs.FinMap as map;
 ghost use Rattle.fa_bodies.specs.Dirents.{dirent_shown};
 ghost use Rattle.fa_bodies.specs.Listing.{entries_left};
 ghost use Rattle.fa_bodies.specs.Modes.{mode_bits, type_number, HasFileType};
@@ -9,6 +10,7 @@ ghost use Rattle.fa_tree.specs.State.{File};
 ghost use Rattle.fa_tree.specs.Directories.{judged, LooksUp, IsTypeOf, IsThereIfLookedUp, IsTypedIfLookedUp};
 ghost use Rattle.fa_tree.specs.Directories.{files_listed};
 ghost use Rattle.fa_tree.specs.Bindings.{bound};
+ghost use Rattle.fa_tree.specs.parts.ListingParts.{IsTypedNow};
 
 use crate::id::FileId;
 use crate::stored::Stored;
@@ -62,9 +64,9 @@ impl Stored {
         dirent.kind == 0 || self.has_type(file, dirent.kind)
     }
 
-    /// Whether there is a file of this number, and its type has the number `number`.
+    /// Whether there is this file, and its type has the number `number`.
     fn has_type(&self, file: FileId, number: u32) -> bool
-        ensures { IsTrue result ↔ ((f : File) × (slice_get self.now.store.files file ≡ Some f) × (number * 2 ^ 12 ≡ type_number f.kind)) }
+        ensures { IsTrue result ↔ ((f : File) × (map.get self.now.store.files file ≡ Some f) × (number * 2 ^ 12 ≡ type_number f.kind)) }
     {
         match self.kind(file) {
             Some(kind) => is_number_of(number, kind),
@@ -72,9 +74,9 @@ impl Stored {
         }
     }
 
-    /// Whether the mode of attributes tells the type of a file, if there is one of this number.
+    /// Whether the mode of attributes tells the type of a file, if it is there.
     fn is_typed(&self, file: FileId, mode: Mode) -> bool
-        ensures { IsTrue result ↔ ((f : File) → slice_get self.now.store.files file ≡ Some f → HasFileType (mode_bits mode) (Some f.kind)) }
+        ensures { IsTrue result ↔ ((f : File) → map.get self.now.store.files file ≡ Some f → HasFileType (mode_bits mode) (Some f.kind)) }
     {
         match self.kind(file) {
             Some(kind) => tells(mode, kind),
@@ -105,6 +107,13 @@ impl Stored {
         }
     }
 
+    /// The same, as one fact.
+    fn is_typed_now(&self, directory: FileId, dirent: &Dirent<'_>) -> bool
+        ensures { IsTrue result ↔ IsTypedNow self.now.store directory (dirent_shown dirent.now) }
+    {
+        self.is_typed_if_looked_up(directory, dirent)
+    }
+
     /// Whether all names that the entries look up are in the directory now.
     pub(crate) fn all_there(&self, directory: FileId, mut entries: Entries<'_>) -> bool
         ensures { IsTrue result ↔ All (IsThereIfLookedUp self.now.store directory) (judged (entries_left entries.entry)) }
@@ -116,7 +125,7 @@ impl Stored {
     pub(crate) fn all_typed(&self, directory: FileId, mut entries: Entries<'_>) -> bool
         ensures { IsTrue result ↔ All (IsTypedIfLookedUp self.now.store directory) (judged (entries_left entries.entry)) }
     {
-        entries.all(|dirent| !is_judged(&dirent) || self.is_typed_if_looked_up(directory, &dirent))
+        entries.all(|dirent| !is_judged(&dirent) || self.is_typed_now(directory, &dirent))
     }
 
     /// The names of nodes that a listing gives, each with the file of its entry's name.

@@ -1,7 +1,7 @@
 //! What attributes of a file are judged by.
 
 ghost use Rattle.std.specs.Prelude.{◌≡◌, ◌↔◌, ◌+◌, if◌then◌else◌, IsTrue};
-ghost use Rattle.fa_tree.specs.parts.FactParts.{AreFit};
+ghost use Rattle.fa_tree.specs.parts.FactParts.{AreFit, AreNewFacts};
 
 use crate::file::permission_bits;
 use fa_bodies::{Attributes, Kind};
@@ -22,6 +22,19 @@ pub(crate) struct Facts {
 }
 
 impl Facts {
+    /// Those of a file that is made, with its one name.
+    pub fn new(kind: Kind, bits: u32, size: usize) -> Self
+        ensures { AreNewFacts kind bits size result }
+    {
+        Facts {
+            kind,
+            bits,
+            size,
+            links: 0,
+            further: true,
+        }
+    }
+
     /// Whether the attributes of a reply are those of the file.
     pub fn fit(&self, attr: &Attributes) -> bool
         ensures { IsTrue result ↔ AreFit self.now attr.now }

@@ -1,35 +1,13 @@
-//! Numbers of files.
+//! What files are known by.
 
-ghost use Rattle.std.specs.Prelude.{◌≡◌, ℕ};
-
-use std::marker::Model;
-
-/// A file of a tree, by its number: the root is file 0, and each file that is added or made takes the next number.
+/// A file of a tree, by what made it. So requests that do not touch each other leave the same files, whichever comes first.
 #[derive(Clone, Copy, Debug, PartialEq, Eq, Hash)]
-pub struct FileId {
-    number: usize,
-}
-
-impl Model for FileId {
-    ghost Value = { ℕ };
-
-    ghost view = { λ f. f.number };
-
-    ghost inverse = { λ n. record { number = n } };
-}
-
-impl FileId {
-    /// The file of this number.
-    pub(crate) fn new(number: usize) -> Self
-        ensures { result ≡ number }
-    {
-        FileId { number }
-    }
-
-    /// Its number.
-    pub(crate) fn number(self) -> usize
-        ensures { result ≡ self }
-    {
-        self.number
-    }
+pub enum FileId {
+    /// The root.
+    Root,
+    /// The file that was put in by name ([`Tree::add`](crate::Tree::add)) when the tree had this many files, the root among
+    /// them: before any step, the n-th.
+    Added(usize),
+    /// The file that the request of this message made.
+    Made(u32),
 }

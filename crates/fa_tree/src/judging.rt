@@ -1,6 +1,6 @@
 //! What an answer says of the files that its action leaves.
 
-ghost use Rattle.std.specs.Prelude.{◌≡◌, ◌↔◌, ℕ, Bool, Option, false, slice_get, length, None, IsTrue, IfSome, IfNone};
+ghost use Rattle.std.specs.Prelude.{◌≡◌, ◌↔◌, ℕ, Bool, Option, false, None, IsTrue, IfSome, IfNone};
 ghost use Rattle.std.specs.FinMap as map;
 ghost use Rattle.fa_ledger.specs.Operations.{action_shown};
 ghost use Rattle.fa_ledger.specs.Operations.PlainOperation.{Acts};
@@ -9,7 +9,7 @@ ghost use Rattle.fa_tree.specs.Contents.{IsReadFrom};
 ghost use Rattle.fa_tree.specs.Lookups.{IsFoundAs, IsTargetOf, bits_set};
 ghost use Rattle.fa_tree.specs.Making.{node_kind, new_bits};
 ghost use Rattle.fa_tree.specs.Operations.{action_rule, action_said, changed};
-ghost use Rattle.fa_tree.specs.parts.FactParts.{size_set, AreOpenedFacts, AreFactsOf, AreFactsIfAny, AreNewFacts, AreFurtherFacts, AreSetFacts, AreCreatedFacts, IsFoundOrNext, FitIfAny, AreFilesGiven};
+ghost use Rattle.fa_tree.specs.parts.FactParts.{size_set, AreOpenedFacts, AreFactsOf, AreFactsIfAny, AreFurtherFacts, AreSetFacts, AreCreatedFacts, IsFoundOrMade, FitIfAny, AreFilesGiven};
 ghost use Rattle.fa_tree.specs.parts.NamedParts.{named_shown};
 
 use crate::facts::Facts;
@@ -55,11 +55,11 @@ fn fit(facts: Option<Facts>, attr: &Attributes) -> bool
 }
 
 impl Stored {
-    /// What attributes of a file are judged by, if there is one of this number.
+    /// What attributes of a file are judged by, if it is there.
     fn facts(&self, file: FileId) -> Option<Facts>
         ensures of { IfSome result (λ facts. AreFactsOf self.now.store file facts) }
         ensures plain { IfSome result (λ facts. facts.further ≡ false) }
-        ensures none { IfNone result (slice_get self.now.store.files file ≡ None) }
+        ensures none { IfNone result (map.get self.now.store.files file ≡ None) }
     {
         match self.files.get(file) {
             Some(there) => Some(Facts {
@@ -113,20 +113,6 @@ impl Stored {
         }
     }
 
-    /// What attributes of a file that is made are judged by.
-    fn facts_new(&self, kind: Kind, bits: u32, size: usize) -> Facts
-        ensures { AreNewFacts self.now.store kind bits size result }
-    {
-        let _ = &self.files;
-        Facts {
-            kind,
-            bits,
-            size,
-            links: 0,
-            further: true,
-        }
-    }
-
     /// What attributes of a file are judged by that is opened, and emptied where it is to be emptied.
     fn facts_opened(&self, file: FileId, truncates: bool) -> Option<Facts>
         ensures { AreOpenedFacts self.now.store truncates file result }
@@ -152,24 +138,17 @@ impl Stored {
     {
         match self.find(directory, name) {
             Some(file) => self.facts_opened(file, truncates),
-            None => Some(self.facts_new(Kind::Regular, bits, 0)),
+            None => Some(Facts::new(Kind::Regular, bits, 0)),
         }
     }
 
-    /// The number of the next file.
-    fn next_file(&self) -> FileId
-        ensures { result ≡ length self.now.store.files }
-    {
-        self.files.next()
-    }
-
-    /// The file of a name, or that which is made where the name is not there.
-    fn found_or_next(&self, directory: FileId, name: &[u8]) -> FileId
-        ensures { IsFoundOrNext self.now.store (map.get self.now.store.names (directory, name.now)) result }
+    /// The file of a name, or that which this request makes where the name is not there.
+    fn found_or_made(&self, asked: u32, directory: FileId, name: &[u8]) -> FileId
+        ensures { IsFoundOrMade asked (map.get self.now.store.names (directory, name.now)) result }
     {
         match self.find(directory, name) {
             Some(file) => file,
-            None => self.next_file(),
+            None => FileId::Made(asked),
         }
     }
 
@@ -187,15 +166,15 @@ impl Stored {
             Action::Symlink {
                 outcome: Outcome::Succeeds(_),
                 ..
-            } => Some(self.next_file()),
+            } => Some(FileId::Made(named.asked)),
             Action::Mknod {
                 outcome: Outcome::Succeeds(_),
                 ..
-            } => Some(self.next_file()),
+            } => Some(FileId::Made(named.asked)),
             Action::Mkdir {
                 outcome: Outcome::Succeeds(_),
                 ..
-            } => Some(self.next_file()),
+            } => Some(FileId::Made(named.asked)),
             Action::Link {
                 outcome: Outcome::Succeeds(_),
                 ..
@@ -204,7 +183,7 @@ impl Stored {
                 name,
                 outcome: Outcome::Succeeds(_),
                 ..
-            } => Some(self.found_or_next(node, name)),
+            } => Some(self.found_or_made(named.asked, node, name)),
             _ => None,
         }
     }
@@ -244,6 +223,7 @@ impl Stored {
         ensures { (handle : Option OpenDirectory) (direct : Bool) (count : ℕ) → (action_rule self.now.store (named_shown named.now handle) (action_shown action.now)).needs
             → IsTrue result ↔ (action_said self.now.store (changed self.now.store (named_shown named.now handle) truncates (Acts (action_shown action.now)) count) (named_shown named.now handle) direct (action_shown action.now)).attributes }
     {
+        let _ = &self.names;
         let node = named.node;
         match action {
             Action::Lookup {
@@ -262,7 +242,7 @@ impl Stored {
                 outcome: Outcome::Succeeds(entry),
                 ..
             } => {
-                let facts = self.facts_new(Kind::Symlink, 0o777, target.len());
+                let facts = Facts::new(Kind::Symlink, 0o777, target.len());
                 facts.fit(&entry.attr)
             }
             Action::Mknod {
@@ -271,7 +251,7 @@ impl Stored {
                 outcome: Outcome::Succeeds(entry),
                 ..
             } => {
-                let facts = self.facts_new(node_kind(*mode), new_bits(*mode, *umask), 0);
+                let facts = Facts::new(node_kind(*mode), new_bits(*mode, *umask), 0);
                 facts.fit(&entry.attr)
             }
             Action::Mkdir {
@@ -280,7 +260,7 @@ impl Stored {
                 outcome: Outcome::Succeeds(entry),
                 ..
             } => {
-                let facts = self.facts_new(Kind::Directory, new_bits(*mode, *umask), 0);
+                let facts = Facts::new(Kind::Directory, new_bits(*mode, *umask), 0);
                 facts.fit(&entry.attr)
             }
             Action::Link {

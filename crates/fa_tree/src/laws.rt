@@ -1,6 +1,6 @@
 //! What holds of steps. Each function does nothing: its contract is the law.
 
-ghost use Rattle.fa_tree.specs.Laws.{StepIsOne, StepsWhereAllHold, NoStepWhereOneFails, OutcomeChangesNothing, ReadingChangesNothing, ReadingEditsNothing, WithoutEditsOpenStays, EachOpenByItself, NamesKeepFiles, GivenNamesStand, BuildingKeepsTrees, ChangesKeepTrees, FilesStay};
+ghost use Rattle.fa_tree.specs.Laws.{StepIsOne, StepsWhereAllHold, NoStepWhereOneFails, OutcomeChangesNothing, ReadingChangesNothing, ReadingEditsNothing, WithoutEditsOpenStays, EachOpenByItself, NamesKeepFiles, GivenNamesStand, BuildingKeepsTrees, ChangesKeepTrees, FilesStay, OnlyItsOwnIsMade};
 
 /// From a tree a call leads to one tree at most.
 pub fn step_is_one()
@@ -62,7 +62,12 @@ pub fn changes_keep_trees()
     ensures { ChangesKeepTrees }
 {}
 
-/// Each file keeps its number and its kind.
+/// After a success each file is there still, and of its kind.
 pub fn files_stay()
     ensures { FilesStay }
+{}
+
+/// A request makes no file but its own.
+pub fn only_its_own_is_made()
+    ensures { OnlyItsOwnIsMade }
 {}

@@ -1,6 +1,6 @@
 //! The files that requests make.
 
-ghost use Rattle.std.specs.Prelude.{◌≡◌, [], IfOk};
+ghost use Rattle.std.specs.Prelude.{◌≡◌, IfOk};
 ghost use Rattle.fa_tree.specs.Making.{node_kind, new_bits, new_symlink, new_node, new_directory, new_regular};
 ghost use Rattle.fa_tree.specs.parts.FileParts.{file_shown};
 

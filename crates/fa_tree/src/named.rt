@@ -3,9 +3,11 @@
 use crate::id::FileId;
 use crate::open::OpenNames;
 
-/// The files that a request names.
+/// The number of a request, and the files that it names.
 #[derive(Clone, Copy, Debug)]
 pub(crate) struct Named {
+    /// The number of its message, by which a file is known that it makes.
+    pub asked: u32,
     /// The file of the node of its header.
     pub node: FileId,
     /// The new directory of a RENAME or RENAME2, and the file of a LINK.

@@ -1,8 +1,10 @@
 //! Which file each name of a directory is, and the directories that are open.
 
-ghost use Rattle.std.specs.Prelude.{◌≡◌, ◌≢◌, ◌↔◌, ◌==◌, ◌∷◌, [], ℕ, List, count_by, IsTrue, IfSome, IfNone, Some, None, OnOk, OnErr};
+ghost use Rattle.std.specs.Prelude.{◌≡◌, ◌≢◌, ◌↔◌, ◌∷◌, [], ℕ, List, count_by, IsTrue, IfSome, IfNone, Some, None, OnOk, OnErr};
+ghost use Rattle.fa_tree.specs.declared.id.FileId.{FileId};
 ghost use Rattle.std.specs.FinMap.{get, entries};
 ghost use Rattle.std.specs.Option.{option_map};
+ghost use Rattle.fa_tree.specs.State.{file_eq};
 ghost use Rattle.fa_tree.specs.Edits.Edit.{Added, Removed};
 ghost use Rattle.fa_tree.specs.Renaming.{moved, exchanged};
 ghost use Rattle.fa_tree.specs.parts.NameParts.{NamesShown, no_names, edited, opened_by};
@@ -81,7 +83,7 @@ impl Names {
     /// Takes no memory, and time in the number of all places that ever had a name.
     pub fn parent(&self, file: FileId) -> Option<FileId>
         ensures there { IfSome result (λ directory. (name : List ℕ) × (get self.now.names (directory, name) ≡ Some file)) }
-        ensures none { IfNone result ((directory : ℕ) (name : List ℕ) → get self.now.names (directory, name) ≡ Some file → ⊥) }
+        ensures none { IfNone result ((directory : FileId) (name : List ℕ) → get self.now.names (directory, name) ≡ Some file → ⊥) }
     {
         self.slots.parent(file)
     }
@@ -90,7 +92,7 @@ impl Names {
     ///
     /// Takes no memory, and time in the number of all places that ever had a name.
     pub fn links(&self, file: FileId) -> usize
-        ensures { result ≡ count_by (λ entry. entry.1 == file) (entries self.now.names) }
+        ensures { result ≡ count_by (λ entry. file_eq entry.1 file) (entries self.now.names) }
     {
         self.slots.links(file)
     }

@@ -1,6 +1,7 @@
 //! The files that names of nodes stand for.
 
-ghost use Rattle.std.specs.Prelude.{◌≡◌, ◌≤◌, ◌<◌, ◌+◌, ◌↔◌, ℕ, Some, length, IsTrue, IfOk, OnOk};
+ghost use Rattle.std.specs.Prelude.{◌≡◌, ◌≤◌, ◌<◌, ◌+◌, ◌↔◌, Some, length, IsTrue, IfOk, OnOk};
+ghost use Rattle.fa_tree.specs.declared.id.FileId.{FileId};
 ghost use Rattle.std.specs.FinMap as map;
 ghost use Rattle.indexmap.specs.IndexMap.{spare};
 ghost use Rattle.fa_tree.specs.Bindings.{AreBound, nodes_after};
@@ -71,7 +72,7 @@ impl Nodes {
 
     /// Whether a name may be given for this file: it stands for no other.
     fn may_bind(&self, given: &(NodeName, FileId)) -> bool
-        ensures { IsTrue result ↔ ((other : ℕ) → map.get (nodes_shown self.now) given.now.0 ≡ Some other → given.now.1 ≡ other) }
+        ensures { IsTrue result ↔ ((other : FileId) → map.get (nodes_shown self.now) given.now.0 ≡ Some other → given.now.1 ≡ other) }
     {
         match self.get(&given.0) {
             Some(other) => other == given.1,

@@ -1,6 +1,7 @@
 //! Directories that are open: all openings, and what was in a directory since one of them.
 
 ghost use Rattle.std.specs.Prelude.{◌≡◌, ◌∷◌, ◌++◌, [], ℕ, List, Some, true, false, length, IsTrue, IsFalse, OnOk, OnErr};
+ghost use Rattle.fa_tree.specs.declared.id.FileId.{FileId};
 ghost use Rattle.std.specs.Fn.{FnReturnsAt};
 ghost use Rattle.std.specs.FinMap as map;
 ghost use Rattle.std.specs.FinMap.{get};
@@ -140,8 +141,8 @@ impl OpenNames<'_> {
     /// Takes no memory, and time in the number of all places that ever had a name.
     pub fn all_stayed<F: Fn(&[u8]) -> bool>(&self, is_listed: F) -> bool
         requires { F.IsAlwaysCallable is_listed }
-        ensures all { IsTrue result → (name : List ℕ) (file : ℕ) → get (open_of self.now).stayed name ≡ Some file → FnReturnsAt F.Fn is_listed name true }
-        ensures missing { IsFalse result → (name : List ℕ) × (file : ℕ) × (get (open_of self.now).stayed name ≡ Some file) × FnReturnsAt F.Fn is_listed name false }
+        ensures all { IsTrue result → (name : List ℕ) (file : FileId) → get (open_of self.now).stayed name ≡ Some file → FnReturnsAt F.Fn is_listed name true }
+        ensures missing { IsFalse result → (name : List ℕ) × (file : FileId) × (get (open_of self.now).stayed name ≡ Some file) × FnReturnsAt F.Fn is_listed name false }
     {
         self.slots.table.iter().all(|(place, slot)| {
             place.directory != self.directory

@@ -1,6 +1,7 @@
 //! Listings that are orderly: what stayed in the directory is named once, and all of it before the end.
 
 ghost use Rattle.std.specs.Prelude.{◌≡◌, ◌↔◌, ◌≤◌, ◌<◌, [], ℕ, List, Some, length, map, IsTrue, IfOk};
+ghost use Rattle.fa_tree.specs.declared.id.FileId.{FileId};
 ghost use Rattle.std.specs.FinMap.{get};
 ghost use Rattle.fa_bodies.specs.Listing.{entries_left};
 ghost use Rattle.fa_ledger.specs.Calls.{call_shown};
@@ -31,21 +32,21 @@ fn is_end(entries: Entries<'_>, size: u32) -> bool
 impl OpenNames<'_> {
     /// Whether no name that stayed was listed more than once.
     fn none_twice(&self, tally: &Tally<'_>) -> bool
-        ensures { (times : List ℕ → ℕ) → Tallies tally.now times → IsTrue result ↔ ((name : List ℕ) (file : ℕ) → get (open_of self.now).stayed name ≡ Some file → times name ≤ 1) }
+        ensures { (times : List ℕ → ℕ) → Tallies tally.now times → IsTrue result ↔ ((name : List ℕ) (file : FileId) → get (open_of self.now).stayed name ≡ Some file → times name ≤ 1) }
     {
         tally.all_repeated(|name| self.stayed(name).is_none())
     }
 
     /// Whether each name that stayed was listed.
     fn all_listed(&self, tally: &Tally<'_>) -> bool
-        ensures { (times : List ℕ → ℕ) → Tallies tally.now times → IsTrue result ↔ ((name : List ℕ) (file : ℕ) → get (open_of self.now).stayed name ≡ Some file → 1 ≤ times name) }
+        ensures { (times : List ℕ → ℕ) → Tallies tally.now times → IsTrue result ↔ ((name : List ℕ) (file : FileId) → get (open_of self.now).stayed name ≡ Some file → 1 ≤ times name) }
     {
         self.all_stayed(|name| tally.has(name))
     }
 
     /// Whether each name that stayed was listed, if this is the end of the listing.
     fn is_whole(&self, tally: &Tally<'_>, entries: Entries<'_>, size: u32) -> bool
-        ensures { (times : List ℕ → ℕ) → Tallies tally.now times → IsTrue result ↔ (entries_left entries.entry ≡ [] → room_for_any ≤ size → (name : List ℕ) (file : ℕ) → get (open_of self.now).stayed name ≡ Some file → 1 ≤ times name) }
+        ensures { (times : List ℕ → ℕ) → Tallies tally.now times → IsTrue result ↔ (entries_left entries.entry ≡ [] → room_for_any ≤ size → (name : List ℕ) (file : FileId) → get (open_of self.now).stayed name ≡ Some file → 1 ≤ times name) }
     {
         !is_end(entries, size) || self.all_listed(tally)
     }

@@ -1,6 +1,8 @@
 //! What there is in a tree.
 
-ghost use Rattle.std.specs.Prelude.{◌≡◌, ◌↔◌, ℕ, List, option_map, slice_get, IsTrue, IfSome, IfNone};
+ghost use Rattle.std.specs.Prelude.{◌≡◌, ◌↔◌, ℕ, List, option_map, IsTrue, IfSome, IfNone};
+ghost use Rattle.std.specs.FinMap as map;
+ghost use Rattle.fa_tree.specs.declared.id.FileId.{FileId};
 ghost use Rattle.fa_tree.specs.Building.{IsNonDirectory};
 ghost use Rattle.fa_tree.specs.State.{IsFree, IsParent, IsDirectory, IsRegular, IsSymlink, IsLinked, IsLinkedDirectory, IsEmptyDirectory, IsBelow, links};
 
@@ -11,7 +13,7 @@ use fa_bodies::Kind;
 impl Stored {
     /// The type of a file.
     pub(crate) fn kind(&self, file: FileId) -> Option<Kind>
-        ensures { result ≡ option_map (λ f. f.kind) (slice_get self.now.store.files file) }
+        ensures { result ≡ option_map (λ f. f.kind) (map.get self.now.store.files file) }
     {
         match self.files.get(file) {
             Some(file) => Some(file.kind),
@@ -26,7 +28,7 @@ impl Stored {
         self.kind(file) == Some(Kind::Directory)
     }
 
-    /// Whether there is a file of this number that is no directory.
+    /// Whether there is this file, and it is no directory.
     pub(crate) fn is_non_directory(&self, file: FileId) -> bool
         ensures { IsTrue result ↔ IsNonDirectory self.now.store file }
     {
@@ -53,7 +55,7 @@ impl Stored {
     /// A directory that has a name for the file, if one has.
     pub(crate) fn parent(&self, file: FileId) -> Option<FileId>
         ensures there { IfSome result (λ directory. IsParent self.now.store directory file) }
-        ensures none { IfNone result ((directory : ℕ) → IsParent self.now.store directory file → ⊥) }
+        ensures none { IfNone result ((directory : FileId) → IsParent self.now.store directory file → ⊥) }
     {
         self.names.parent(file)
     }

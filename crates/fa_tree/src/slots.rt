@@ -1,8 +1,10 @@
 //! The table of places: for each place that a name was put at, the slot that says what is there.
 
 ghost use Rattle.std.specs.Prelude.{◌≡◌, [], ℕ, List, count_by, is_some, ◌↔◌, ◌==◌, IsTrue, IfSome, IfNone, Some, None, OnOk, OnErr};
+ghost use Rattle.fa_tree.specs.declared.id.FileId.{FileId};
 ghost use Rattle.std.specs.FinMap as map;
 ghost use Rattle.std.specs.Option.{option_map};
+ghost use Rattle.fa_tree.specs.State.{file_eq};
 ghost use Rattle.fa_tree.specs.parts.SlotParts.{slot_at, gone_at, file_in, is_of, names_shown, IsChangedAt};
 
 use crate::id::FileId;
@@ -42,12 +44,13 @@ pub(crate) struct Slots {
 impl Equivalent<Place> for &PlaceAt<'_> {
     ghost use Rattle.std.proofs.Common.{ap, ◌++◌};
     ghost use Rattle.std.specs.Hash as fed;
+    ghost use Rattle.fa_tree.specs.contracts.id.FileIdHash.TheImpl as hashed;
     ghost use Rattle.fa_tree.specs.parts.SlotParts.{is_at, place_of};
     ghost use Rattle.fa_tree.specs.parts.PlaceLaws.{same_place, alike_test};
 
     ghost equivalent = { λ q. is_at (q.now.directory, q.now.name.now) };
 
-    ghost respects_hash = { λ q k is. ap (λ place. fed.usize place.0 ++ fed.slice fed.u8 place.1) (same_place (q.now.directory, q.now.name.now) (place_of k) is) };
+    ghost respects_hash = { λ q k is. ap (λ place. hashed.hash_input-value.it place.0 ++ fed.slice fed.u8 place.1) (same_place (q.now.directory, q.now.name.now) (place_of k) is) };
 
     ghost respects_eq = { λ q x y. alike_test (q.now.directory, q.now.name.now) (place_of x) (place_of y) };
 
@@ -84,7 +87,7 @@ impl Slots {
     /// A directory that has a name for a file, if there is one. Goes through all slots.
     pub fn parent(&self, file: FileId) -> Option<FileId>
         ensures there { IfSome result (λ directory. (name : List ℕ) × (map.get (names_shown self.now.table.entries) (directory, name) ≡ Some file)) }
-        ensures none { IfNone result ((directory : ℕ) (name : List ℕ) → map.get (names_shown self.now.table.entries) (directory, name) ≡ Some file → ⊥) }
+        ensures none { IfNone result ((directory : FileId) (name : List ℕ) → map.get (names_shown self.now.table.entries) (directory, name) ≡ Some file → ⊥) }
     {
         let (place, _) = self.table.iter().find(|(_, slot)| slot.is_for(file))?;
         Some(place.directory)
@@ -92,7 +95,7 @@ impl Slots {
 
     /// How many names a file has. Goes through all slots.
     pub fn links(&self, file: FileId) -> usize
-        ensures { result ≡ count_by (λ entry. entry.1 == file) (map.entries (names_shown self.now.table.entries)) }
+        ensures { result ≡ count_by (λ entry. file_eq entry.1 file) (map.entries (names_shown self.now.table.entries)) }
     {
         self.table
             .iter()

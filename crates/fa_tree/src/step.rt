@@ -1,6 +1,7 @@
 //! One step of a tree: a call is judged, and then the tree is what it leaves.
 
 ghost use Rattle.std.specs.Prelude.{◌≡◌, ◌↔◌, ◌<◌, ℕ, Bool, List, Option, None, Some, length, map, IsTrue, IfSome, IfNone, IfErr, OnOk, OnErr};
+ghost use Rattle.fa_tree.specs.declared.id.FileId.{FileId};
 ghost use Rattle.std.specs.Option.{option_to_list};
 ghost use Rattle.fa_capture.specs.Checks.{AllHold, FirstFailure};
 ghost use Rattle.fa_bodies.specs.Dirents.{PlainDirent};
@@ -70,7 +71,7 @@ impl Tree {
     /// [`UNKNOWN_HERE`](fa_capture::codes::UNKNOWN_HERE) that the tree knows no file for a node that the call names, or no open
     /// directory for its handle;
     /// [`SUCCESS_NOT_ALLOWED`](fa_capture::codes::SUCCESS_NOT_ALLOWED) that the request can't succeed here, or not with such an
-    /// answer; [`ERROR_WITHOUT_CAUSE`](fa_capture::codes::ERROR_WITHOUT_CAUSE) that an error of POSIX that has one cause is
+    /// answer, or has made its file already; [`ERROR_WITHOUT_CAUSE`](fa_capture::codes::ERROR_WITHOUT_CAUSE) that an error of POSIX that has one cause is
     /// answered without it; [`ATTRIBUTES`](fa_capture::codes::ATTRIBUTES) that attributes (`struct fuse_attr`) are not those of
     /// the file; [`NODE_ID_OF_ANOTHER`](fa_capture::codes::NODE_ID_OF_ANOTHER) that a node is given for another file than
     /// before; [`BYTES_READ`](fa_capture::codes::BYTES_READ) that bytes are not those of the file, or a target another one;
@@ -107,15 +108,20 @@ impl Tree {
 
     /// The files that the nodes of a call stand for, if the tree knows all of them.
     pub(crate) fn files_named(&self, call: &Call<'_>) -> Option<Named>
-        ensures found { IfSome result (λ named. (file_of self.now call.now.node ≡ Some named.node) × (other_of self.now call.now.other ≡ Some named.other)) }
-        ensures none { IfNone result ((node : ℕ) (other : Option ℕ) → file_of self.now call.now.node ≡ Some node → other_of self.now call.now.other ≡ Some other → ⊥) }
+        ensures found { IfSome result (λ named. (file_of self.now call.now.node ≡ Some named.node) × (other_of self.now call.now.other ≡ Some named.other) × (named.asked ≡ call.now.asked)) }
+        ensures none { IfNone result ((node : FileId) (other : Option FileId) → file_of self.now call.now.node ≡ Some node → other_of self.now call.now.other ≡ Some other → ⊥) }
     {
         let node = self.file_of(&call.node)?;
         match &call.other {
-            None => Some(Named { node, other: None }),
+            None => Some(Named {
+                asked: call.asked,
+                node,
+                other: None,
+            }),
             Some(name) => match self.file_of(name) {
                 None => None,
                 Some(file) => Some(Named {
+                    asked: call.asked,
                     node,
                     other: Some(file),
                 }),

@@ -1,15 +1,15 @@
 //! What a tree stores: files, the names of directories, and the directories that are open.
 
-ghost use Rattle.std.specs.Prelude.{◌≡◌, ◌<◌, length, IfOk, OnOk, OnErr};
+ghost use Rattle.std.specs.Prelude.{◌≡◌, None, IfOk, OnOk, OnErr};
 ghost use Rattle.std.specs.FinMap as map;
 ghost use Rattle.std.specs.Option.{option_map};
 ghost use Rattle.fa_tree.specs.State as state;
-ghost use Rattle.fa_tree.specs.State.{IsDirectory};
+ghost use Rattle.fa_tree.specs.State.{IsFile, IsDirectory};
 ghost use Rattle.fa_tree.specs.Making.{MayBeMade};
-ghost use Rattle.fa_tree.specs.Building.{empty_tree, tree_added, tree_linked};
+ghost use Rattle.fa_tree.specs.Building.{empty_tree, next_added, tree_added, tree_linked};
 ghost use Rattle.fa_tree.specs.parts.FileParts.{file_shown};
 ghost use Rattle.fa_tree.specs.parts.OpenParts.{open_of};
-ghost use Rattle.fa_tree.specs.parts.StoredParts.{as_tree, stored_of};
+ghost use Rattle.fa_tree.specs.parts.StoredParts.{as_tree, stored_of, stored_made, IsMadeOrNext};
 
 use crate::file::File;
 use crate::files::Files;
@@ -59,7 +59,7 @@ impl Stored {
     pub fn root(&self) -> FileId
         ensures { result ≡ state.root }
     {
-        FileId::new(0)
+        FileId::Root
     }
 
     /// The file of a name in a directory, if the name is there.
@@ -83,7 +83,7 @@ impl Stored {
     /// Adds a name to a directory, for a file that is there and no directory.
     pub fn link(&mut self, directory: FileId, name: &[u8], file: FileId) -> Result<(), AllocError>
         requires free { MayBeMade self.old.store directory name.now }
-        requires there { file < length self.old.store.files }
+        requires there { IsFile self.old.store file }
         requires other { IsDirectory self.old.store file → ⊥ }
         ensures linked { OnOk result (self.new ≡ stored_of (tree_linked (as_tree self.old) directory name.now file)) }
         ensures unchanged { OnErr result (self.new ≡ self.old) }
@@ -91,21 +91,40 @@ impl Stored {
         self.names.put(directory, name, file)
     }
 
-    /// Makes a file in a directory under a name, and answers its number.
-    pub fn make(&mut self, directory: FileId, name: &[u8], file: File) -> Result<FileId, AllocError>
-        requires { MayBeMade self.old.store directory name.now }
-        ensures number { IfOk result (λ number. number ≡ length self.old.store.files) }
-        ensures made { OnOk result (self.new ≡ stored_of (tree_added (as_tree self.old) directory name.now (file_shown file))) }
+    /// Makes a file in a directory under a name, which is to be known by this.
+    pub fn make(
+        &mut self,
+        id: FileId,
+        directory: FileId,
+        name: &[u8],
+        file: File,
+    ) -> Result<(), AllocError>
+        requires free { MayBeMade self.old.store directory name.now }
+        requires new { map.get self.old.store.files id ≡ None }
+        requires made { IsMadeOrNext self.old.store.files id }
+        ensures made { OnOk result (self.new ≡ stored_made id directory name.now (file_shown file) self.old) }
         ensures unchanged { OnErr result (self.new ≡ self.old) }
     {
-        let number = self.files.next();
-        self.files.push(file)?;
-        match self.names.put(directory, name, number) {
-            Ok(()) => Ok(number),
+        self.files.insert(id, file)?;
+        match self.names.put(directory, name, id) {
+            Ok(()) => Ok(()),
             Err(error) => {
-                self.files.pop();
+                self.files.remove(id);
                 Err(error)
             }
         }
+    }
+
+    /// Puts a file into a directory under a name, and answers what it is known by.
+    pub fn add(&mut self, directory: FileId, name: &[u8], file: File) -> Result<FileId, AllocError>
+        requires { MayBeMade self.old.store directory name.now }
+        ensures next { IfOk result (λ id. id ≡ next_added (as_tree self.old)) }
+        ensures fresh { IfOk result (λ id. map.get self.old.store.files id ≡ None) }
+        ensures added { OnOk result (self.new ≡ stored_of (tree_added (as_tree self.old) directory name.now (file_shown file))) }
+        ensures unchanged { OnErr result (self.new ≡ self.old) }
+    {
+        let id = FileId::Added(self.files.len());
+        self.make(id, directory, name, file)?;
+        Ok(id)
     }
 }

@@ -1,11 +1,11 @@
 //! The tree.
 
-ghost use Rattle.std.specs.Prelude.{◌≡◌, ◌↔◌, ◌≤◌, length, IsTrue, IfOk, IfErr, OnOk, OnErr};
+ghost use Rattle.std.specs.Prelude.{◌≡◌, ◌↔◌, ◌≤◌, None, IsTrue, IfOk, IfErr, OnOk, OnErr};
 ghost use Rattle.std.specs.FinMap as map;
 ghost use Rattle.fa_capture.specs.declared.codes.TheConstants.{SUCCESS_NOT_ALLOWED};
 ghost use Rattle.fa_tree.specs.State as state;
 ghost use Rattle.fa_tree.specs.Attributes.{all_bits};
-ghost use Rattle.fa_tree.specs.Building.{empty_tree, file_of_kind, MayHold, MayBeAdded, tree_added, MayBeLinkedTo, tree_linked};
+ghost use Rattle.fa_tree.specs.Building.{empty_tree, file_of_kind, MayHold, MayBeAdded, next_added, tree_added, MayBeLinkedTo, tree_linked};
 ghost use Rattle.fa_tree.specs.Refusals.{IsRefusal};
 
 use crate::contents::Contents;
@@ -73,7 +73,7 @@ impl Tree {
     }
 
     /// Adds a file of this type to a directory under a name: its permission bits (0777 at most; those of a symbolic link are
-    /// not used), and its bytes, or its target. Answers its number, the next one.
+    /// not used), and its bytes, or its target. Answers what it is known by.
     ///
     /// `Refused` with [`SUCCESS_NOT_ALLOWED`](fa_capture::codes::SUCCESS_NOT_ALLOWED) tells that the parent is no directory or
     /// is not linked, that the name is there or is not permitted, that a file of this type may not have this body (regular
@@ -91,7 +91,8 @@ impl Tree {
         body: &[u8],
     ) -> Result<FileId, StepError>
         requires bits { bits ≤ all_bits }
-        ensures number { IfOk result (λ file. file ≡ length self.old.store.files) }
+        ensures next { IfOk result (λ file. file ≡ next_added self.old) }
+        ensures fresh { IfOk result (λ file. map.get self.old.store.files file ≡ None) }
         ensures added { OnOk result (self.new ≡ tree_added self.old parent name.now (file_of_kind kind bits body.now)) }
         ensures allowed { OnOk result (MayBeAdded self.old parent name.now kind body.now) }
         ensures refused { IfErr result (λ e. IsRefusal e SUCCESS_NOT_ALLOWED (MayBeAdded self.old parent name.now kind body.now)) }
@@ -102,14 +103,14 @@ impl Tree {
         }
         let contents = Contents::from_slice(self.stored.alloc, body)?;
         let file = File::new(kind, u32::from(bits), contents);
-        Ok(self.stored.make(parent, name, file)?)
+        Ok(self.stored.add(parent, name, file)?)
     }
 
     /// Adds a further name to a directory, for a file that is there.
     ///
     /// `Refused` with [`SUCCESS_NOT_ALLOWED`](fa_capture::codes::SUCCESS_NOT_ALLOWED) tells that the parent is no directory or
-    /// is not linked, that the name is there or is not permitted, or that the file is a directory or of no number that the tree
-    /// has; `Memory` that memory was refused. The tree is then as it was.
+    /// is not linked, that the name is there or is not permitted, or that the file is a directory or is not in the tree;
+    /// `Memory` that memory was refused. The tree is then as it was.
     ///
     /// Time and memory in the bytes of the name; and time in all names of the tree, unless the parent is the root.
     pub fn add_link(&mut self, parent: FileId, name: &[u8], file: FileId) -> Result<(), StepError>

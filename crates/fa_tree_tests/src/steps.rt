@@ -1,11 +1,11 @@
-//! Steps of a tree that no order of a capture shows: those of requests whose node is not known here yet, and those to which memory
-//! is refused.
+//! Steps of a tree that no order of a capture shows: those of requests whose node is not known here yet, that which is made twice, and
+//! those to which memory is refused.
 
 use crate::trees::Added::{self, File};
 use crate::trees::{empty_again, tree_of};
 use fa_bodies::ROOT_ID as ROOT;
 use fa_bodies::errno::EACCES;
-use fa_capture::codes::{CHOICE_NOT_ALLOWED, UNKNOWN_HERE};
+use fa_capture::codes::{CHOICE_NOT_ALLOWED, SUCCESS_NOT_ALLOWED, UNKNOWN_HERE};
 use fa_capture::{Direction, read_capture};
 use fa_ledger::Calls;
 use fa_tests::messages::{INIT, INIT_ANSWER, begun, packet, spelled, thirty};
@@ -114,6 +114,9 @@ const CREATE: &[(usize, u8)] = &[
 ];
 
 const CREATED: &[(usize, u8)] = &[(0, 160), (116, 0xA4), (117, 0x81), (120, 1)];
+/// The message of SYMLINK.
+const SYMLINK_AT: u32 = 64;
+
 /// SYMLINK of `s` with the target `t`, its answer, RENAME of `s` to `t`, and its answer.
 const SYMLINK: &[(usize, u8)] = &[(0, 44), (4, 6), (8, 1), (16, 1), (40, b's'), (42, b't')];
 
@@ -167,7 +170,12 @@ fn steps_again(tree: &mut Tree, calls: &Calls<'_>, at: u32) -> bool {
     }
 }
 
-/// Whether all calls step, and leave `t` and the names of 30 files.
+/// Whether the SYMLINK, whose name was moved away, is refused when it is done again: it has made its file.
+fn is_made_once(tree: &mut Tree, calls: &Calls<'_>) -> bool {
+    step(tree, calls, SYMLINK_AT, None) == Some(Err(StepError::Refused(SUCCESS_NOT_ALLOWED)))
+}
+
+/// Whether all calls step, and leave `t` and the names of 30 files, and the file that was made is made once.
 fn all_step(alloc: Global, calls: &Calls<'_>) -> Option<bool> {
     let mut tree = empty_again(alloc)?;
     let mut all_step = true;
@@ -177,7 +185,8 @@ fn all_step(alloc: Global, calls: &Calls<'_>) -> Option<bool> {
         }
     }
     let names = named(&tree).iter().filter(|file| file.is_some()).count();
-    Some(all_step && names == 31 && tree.find(tree.root(), b"t").is_some())
+    let is_there = tree.find(tree.root(), b"t").is_some();
+    Some(all_step && names == 31 && is_there && is_made_once(&mut tree, calls))
 }
 
 /// The sessions, the ledger and the tree alone take memory here. An ordinary run has ample memory, so only a run by
@@ -203,7 +212,7 @@ fn a_step_without_memory_is_taken_again(rt: HostRuntime) {
         packets[4 + place] = packet(to, &creates[place]);
         packets[34 + place] = packet(from, &created[place]);
     }
-    packets[64] = packet(to, &symlink);
+    packets[SYMLINK_AT as usize] = packet(to, &symlink);
     packets[65] = packet(from, &symlinked);
     packets[66] = packet(to, &rename);
     packets[67] = packet(from, &renamed);

@@ -6,6 +6,7 @@ use Rattle.std.specs.declared.alloc.AllocError.{AllocError}
 use Rattle.std.proofs.lemmas.List.Elements.{All-append, All-cons, All-nil}
 use Rattle.fa_bodies.specs.declared.mode.Kind.{Kind}
 use Rattle.fa_bodies.specs.declared.mode.Kind.TheVariants.{Fifo, CharDevice, Directory, BlockDevice, Regular, Symlink, Socket}
+use Rattle.fa_tree.specs.declared.id.FileId.{FileId}
 use Rattle.fa_tree.specs.declared.error.StepError.{StepError}
 use Rattle.fa_tree.specs.declared.error.StepError.TheVariants.{Refused, Memory}
 use Rattle.fa_tree.specs.Refusals.{IsRefusal}
@@ -32,53 +33,53 @@ refusal_refuses e told code Allowed is (inl refused) = refused.1
 refusal_refuses e told code Allowed is (inr memory) = let no_code : Refused told ≡ Memory = sym is ∙ memory.0 in absurd cc
 
 -- a path that leads nowhere has no file
-pub no_parent_no_file : (old : TreeState) (kind : Kind) (bits : ℕ) (text : List ℕ) (spelled : Option (List ℕ)) → ((parent : ℕ) (last : List ℕ) → Reaches old.store root text parent last → ⊥)
+pub no_parent_no_file : (old : TreeState) (kind : Kind) (bits : ℕ) (text : List ℕ) (spelled : Option (List ℕ)) → ((parent : FileId) (last : List ℕ) → Reaches old.store root text parent last → ⊥)
     → (p : Path) (other : TreeState) → text ≡ path_text p → AddsFile old other kind bits p spelled → ⊥
 no_parent_no_file old kind bits text spelled none p other e adds = none adds.parent (name_of p) (reaches_path old.store text adds.parent p e adds.is_path adds.is_parent)
 
 -- nor a file that may not be added
-pub refused_no_file : (old : TreeState) (kind : Kind) (bits : ℕ) (text : List ℕ) (spelled : Option (List ℕ)) (parent : ℕ) (last body : List ℕ)
+pub refused_no_file : (old : TreeState) (kind : Kind) (bits : ℕ) (text : List ℕ) (spelled : Option (List ℕ)) (parent : FileId) (last body : List ℕ)
     → Reaches old.store root text parent last → SpellsBody kind spelled body → (MayBeAdded old parent last kind body → ⊥)
     → (p : Path) (other : TreeState) → text ≡ path_text p → AddsFile old other kind bits p spelled → ⊥
 refused_no_file old kind bits text spelled parent last body r is refused p other e adds =
     let same = reaches_same old.store text parent adds.parent last p r e adds.is_path adds.is_parent in
     let bodies : adds.body ≡ body = one_spelled_body kind spelled adds.body body adds.is_body is in
-    let first : MayBeAdded old parent (name_of p) kind adds.body = subst (λ (f : ℕ). MayBeAdded old f (name_of p) kind adds.body) same.0 adds.allowed in
+    let first : MayBeAdded old parent (name_of p) kind adds.body = subst (λ (f : FileId). MayBeAdded old f (name_of p) kind adds.body) same.0 adds.allowed in
     let second : MayBeAdded old parent last kind adds.body = subst (λ (n : List ℕ). MayBeAdded old parent n kind adds.body) same.1 first in
     refused (subst (MayBeAdded old parent last kind) bodies second)
 
 -- the file at the end of a path, as it is looked for
-pub file_none : (s : Store) (text : List ℕ) (parent : ℕ) (last : List ℕ) (r : Option ℕ) → r ≡ map.get s.names (parent, last) → Reaches s root text parent last
-    → IfNone r ((p : Path) (file : ℕ) → text ≡ path_text p → IsPath p → IsAt s file p → ⊥)
+pub file_none : (s : Store) (text : List ℕ) (parent : FileId) (last : List ℕ) (r : Option FileId) → r ≡ map.get s.names (parent, last) → Reaches s root text parent last
+    → IfNone r ((p : Path) (file : FileId) → text ≡ path_text p → IsPath p → IsAt s file p → ⊥)
 file_none s text parent last None found r = λ p file e is at.
     let same = reaches_same s text parent at.0 last p r e is at.1 in
-    let there : HasName s parent last file = subst (λ (n : List ℕ). HasName s parent n file) same.1 (subst (λ (d : ℕ). HasName s d (name_of p) file) same.0 at.2) in
+    let there : HasName s parent last file = subst (λ (n : List ℕ). HasName s parent n file) same.1 (subst (λ (d : FileId). HasName s d (name_of p) file) same.0 at.2) in
     let none : None ≡ Some file = found ∙ there in
     absurd cc
 file_none s text parent last (Some number) found r = tt
 
-pub no_parent_none : (s : Store) (text : List ℕ) → ((parent : ℕ) (last : List ℕ) → Reaches s root text parent last → ⊥) → (p : Path) (file : ℕ) → text ≡ path_text p → IsPath p → IsAt s file p → ⊥
+pub no_parent_none : (s : Store) (text : List ℕ) → ((parent : FileId) (last : List ℕ) → Reaches s root text parent last → ⊥) → (p : Path) (file : FileId) → text ≡ path_text p → IsPath p → IsAt s file p → ⊥
 no_parent_none s text none p file e is at = none at.0 (name_of p) (reaches_path s text at.0 p e is at.1)
 
 -- a further name needs a file
-pub no_file_no_name : (old : TreeState) (text older : List ℕ) → ((p : Path) (file : ℕ) → older ≡ path_text p → IsPath p → IsAt old.store file p → ⊥)
+pub no_file_no_name : (old : TreeState) (text older : List ℕ) → ((p : Path) (file : FileId) → older ≡ path_text p → IsPath p → IsAt old.store file p → ⊥)
     → (p q : Path) (other : TreeState) → text ≡ path_text p → older ≡ path_text q → AddsName old other p q → ⊥
 no_file_no_name old text older none p q other e also adds = none q adds.file also adds.is_older adds.is_file
 
 -- and a directory
-pub no_parent_no_name : (old : TreeState) (text older : List ℕ) → ((parent : ℕ) (last : List ℕ) → Reaches old.store root text parent last → ⊥)
+pub no_parent_no_name : (old : TreeState) (text older : List ℕ) → ((parent : FileId) (last : List ℕ) → Reaches old.store root text parent last → ⊥)
     → (p q : Path) (other : TreeState) → text ≡ path_text p → older ≡ path_text q → AddsName old other p q → ⊥
 no_parent_no_name old text older none p q other e also adds = none adds.parent (name_of p) (reaches_path old.store text adds.parent p e adds.is_path adds.is_parent)
 
 -- and may be added
-pub refused_no_name : (old : TreeState) (text older : List ℕ) (parent file : ℕ) (last : List ℕ) → Reaches old.store root text parent last
+pub refused_no_name : (old : TreeState) (text older : List ℕ) (parent file : FileId) (last : List ℕ) → Reaches old.store root text parent last
     → ((p : Path) × (older ≡ path_text p) × IsPath p × IsAt old.store file p) → (MayBeLinkedTo old parent last file → ⊥)
     → (p q : Path) (other : TreeState) → text ≡ path_text p → older ≡ path_text q → AddsName old other p q → ⊥
 refused_no_name old text older parent file last r found refused p q other e also adds =
     let same = reaches_same old.store text parent adds.parent last p r e adds.is_path adds.is_parent in
     let paths : found.0 ≡ q = one_path found.0 q found.2 adds.is_older (sym found.1 ∙ also) in
     let files : adds.file ≡ file = at_one old.store q adds.file file adds.is_file (subst (IsAt old.store file) paths found.3) in
-    let first : MayBeLinkedTo old parent (name_of p) adds.file = subst (λ (d : ℕ). MayBeLinkedTo old d (name_of p) adds.file) same.0 adds.allowed in
+    let first : MayBeLinkedTo old parent (name_of p) adds.file = subst (λ (d : FileId). MayBeLinkedTo old d (name_of p) adds.file) same.0 adds.allowed in
     let second : MayBeLinkedTo old parent last adds.file = subst (λ (n : List ℕ). MayBeLinkedTo old parent n adds.file) same.1 first in
     refused (subst (MayBeLinkedTo old parent last) files second)
 

@@ -2,6 +2,7 @@
 use Rattle.std.proofs.Common.{◌≡◌, ◌≢◌, ℕ, ◌≤◌, List, [], ◌∷◌, ◌++◌, All, Some, refl, sym, ap, subst, ◌∙◌, arith}
 use Rattle.std.specs.List.{flat_map}
 use Rattle.std.proofs.lemmas.List.Elements.{All-append, All-cons, All-head, All-nil, All-tail, All-weaker}
+use Rattle.fa_tree.specs.declared.id.FileId.{FileId}
 use Rattle.fa_tree.specs.State.{Store, root, HasName}
 use Rattle.fa_tree_text.specs.Paths.{Path, path_text, slashed, IsSpelledName, IsPath, name_of, LeadsTo, IsParentOf, IsAt}
 use Rattle.fa_bodies.specs.Names.{LacksByte}
@@ -54,25 +55,25 @@ one_path p q is too e =
 
 -- ---- one file
 
-pub leads_one : (s : Store) (from : ℕ) (ds : List (List ℕ)) (to other : ℕ) → LeadsTo s from ds to → LeadsTo s from ds other → to ≡ other
+pub leads_one : (s : Store) (from : FileId) (ds : List (List ℕ)) (to other : FileId) → LeadsTo s from ds to → LeadsTo s from ds other → to ≡ other
 leads_one s from [] to other a b = a ∙ sym b
 leads_one s from (d ∷ ds) to other a b =
     let there : Some a.0 ≡ Some b.0 = sym a.1 ∙ b.1 in
     let same : a.0 ≡ b.0 = cc in
-    leads_one s b.0 ds to other (subst (λ (f : ℕ). LeadsTo s f ds to) same a.2) b.2
+    leads_one s b.0 ds to other (subst (λ (f : FileId). LeadsTo s f ds to) same a.2) b.2
 
-pub at_one : (s : Store) (p : Path) (file other : ℕ) → IsAt s file p → IsAt s other p → file ≡ other
+pub at_one : (s : Store) (p : Path) (file other : FileId) → IsAt s file p → IsAt s other p → file ≡ other
 at_one s p file other a b =
     let same : a.0 ≡ b.0 = leads_one s root p.directories a.0 b.0 a.1 b.1 in
-    let there : Some file ≡ Some other = sym a.2 ∙ subst (λ (d : ℕ). HasName s d (name_of p) other) (sym same) b.2 in
+    let there : Some file ≡ Some other = sym a.2 ∙ subst (λ (d : FileId). HasName s d (name_of p) other) (sym same) b.2 in
     cc
 
 -- a path leads along the text that it has
-pub reaches_path : (s : Store) (text : List ℕ) (parent : ℕ) (p : Path) → text ≡ path_text p → IsPath p → IsParentOf s parent p → Reaches s root text parent (name_of p)
+pub reaches_path : (s : Store) (text : List ℕ) (parent : FileId) (p : Path) → text ≡ path_text p → IsPath p → IsParentOf s parent p → Reaches s root text parent (name_of p)
 reaches_path s text parent p e is way = record { path = p; spelled = e; is_path = is; leads = way; last_is = refl }
 
 -- and to where that text leads
-pub reaches_same : (s : Store) (text : List ℕ) (parent other : ℕ) (last : List ℕ) (p : Path) → Reaches s root text parent last → text ≡ path_text p → IsPath p → IsParentOf s other p → (other ≡ parent) × (name_of p ≡ last)
+pub reaches_same : (s : Store) (text : List ℕ) (parent other : FileId) (last : List ℕ) (p : Path) → Reaches s root text parent last → text ≡ path_text p → IsPath p → IsParentOf s other p → (other ≡ parent) × (name_of p ≡ last)
 reaches_same s text parent other last p r e is way =
     let same : r.path ≡ p = one_path r.path p r.is_path is (sym r.spelled ∙ e) in (
       leads_one s root p.directories other parent way (subst (λ (q : Path). LeadsTo s root q.directories parent) same r.leads),

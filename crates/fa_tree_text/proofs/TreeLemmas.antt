@@ -5,6 +5,7 @@ use Rattle.std.proofs.lemmas.List.{append-nil, length-append}
 use Rattle.std.proofs.lemmas.List.Concat.{flat_map-append}
 use Rattle.fa_bodies.specs.declared.mode.Kind.{Kind}
 use Rattle.fa_bodies.specs.declared.mode.Kind.TheVariants.{Fifo, CharDevice, Directory, BlockDevice, Regular, Symlink, Socket}
+use Rattle.fa_tree.specs.declared.id.FileId.{FileId}
 use Rattle.fa_tree.specs.Attributes.{all_bits}
 use Rattle.fa_tree.specs.State.{TreeState, root}
 use Rattle.fa_tree.specs.Building.{empty_tree, file_of_kind, tree_added, tree_linked}
@@ -56,12 +57,12 @@ one_addition : (old new other : TreeState) (line : TreeLine) → Adds old new li
 one_addition old new other (NewFile kind bits p body) adds too =
     let parents : adds.parent ≡ too.parent = leads_one old.store root p.directories adds.parent too.parent adds.is_parent too.is_parent in
     let bodies : adds.body ≡ too.body = one_spelled_body kind body adds.body too.body adds.is_body too.is_body in
-    adds.added ∙ ap (λ (f : ℕ). tree_added old f (name_of p) (file_of_kind kind bits adds.body)) parents
+    adds.added ∙ ap (λ (f : FileId). tree_added old f (name_of p) (file_of_kind kind bits adds.body)) parents
     ∙ ap (λ (b : List ℕ). tree_added old too.parent (name_of p) (file_of_kind kind bits b)) bodies ∙ sym too.added
 one_addition old new other (FurtherName p older) adds too =
     let parents : adds.parent ≡ too.parent = leads_one old.store root p.directories adds.parent too.parent adds.is_parent too.is_parent in
     let files : adds.file ≡ too.file = at_one old.store older adds.file too.file adds.is_file too.is_file in
-    adds.added ∙ ap (λ (f : ℕ). tree_linked old f (name_of p) adds.file) parents ∙ ap (tree_linked old too.parent (name_of p)) files ∙ sym too.added
+    adds.added ∙ ap (λ (f : FileId). tree_linked old f (name_of p) adds.file) parents ∙ ap (tree_linked old too.parent (name_of p)) files ∙ sym too.added
 
 -- ---- the last line
 

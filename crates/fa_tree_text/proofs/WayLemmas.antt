@@ -3,6 +3,7 @@ use Rattle.std.proofs.Common.{◌≡◌, ℕ, List, [], ◌∷◌, ◌++◌, All
 use Rattle.std.specs.List.{flat_map}
 use Rattle.std.proofs.lemmas.List.Elements.{All-cons, All-head, All-tail, All-nil}
 use Rattle.percent_encoding.specs.Percent.{percent_decode}
+use Rattle.fa_tree.specs.declared.id.FileId.{FileId}
 use Rattle.fa_tree.specs.State.{Store, HasName}
 use Rattle.fa_tree_text.specs.Paths.{slashed, IsSpelledName, LeadsTo}
 use Rattle.fa_bodies.specs.Names.{LacksByte}
@@ -23,8 +24,8 @@ path_on spelled ds name =
     append_assoc (slashed spelled) (flat_map slashed ds) name ∙ append_assoc spelled (47 ∷ []) (flat_map slashed ds ++ name)
 
 -- one directory more in front
-pub reaches_on : (s : Store) (from next : ℕ) (text spelled rest : List ℕ) → text ≡ spelled ++ 47 ∷ rest → IsSpelledName spelled → HasName s from (percent_decode spelled) next
-    → (to : ℕ) (last : List ℕ) → Reaches s next rest to last → Reaches s from text to last
+pub reaches_on : (s : Store) (from next : FileId) (text spelled rest : List ℕ) → text ≡ spelled ++ 47 ∷ rest → IsSpelledName spelled → HasName s from (percent_decode spelled) next
+    → (to : FileId) (last : List ℕ) → Reaches s next rest to last → Reaches s from text to last
 reaches_on s from next text spelled rest whole is has to last r = record {
   path = record { directories = spelled ∷ r.path.directories; name = r.path.name };
   spelled = whole ∙ ap (λ (x : List ℕ). spelled ++ 47 ∷ x) r.spelled ∙ sym (path_on spelled r.path.directories r.path.name);
@@ -34,13 +35,13 @@ reaches_on s from next text spelled rest whole is has to last r = record {
 }
 
 -- a way whose text has a slash, taken one step
-pub record Steps (s : Store) (from : ℕ) (spelled rest : List ℕ) (to : ℕ) (last : List ℕ) : Type 0 where
+pub record Steps (s : Store) (from : FileId) (spelled rest : List ℕ) (to : FileId) (last : List ℕ) : Type 0 where
   pub is_spelled : IsSpelledName spelled
-  pub next : ℕ
+  pub next : FileId
   pub has : HasName s from (percent_decode spelled) next
   pub reaches : Reaches s next rest to last
 
-step_of : (s : Store) (from : ℕ) (text spelled rest : List ℕ) (to : ℕ) (last : List ℕ) (ds : List (List ℕ)) (name : List ℕ) → text ≡ spelled ++ 47 ∷ rest → LacksByte 47 spelled
+step_of : (s : Store) (from : FileId) (text spelled rest : List ℕ) (to : FileId) (last : List ℕ) (ds : List (List ℕ)) (name : List ℕ) → text ≡ spelled ++ 47 ∷ rest → LacksByte 47 spelled
     → text ≡ flat_map slashed ds ++ name → All IsSpelledName ds → IsSpelledName name → LeadsTo s from ds to → last ≡ percent_decode name → Steps s from spelled rest to last
 step_of s from text spelled rest to last [] name whole lacks path are is leads last_is = absurd (no_split 47 text spelled rest (subst (LacksByte 47) (sym path) (no_slash name is)) whole)
 step_of s from text spelled rest to last (d ∷ ds) name whole lacks path are is leads last_is =
@@ -54,23 +55,23 @@ step_of s from text spelled rest to last (d ∷ ds) name whole lacks path are is
       reaches = record { path = record { directories = ds; name = name }; spelled = parts.1; is_path = record { directories = All-tail IsSpelledName d ds are; name = is }; leads = leads.2; last_is = last_is };
     }
 
-pub reaches_step : (s : Store) (from : ℕ) (text spelled rest : List ℕ) → text ≡ spelled ++ 47 ∷ rest → LacksByte 47 spelled → (to : ℕ) (last : List ℕ) → Reaches s from text to last → Steps s from spelled rest to last
+pub reaches_step : (s : Store) (from : FileId) (text spelled rest : List ℕ) → text ≡ spelled ++ 47 ∷ rest → LacksByte 47 spelled → (to : FileId) (last : List ℕ) → Reaches s from text to last → Steps s from spelled rest to last
 reaches_step s from text spelled rest whole lacks to last r =
     step_of s from text spelled rest to last r.path.directories r.path.name whole lacks r.spelled r.is_path.directories r.is_path.name r.leads r.last_is
 
 -- the step leads to the file of the name
-pub reaches_back : (s : Store) (from next : ℕ) (text spelled rest : List ℕ) → text ≡ spelled ++ 47 ∷ rest → LacksByte 47 spelled → HasName s from (percent_decode spelled) next
-    → (to : ℕ) (last : List ℕ) → Reaches s from text to last → Reaches s next rest to last
+pub reaches_back : (s : Store) (from next : FileId) (text spelled rest : List ℕ) → text ≡ spelled ++ 47 ∷ rest → LacksByte 47 spelled → HasName s from (percent_decode spelled) next
+    → (to : FileId) (last : List ℕ) → Reaches s from text to last → Reaches s next rest to last
 reaches_back s from next text spelled rest whole lacks has to last r =
     let step = reaches_step s from text spelled rest whole lacks to last r in
     let there : Some step.next ≡ Some next = sym step.has ∙ has in
     let same : step.next ≡ next = cc in
-    subst (λ (f : ℕ). Reaches s f rest to last) same step.reaches
+    subst (λ (f : FileId). Reaches s f rest to last) same step.reaches
 
 -- ---- the end of a way
 
 -- a name alone leads no further
-pub reaches_end : (s : Store) (from : ℕ) (text : List ℕ) → IsSpelledName text → Reaches s from text from (percent_decode text)
+pub reaches_end : (s : Store) (from : FileId) (text : List ℕ) → IsSpelledName text → Reaches s from text from (percent_decode text)
 reaches_end s from text is = record {
   path = record { directories = []; name = text };
   spelled = refl;
@@ -80,9 +81,9 @@ reaches_end s from text is = record {
 }
 
 -- what has no slash is a name alone
-end_of : (s : Store) (from : ℕ) (text : List ℕ) (ds : List (List ℕ)) (name : List ℕ) → LacksByte 47 text → text ≡ flat_map slashed ds ++ name → IsSpelledName name → IsSpelledName text
+end_of : (s : Store) (from : FileId) (text : List ℕ) (ds : List (List ℕ)) (name : List ℕ) → LacksByte 47 text → text ≡ flat_map slashed ds ++ name → IsSpelledName name → IsSpelledName text
 end_of s from text [] name lacks path is = subst IsSpelledName (sym path) is
 end_of s from text (d ∷ ds) name lacks path is = absurd (no_split 47 text d (flat_map slashed ds ++ name) lacks (path ∙ path_on d ds name))
 
-pub end_spelled : (s : Store) (from : ℕ) (text : List ℕ) → LacksByte 47 text → (to : ℕ) (last : List ℕ) → Reaches s from text to last → IsSpelledName text
+pub end_spelled : (s : Store) (from : FileId) (text : List ℕ) → LacksByte 47 text → (to : FileId) (last : List ℕ) → Reaches s from text to last → IsSpelledName text
 end_spelled s from text lacks to last r = end_of s from text r.path.directories r.path.name lacks r.spelled r.is_path.name

@@ -5,6 +5,7 @@ use Rattle.std.specs.List.{flat_map}
 use Rattle.hex.specs.Hex.{is_hex_digit}
 use Rattle.percent_encoding.specs.Percent.{percent_sign, percent_decode}
 use Rattle.fa_bodies.specs.Names.{IsName}
+use Rattle.fa_tree.specs.declared.id.FileId.{FileId}
 use Rattle.fa_tree.specs.State.{Store, root, HasName}
 
 -- a path, each name as it is spelled
@@ -49,14 +50,14 @@ abbrev pub name_of : Path → List ℕ
 name_of path = percent_decode path.name
 
 -- From a directory of the tree these names, decoded, lead down to a file.
-abbrev pub LeadsTo : Store → (from : ℕ) → (names : List (List ℕ)) → (to : ℕ) → Type 0
+abbrev pub LeadsTo : Store → (from : FileId) → (names : List (List ℕ)) → (to : FileId) → Type 0
 LeadsTo s from [] to = to ≡ from
-LeadsTo s from (name ∷ names) to = (next : ℕ) × HasName s from (percent_decode name) next × LeadsTo s next names to
+LeadsTo s from (name ∷ names) to = (next : FileId) × HasName s from (percent_decode name) next × LeadsTo s next names to
 
 -- the directories of the path lead from the root to this one
-abbrev pub IsParentOf : Store → (parent : ℕ) → Path → Type 0
+abbrev pub IsParentOf : Store → (parent : FileId) → Path → Type 0
 IsParentOf s parent path = LeadsTo s root path.directories parent
 
 -- the path leads to this file
-abbrev pub IsAt : Store → (file : ℕ) → Path → Type 0
-IsAt s file path = (parent : ℕ) × IsParentOf s parent path × HasName s parent (name_of path) file
+abbrev pub IsAt : Store → (file : FileId) → Path → Type 0
+IsAt s file path = (parent : FileId) × IsParentOf s parent path × HasName s parent (name_of path) file

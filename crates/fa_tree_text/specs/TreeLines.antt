@@ -3,6 +3,7 @@ use Rattle.std.specs.Prelude.{◌≡◌, ◌≤◌, ◌⊎◌, ◌+◌, ◌/◌,
 use Rattle.hex.specs.Hex.{decode_of}
 use Rattle.fa_bodies.specs.declared.mode.Kind.{Kind}
 use Rattle.fa_bodies.specs.declared.mode.Kind.TheVariants.{Fifo, CharDevice, Directory, BlockDevice, Regular, Symlink, Socket}
+use Rattle.fa_tree.specs.declared.id.FileId.{FileId}
 use Rattle.fa_tree.specs.State.{TreeState}
 use Rattle.fa_tree.specs.Attributes.{all_bits}
 use Rattle.fa_tree.specs.Building.{file_of_kind, MayBeAdded, tree_added, MayBeLinkedTo, tree_linked}
@@ -65,7 +66,7 @@ SpellsBody Socket spelled body = (spelled ≡ None) × (body ≡ [])
 
 -- The new file may be added where its path says, and the new tree is the old one with it.
 pub record AddsFile (old new : TreeState) (kind : Kind) (bits : ℕ) (path : Path) (spelled : Option (List ℕ)) : Type 0 where
-  pub parent : ℕ
+  pub parent : FileId
   pub body : List ℕ
   pub is_path : IsPath path
   pub is_parent : IsParentOf old.store parent path
@@ -76,8 +77,8 @@ pub record AddsFile (old new : TreeState) (kind : Kind) (bits : ℕ) (path : Pat
 
 -- The further name may be added where its path says, for the file at the older path, and the new tree is the old one with it.
 pub record AddsName (old new : TreeState) (path older : Path) : Type 0 where
-  pub parent : ℕ
-  pub file : ℕ
+  pub parent : FileId
+  pub file : FileId
   pub is_path : IsPath path
   pub is_parent : IsParentOf old.store parent path
   pub is_older : IsPath older

@@ -2,6 +2,7 @@
 
 ghost use Rattle.std.specs.Prelude.{◌≡◌, ◌≤◌, ◌++◌, ℕ, List, IfOk, IfSome, IfNone};
 ghost use Rattle.std.specs.Option.{option_copied};
+ghost use Rattle.fa_tree.specs.declared.id.FileId.{FileId};
 ghost use Rattle.fa_tree.specs.Attributes.{all_bits};
 ghost use Rattle.fa_tree_text.specs.Paths.{Path, path_text, IsPath, IsAt};
 ghost use Rattle.fa_tree_text.specs.TreeLines.{TreeLine, line_text, SpellsBytes, SpellsBody, Adds};
@@ -62,7 +63,7 @@ fn decode_body(
 /// The file to which a path leads, if it is a path and the file is there. The path's last name is decoded into `name`.
 fn find_file(tree: &Tree, path: &[u8], name: &mut Vec<u8>) -> Result<Option<FileId>, AllocError>
     ensures found { IfOk result (λ found. IfSome found (λ file. (p : Path) × (path.now ≡ path_text p) × IsPath p × IsAt tree.now.store file p)) }
-    ensures none { IfOk result (λ found. IfNone found ((p : Path) (file : ℕ) → path.now ≡ path_text p → IsPath p → IsAt tree.now.store file p → ⊥)) }
+    ensures none { IfOk result (λ found. IfNone found ((p : Path) (file : FileId) → path.now ≡ path_text p → IsPath p → IsAt tree.now.store file p → ⊥)) }
 {
     match find_parent(tree, path, name)? {
         Some(parent) => Ok(tree.find(parent, name)),

@@ -2,6 +2,7 @@
 
 ghost use Rattle.std.specs.Prelude.{◌≡◌, ◌↔◌, ◌<◌, ◌+◌, ℕ, List, length, All, IsTrue, IfOk, IfSome, IfNone, OnOk};
 ghost use Rattle.percent_encoding.specs.Percent.{percent_decode};
+ghost use Rattle.fa_tree.specs.declared.id.FileId.{FileId};
 ghost use Rattle.fa_tree.specs.State as state;
 ghost use Rattle.fa_tree_text.specs.Paths.{IsSpelledByte, HasHexDigit, HasWholeEscapes, IsSpelledName};
 ghost use Rattle.fa_tree_text.specs.parts.Ways.{Reaches};
@@ -72,7 +73,7 @@ pub(crate) fn find_parent(
     name: &mut Vec<u8>,
 ) -> Result<Option<FileId>, AllocError>
     ensures found { IfOk result (λ found. IfSome found (λ parent. Reaches tree.now.store state.root path.now parent name.new.items)) }
-    ensures none { IfOk result (λ found. IfNone found ((parent : ℕ) (last : List ℕ) → Reaches tree.now.store state.root path.now parent last → ⊥)) }
+    ensures none { IfOk result (λ found. IfNone found ((parent : FileId) (last : List ℕ) → Reaches tree.now.store state.root path.now parent last → ⊥)) }
 {
     let mut directory = tree.root();
     let mut left = path;

@@ -5,9 +5,10 @@ use Rattle.fa_capture.specs.declared.codes.TheConstants.{SUCCESS_NOT_ALLOWED, AT
 use Rattle.fa_bodies.specs.Dirents.{PlainDirent}
 use Rattle.fa_ledger.specs.declared.call.Listing.{Listing}
 use Rattle.fa_ledger.specs.declared.name.NodeName.{NodeName}
+use Rattle.fa_tree.specs.declared.id.FileId.{FileId}
 use Rattle.fa_tree.specs.State.{Store, IsDirectory, node_cmp}
 use Rattle.fa_tree.specs.Bindings.{AreBound, bound}
-use Rattle.fa_tree.specs.Directories.{TypesFit, files_on, EntriesAre}
+use Rattle.fa_tree.specs.Directories.{IsTypedIfLookedUp, TypesFit, files_on, EntriesAre}
 use Rattle.fa_tree.specs.Operations.{Setting}
 use Rattle.fa_tree.specs.Resolved.{Resolved}
 use Rattle.fa_tree.specs.declared.error.StepError.{StepError}
@@ -23,10 +24,14 @@ TellsSuch (Refused code) Such may_come = Such code
 TellsSuch Memory Such may_come = may_come
 
 -- the checks of entries that answer a call which lists, with the nodes that they give, in the order of their codes
-abbrev pub entries_checks : FinMap node_cmp ℕ → Store → Resolved → Option Listing → (size : ℕ) → (so_far : List PlainDirent) → List NodeName → List PlainDirent → List (ℕ × Type 0)
+abbrev pub entries_checks : FinMap node_cmp FileId → Store → Resolved → Option Listing → (size : ℕ) → (so_far : List PlainDirent) → List NodeName → List PlainDirent → List (ℕ × Type 0)
 entries_checks nodes s x listing size so_far given entries =
     (SUCCESS_NOT_ALLOWED, IsDirectory s x.node)
     ∷ (ATTRIBUTES, TypesFit s x.handle entries)
     ∷ (NODE_ID_OF_ANOTHER, AreBound nodes (bound given (files_on s x.handle entries)))
     ∷ (LISTING, EntriesAre s size x.handle listing so_far entries)
     ∷ []
+
+-- the type in the attributes of an entry fits, if it looks its name up, as one fact
+pub record IsTypedNow (s : Store) (directory : FileId) (d : PlainDirent) : Type 0 where
+  pub typed : IsTypedIfLookedUp s directory d

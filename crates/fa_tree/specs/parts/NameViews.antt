@@ -1,13 +1,14 @@
 -- The names, and the directories that are open, that slots and openings stand for.
-use Rattle.std.specs.Prelude.{◌≤◌, ◌+◌, ℕ, Bool, true, false, List, [], ◌∷◌, Option, Some, None, cond, nat_eq, nat_lt}
+use Rattle.std.specs.Prelude.{◌≤◌, ◌+◌, ℕ, Bool, true, false, List, [], ◌∷◌, Option, Some, None, cond, nat_lt}
 use Rattle.std.specs.Ordering.{nat_cmp}
 use Rattle.std.specs.declared.cmp.Ordering.{Ordering}
 use Rattle.std.specs.FinMap as map
 use Rattle.std.specs.FinMap.{FinMap}
 use Rattle.std.specs.FinSet as set
 use Rattle.std.specs.FinSet.{FinSet}
+use Rattle.fa_tree.specs.declared.id.FileId.{FileId}
 use Rattle.fa_tree.specs.State as state
-use Rattle.fa_tree.specs.State.{place_cmp, name_cmp, OpenDirectory}
+use Rattle.fa_tree.specs.State.{place_cmp, name_cmp, file_eq, OpenDirectory}
 use Rattle.fa_tree.specs.declared.slots.Place.{Place}
 use Rattle.fa_tree.specs.declared.slots.Slot.{Slot}
 use Rattle.fa_tree.specs.declared.slots.Slot.TheVariants.{There, Gone}
@@ -21,7 +22,7 @@ was_since at (There file born) = true
 was_since at (Gone gone) = nat_lt at gone
 
 -- the file that stayed since so many openings
-abbrev pub has_stayed : ℕ → Slot → Option ℕ
+abbrev pub has_stayed : ℕ → Slot → Option FileId
 has_stayed at (There file born) = cond (nat_lt at born) None (Some file)
 has_stayed at (Gone gone) = None
 
@@ -31,19 +32,19 @@ in_or_out s k true = set.insert s k
 in_or_out s k false = set.remove s k
 
 -- the names that were in a directory since so many openings
-abbrev pub since_shown : (directory at : ℕ) → List (Place × Slot) → FinSet name_cmp
+abbrev pub since_shown : (directory : FileId) (at : ℕ) → List (Place × Slot) → FinSet name_cmp
 since_shown directory at [] = set.empty
 since_shown directory at (e ∷ slots) =
-    cond (nat_eq directory e.0.directory) (in_or_out (since_shown directory at slots) e.0.name.items (was_since at e.1)) (since_shown directory at slots)
+    cond (file_eq directory e.0.directory) (in_or_out (since_shown directory at slots) e.0.name.items (was_since at e.1)) (since_shown directory at slots)
 
 -- the names in a directory whose files stayed since so many openings
-abbrev pub stayed_shown : (directory at : ℕ) → List (Place × Slot) → FinMap name_cmp ℕ
+abbrev pub stayed_shown : (directory : FileId) (at : ℕ) → List (Place × Slot) → FinMap name_cmp FileId
 stayed_shown directory at [] = map.empty
 stayed_shown directory at (e ∷ slots) =
-    cond (nat_eq directory e.0.directory) (put_or_not (stayed_shown directory at slots) e.0.name.items (has_stayed at e.1)) (stayed_shown directory at slots)
+    cond (file_eq directory e.0.directory) (put_or_not (stayed_shown directory at slots) e.0.name.items (has_stayed at e.1)) (stayed_shown directory at slots)
 
 -- a directory that was opened when so many were
-abbrev pub open_shown : List (Place × Slot) → (directory at : ℕ) → OpenDirectory
+abbrev pub open_shown : List (Place × Slot) → (directory : FileId) (at : ℕ) → OpenDirectory
 open_shown slots directory at = record { directory = directory; since = since_shown directory at slots; stayed = stayed_shown directory at slots }
 
 -- The directories that are open, after more openings, of which the first is the one of this number. Of two by one request

@@ -6,9 +6,9 @@ use Rattle.fa_tree.specs.declared.named.Named.{Named}
 use Rattle.fa_tree.specs.declared.named.NamedDirectory.{NamedDirectory}
 use Rattle.fa_tree.specs.parts.OpenParts.{open_of}
 
--- the files that are named, with an open directory if one is
+-- the request and the files that it names, with an open directory if one is
 abbrev pub named_shown : Named → Option OpenDirectory → Resolved
-named_shown n handle = record { node = n.node; other = n.other; handle = handle }
+named_shown n handle = record { asked = n.asked; node = n.node; other = n.other; handle = handle }
 
 -- the same of a call that lists
 abbrev pub directory_shown : NamedDirectory → Resolved

@@ -2,6 +2,7 @@
 use Rattle.std.specs.Prelude.{◌≡◌, ◌+◌, ℕ, List, [], ◌∷◌, Option, Some, None, cond, nat_eq}
 use Rattle.std.specs.Map.{lookup}
 use Rattle.std.specs.Option.{option_map, option_or}
+use Rattle.fa_tree.specs.declared.id.FileId.{FileId}
 use Rattle.fa_tree.specs.State.{OpenDirectory}
 use Rattle.fa_tree.specs.declared.open.Opening.{Opening}
 use Rattle.fa_tree.specs.declared.open.OpenNames.{OpenNames}
@@ -9,7 +10,7 @@ use Rattle.fa_tree.specs.parts.NameViews.{open_shown}
 
 -- The last of these openings that is by the request of this number, if one is: its place among all, where the first of these
 -- has this one, and its directory.
-abbrev pub last_opening : (asked at : ℕ) → List Opening → Option (ℕ × ℕ)
+abbrev pub last_opening : (asked at : ℕ) → List Opening → Option (ℕ × FileId)
 last_opening asked at [] = None
 last_opening asked at (o ∷ openings) =
     option_or (last_opening asked (at + 1) openings) (cond (nat_eq asked o.asked) (Some (at, o.directory)) None)

@@ -1,12 +1,13 @@
 -- The slots of places, as the table of names keeps them.
-use Rattle.std.specs.Prelude.{◌≡◌, ◌==◌, cond, ℕ, Bool, false, List, [], ◌∷◌, Option, Some, None}
+use Rattle.std.specs.Prelude.{◌≡◌, cond, ℕ, Bool, false, List, [], ◌∷◌, Option, Some, None}
 use Rattle.std.specs.FinMap as map
 use Rattle.std.specs.FinMap.{FinMap}
 use Rattle.std.specs.Map.{lookup}
 use Rattle.std.specs.Ordering.{eq_by_cmp}
 use Rattle.std.specs.declared.cmp.Ordering.{Ordering}
+use Rattle.fa_tree.specs.declared.id.FileId.{FileId}
 use Rattle.fa_tree.specs.State as state
-use Rattle.fa_tree.specs.State.{place_cmp}
+use Rattle.fa_tree.specs.State.{place_cmp, file_eq}
 use Rattle.fa_tree.specs.declared.slots.Place.{Place}
 use Rattle.fa_tree.specs.declared.slots.Slot.{Slot}
 use Rattle.fa_tree.specs.declared.slots.Slot.TheVariants.{There, Gone}
@@ -34,13 +35,13 @@ gone_at at (Some (Gone before)) = Some (Gone before)
 gone_at at None = None
 
 -- the file of a slot, if it has a name
-abbrev pub file_in : Slot → Option ℕ
+abbrev pub file_in : Slot → Option FileId
 file_in (There file born) = Some file
 file_in (Gone at) = None
 
 -- whether a slot has a name for a file
-abbrev pub is_of : ℕ → Slot → Bool
-is_of file (There of born) = of == file
+abbrev pub is_of : FileId → Slot → Bool
+is_of file (There of born) = file_eq of file
 is_of file (Gone at) = false
 
 -- the key with the value, or without one
@@ -49,6 +50,6 @@ put_or_not m k None = map.remove m k
 put_or_not m k (Some x) = map.insert m k x
 
 -- the names that there are: of two slots of one place the first counts
-abbrev pub names_shown : List (Place × Slot) → FinMap place_cmp ℕ
+abbrev pub names_shown : List (Place × Slot) → FinMap place_cmp FileId
 names_shown [] = map.empty
 names_shown (e ∷ slots) = put_or_not (names_shown slots) (place_of e.0) (file_in e.1)

@@ -8,8 +8,9 @@ use Rattle.fa_bodies.specs.declared.mode.Kind.{Kind}
 use Rattle.fa_bodies.specs.declared.mode.Kind.TheVariants.{Fifo, CharDevice, Directory, BlockDevice, Regular, Symlink, Socket}
 use Rattle.fa_ledger.specs.declared.name.NodeName.{NodeName}
 use Rattle.fa_ledger.specs.declared.name.NodeName.TheVariants.{Root, Given}
-use Rattle.fa_tree.specs.State.{File, Store, OpenDirectory, TreeState, place_cmp, node_cmp}
-use Rattle.fa_tree.specs.parts.NameParts.{open_code}
+use Rattle.fa_tree.specs.declared.id.FileId.{FileId}
+use Rattle.fa_tree.specs.State.{File, Store, OpenDirectory, TreeState, file_cmp, place_cmp, node_cmp}
+use Rattle.fa_tree.specs.parts.NameParts.{file_id_code, open_code}
 use Rattle.fa_tree.specs.parts.StoredParts.{StoredShown}
 
 -- ---- types of files, as numbers
@@ -64,9 +65,13 @@ file_code =
     code_by (Kind × (ℕ × List ℕ)) (coded× kind_code (coded× coded_ℕ (coded_list coded_ℕ)))
     (λ f. (f.kind, (f.bits, f.bytes))) (λ p. record { kind = p.0; bits = p.1.0; bytes = p.1.1 }) (λ _. refl)
 
+abbrev pub files_code : Coded (FinMap file_cmp File)
+files_code = map.code file_id_code file_code
+
 abbrev pub store_code : Coded Store
 store_code =
-    code_by (FinMap place_cmp ℕ × List File) (coded× (map.code (coded× coded_ℕ (coded_list coded_ℕ)) coded_ℕ) (coded_list file_code))
+    code_by (FinMap place_cmp FileId × FinMap file_cmp File)
+    (coded× (map.code (coded× file_id_code (coded_list coded_ℕ)) file_id_code) files_code)
     (λ s. (s.names, s.files)) (λ p. record { names = p.0; files = p.1 }) (λ _. refl)
 
 abbrev pub stored_code : Coded StoredShown
@@ -76,5 +81,5 @@ stored_code =
 
 abbrev pub tree_code : Coded TreeState
 tree_code =
-    code_by (Store × (FinMap node_cmp ℕ × FinMap nat_cmp OpenDirectory)) (coded× store_code (coded× (map.code node_code coded_ℕ) (map.code coded_ℕ open_code)))
+    code_by (Store × (FinMap node_cmp FileId × FinMap nat_cmp OpenDirectory)) (coded× store_code (coded× (map.code node_code file_id_code) (map.code coded_ℕ open_code)))
     (λ t. (t.store, (t.nodes, t.handles))) (λ p. record { store = p.0; nodes = p.1.0; handles = p.1.1 }) (λ _. refl)

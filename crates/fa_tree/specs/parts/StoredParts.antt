@@ -1,5 +1,5 @@
 -- What is stored of a tree, as a value: all but the nodes.
-use Rattle.std.specs.Prelude.{ℕ, Bool, List, [], ◌∷◌, length}
+use Rattle.std.specs.Prelude.{◌≡◌, ℕ, Bool, List, [], ◌∷◌}
 use Rattle.std.specs.Option.{option_map_or}
 use Rattle.std.specs.Ordering.{nat_cmp}
 use Rattle.std.specs.FinMap as map
@@ -7,7 +7,9 @@ use Rattle.std.specs.FinMap.{FinMap, get}
 use Rattle.fa_bodies.specs.declared.setattr.SetattrIn.{SetattrIn}
 use Rattle.fa_ledger.specs.Operations.{PlainAction}
 use Rattle.fa_ledger.specs.Operations.PlainOperation.{Acts}
-use Rattle.fa_tree.specs.State.{File, Store, OpenDirectory, TreeState}
+use Rattle.fa_tree.specs.declared.id.FileId.TheVariants as file_id
+use Rattle.fa_tree.specs.declared.id.FileId.{FileId}
+use Rattle.fa_tree.specs.State.{File, Store, file_cmp, OpenDirectory, TreeState}
 use Rattle.fa_tree.specs.Resolved.{Resolved}
 use Rattle.fa_tree.specs.Edits.{Edit, names_after, handles_after}
 use Rattle.fa_tree.specs.Making.{files_created}
@@ -44,11 +46,21 @@ stored_edited edits t = record {
 }
 
 -- with other files
-abbrev pub stored_with : List File → StoredShown → StoredShown
+abbrev pub stored_with : FinMap file_cmp File → StoredShown → StoredShown
 stored_with files t = record { store = record { names = t.store.names; files = files }; handles = t.handles }
 
+-- it is one that a request makes, or the next that is put in by name
+abbrev pub IsMadeOrNext : FinMap file_cmp File → FileId → Type 0
+IsMadeOrNext files file_id.Root = ⊥
+IsMadeOrNext files (file_id.Added n) = n ≡ map.len files
+IsMadeOrNext files (file_id.Made asked) = Unit {0}
+
+-- with this file made in a directory under a name
+abbrev pub stored_made : FileId → (directory : FileId) → (name : List ℕ) → File → StoredShown → StoredShown
+stored_made id directory name new t = stored_with (map.insert t.store.files id new) (stored_edited (Added directory name id ∷ []) t)
+
 -- with a directory opened by the request of this number
-abbrev pub stored_opened : (asked directory : ℕ) → StoredShown → StoredShown
+abbrev pub stored_opened : (asked : ℕ) (directory : FileId) → StoredShown → StoredShown
 stored_opened asked directory t = record { store = t.store; handles = map.insert t.handles asked (opened t.store.names directory) }
 
 -- the same, with the directory that its answer opens
@@ -64,6 +76,6 @@ abbrev pub mode_set : SetattrIn → File → File
 mode_set a file = with_bits (bits_set a file.kind file.bits) file
 
 -- after a CREATE
-abbrev pub stored_created : (directory : ℕ) → (name : List ℕ) → (truncates : Bool) → File → StoredShown → StoredShown
-stored_created directory name truncates new t = stored_with (files_created t.store.files truncates new (get t.store.names (directory, name)))
-    (stored_edited (option_map_or (λ file. []) (get t.store.names (directory, name)) (Added directory name (length t.store.files) ∷ [])) t)
+abbrev pub stored_created : (asked : ℕ) → (directory : FileId) → (name : List ℕ) → (truncates : Bool) → File → StoredShown → StoredShown
+stored_created asked directory name truncates new t = stored_with (files_created t.store.files asked truncates new (get t.store.names (directory, name)))
+    (stored_edited (option_map_or (λ file. []) (get t.store.names (directory, name)) (Added directory name (file_id.Made asked) ∷ [])) t)

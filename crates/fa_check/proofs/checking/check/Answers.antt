@@ -28,6 +28,13 @@ returns-in-Err-clause-not_shown c = λ messages is.
     (failed_at c.args.calls.now c.args.tree c.loop-entry.tree c.args.order.now c.loop-entry.entry-index _ c.loop-entry.placing c.place.new.self.count c.in-Err.error c.loop-entry-test.true c.loop-entry.invariant
     c.in-Err.ensures.refused (ap (λ (s : Placing). s.count) c.in-Err.ensures.unchanged.0) messages is))
 
+pub returns-in-Err-clause-never_fault : goal.returns-in-Err-clause-never_fault
+returns-in-Err-clause-never_fault c =
+    never_fault c.args.calls.now c.args.tree c.args.order.now c.told.result (λ messages is.
+    subst (λ r. IfOk r (IsVerdict messages c.args.tree c.args.order.now)) (sym c.told.ensures)
+    (failed_at c.args.calls.now c.args.tree c.loop-entry.tree c.args.order.now c.loop-entry.entry-index _ c.loop-entry.placing c.place.new.self.count c.in-Err.error c.loop-entry-test.true c.loop-entry.invariant
+    c.in-Err.ensures.refused (ap (λ (s : Placing). s.count) c.in-Err.ensures.unchanged.0) messages is))
+
 pub returns-in-Err-clause-never_unknown : goal.returns-in-Err-clause-never_unknown
 returns-in-Err-clause-never_unknown c =
     never_unknown c.args.calls.now c.args.tree c.args.order.now c.told.result (λ messages is.

@@ -2,6 +2,7 @@ use Rattle.std.proofs.Common.{◌≡◌, None, Some, ◌∷◌, [], Bool, true, 
 use Rattle.std.specs.Prelude.{not}
 use Rattle.std.specs.FinMap.{get}
 use Rattle.fa_tree.specs.Edits.Edit.{Added, Removed}
+use Rattle.fa_tree.specs.parts.FileIdLaws.{file_ties}
 use Rattle.fa_tree.specs.parts.NameParts.{edited}
 use Rattle.fa_tree.proofs.EditedLemmas.{edited_exchanged, edited_of_one, there_after_put}
 use Rattle.fa_tree.proofs.names.Names.exchange.Goals as goal
@@ -25,9 +26,9 @@ returns-then-ne c =
     c.replace-then-ne.ensures
     ∙ ap (edited (Removed c.args.new_directory c.args.new_name.now ∷ Added c.args.new_directory c.args.new_name.now c.args.file ∷ [])) c.replace.ensures
     ∙ edited_exchanged c.args.self.now c.args.old_directory c.args.old_name.now c.args.new_directory c.args.new_name.now c.args.file c.args.other
-    (differs _ c.if-ne.ensures)
+    (file_ties c.args.other c.args.file ∙ differs _ c.if-ne.ensures)
 
 pub returns-else-ne : goal.returns-else-ne
 returns-else-ne c =
     edited_of_one c.args.self.now c.args.old_directory c.args.old_name.now c.args.new_directory c.args.new_name.now c.args.file c.args.other
-    (is_one _ c.if-ne.ensures)
+    (file_ties c.args.other c.args.file ∙ is_one _ c.if-ne.ensures)

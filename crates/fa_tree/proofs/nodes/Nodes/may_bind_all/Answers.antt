@@ -1,5 +1,5 @@
-use Rattle.std.proofs.Common.{length, refl, arith, ◌∙◌}
-use Rattle.std.proofs.lemmas.Option.{slice_get_read}
+use Rattle.std.proofs.Common.{refl, arith, ◌∙◌}
+use Rattle.std.proofs.lemmas.Option.{slice_get-get_or}
 use Rattle.fa_tree.specs.parts.NodeParts.{nodes_shown}
 use Rattle.fa_tree.proofs.NodeLemmas.{none_seen, more_seen}
 use Rattle.fa_tree.proofs.BindingLemmas.{all_may_be, one_may_be, one_may_follow}
@@ -14,15 +14,15 @@ loop-one-init c = (
 
 pub returns-then-not-may_bind : goal.returns-then-not-may_bind
 returns-then-not-may_bind c =
-    let there = slice_get_read c.args.given.now (length c.args.given.now) c.loop-one.one-index c.one-item.result refl c.loop-one-test.true c.one-item.is in (
+    let there = slice_get-get_or c.args.given.now c.loop-one.one-index _ c.loop-one-test.true in (
       (λ no. absurd cc),
       (λ may.
           elim c.then-not-may_bind.branch [
             | then-not-may_bind-via-then-not-may_bind w ↦
-                w.if-not-may_bind.ensures.1 (one_may_be _ c.args.given.now c.loop-one.one-index c.one-item.result c.loop-one-test.true there may)
+                w.if-not-may_bind.ensures.1 (one_may_be _ c.args.given.now c.loop-one.one-index _ c.loop-one-test.true there may)
             | then-not-may_bind-via-else-not-may_bind+then-not-may_bind-2 w ↦
                 w.if-not-may_bind-2.ensures.1
-                (one_may_follow _ _ c.args.given.now c.loop-one.one-index c.one-item.result c.loop-one-test.true there c.loop-one.invariant.0 may)
+                (one_may_follow _ _ c.args.given.now c.loop-one.one-index _ c.loop-one-test.true there c.loop-one.invariant.0 may)
           ]),
     )
 
@@ -31,8 +31,8 @@ bind-requires c = record { room = omega (arith, c.loop-one.invariant.1, c.loop-o
 
 pub loop-one-preserved : goal.loop-one-preserved
 loop-one-preserved c =
-    let there = slice_get_read c.args.given.now (length c.args.given.now) c.loop-one.one-index c.one-item.result refl c.loop-one-test.true c.one-item.is in (
-      more_seen _ _ _ c.args.given.now c.loop-one.one-index c.one-item.result c.loop-one.invariant.0 there
+    let there = slice_get-get_or c.args.given.now c.loop-one.one-index _ c.loop-one-test.true in (
+      more_seen _ _ _ c.args.given.now c.loop-one.one-index _ c.loop-one.invariant.0 there
           (c.if-not-may_bind.ensures.0 refl) (c.if-not-may_bind-2.ensures.0 refl) c.bind.ensures.bound,
       omega (arith, c.loop-one.invariant.1, c.bind.ensures.left),
     )

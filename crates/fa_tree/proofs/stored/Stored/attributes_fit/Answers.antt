@@ -3,9 +3,12 @@ use Rattle.std.specs.Prelude.{◌↔◌, ◌≢◌, IsTrue}
 use Rattle.std.specs.FinMap.{get}
 use Rattle.fa_bodies.specs.declared.mode.Kind.TheVariants.{Directory}
 use Rattle.fa_ledger.specs.declared.operation.Outcome.TheVariants.{Succeeds}
+use Rattle.fa_tree.specs.declared.id.FileId.TheVariants as file_id
 use Rattle.fa_tree.specs.Making.{node_kind, new_bits, new_symlink, new_node, new_directory, new_regular}
 use Rattle.fa_tree.specs.parts.FactParts.{AreFit, FitIfAny}
 use Rattle.fa_tree.proofs.JudgingLemmas.{set_facts, made_facts, same_new, linked_facts, created_facts, any_fit, spoken_fit, of_node, of_entry}
+use Rattle.fa_tree.proofs.ShapeLemmas.{creates_new}
+use Rattle.fa_tree.proofs.WalkLemmas.{still_tree}
 use Rattle.fa_tree.proofs.stored.Stored.attributes_fit.Goals as goal
 
 pub returns-else-entry-eq0 : goal.returns-else-entry-eq0
@@ -34,22 +37,23 @@ returns-in-Symlink-default-default-Succeeds c =
     let at = c.in-Symlink-default-default-Succeeds in
     let done : at.outcome ≡ Succeeds at.entry = search rules in
     let fit = c.fit-in-Symlink-default-default-Succeeds in
-    let told : IsTrue fit.result ↔ AreFit c.facts_new-facts.result at.entry.attr = search rules in
+    let told : IsTrue fit.result ↔ AreFit c.new-facts.result at.entry.attr = search rules in
     rw (at.is, done) (λ handle direct count may.
-    spoken_fit _ _ c.facts_new-facts.result at.entry.attr fit.result
-    (made_facts c.args.self.now.store c.args.named.now.node at.name.now (new_symlink at.target.now) c.facts_new-facts.result may.1 c.facts_new-facts.ensures) told)
+    spoken_fit _ _ c.new-facts.result at.entry.attr fit.result
+    (made_facts c.args.self.now.store (file_id.Made c.args.named.now.asked) c.args.named.now.node at.name.now (new_symlink at.target.now) c.new-facts.result
+    (still_tree _ c.args.self.now c.self.view_is c.self.invariant) may.1 may.0.1 c.new-facts.ensures) told)
 
 pub returns-in-Mknod-default-default-default-Succeeds : goal.returns-in-Mknod-default-default-default-Succeeds
 returns-in-Mknod-default-default-default-Succeeds c =
     let at = c.in-Mknod-default-default-default-Succeeds in
     let done : at.outcome ≡ Succeeds at.entry = search rules in
-    let made = c.facts_new-facts-in-Mknod-default-default-default-Succeeds in
+    let made = c.new-facts-in-Mknod-default-default-default-Succeeds in
     let fit = c.fit-in-Mknod-default-default-default-Succeeds in
     let told : IsTrue fit.result ↔ AreFit made.result at.entry.attr = search rules in
     rw (at.is, done) (λ handle direct count may.
     spoken_fit _ _ made.result at.entry.attr fit.result
-    (made_facts c.args.self.now.store c.args.named.now.node at.name.now (new_node at.mode at.umask) made.result may.1
-    (same_new c.args.self.now.store c.node_kind.result (node_kind at.mode) c.new_bits.result (new_bits at.mode at.umask) 0
+    (made_facts c.args.self.now.store (file_id.Made c.args.named.now.asked) c.args.named.now.node at.name.now (new_node at.mode at.umask) made.result (still_tree _ c.args.self.now c.self.view_is c.self.invariant) may.1 may.0.1
+    (same_new c.node_kind.result (node_kind at.mode) c.new_bits.result (new_bits at.mode at.umask) 0
     made.result c.node_kind.ensures c.new_bits.ensures made.ensures)) told)
 
 pub returns-in-Mkdir-default-default-default-Succeeds : goal.returns-in-Mkdir-default-default-default-Succeeds
@@ -57,13 +61,13 @@ returns-in-Mkdir-default-default-default-Succeeds c =
     let at = c.in-Mkdir-default-default-default-Succeeds in
     let done : at.outcome ≡ Succeeds at.entry = search rules in
     let bits = c.new_bits-in-Mkdir-default-default-default-Succeeds in
-    let made = c.facts_new-facts-in-Mkdir-default-default-default-Succeeds in
+    let made = c.new-facts-in-Mkdir-default-default-default-Succeeds in
     let fit = c.fit-in-Mkdir-default-default-default-Succeeds in
     let told : IsTrue fit.result ↔ AreFit made.result at.entry.attr = search rules in
     rw (at.is, done) (λ handle direct count may.
     spoken_fit _ _ made.result at.entry.attr fit.result
-    (made_facts c.args.self.now.store c.args.named.now.node at.name.now (new_directory at.mode at.umask) made.result may.1
-    (same_new c.args.self.now.store Directory Directory bits.result (new_bits at.mode at.umask) 0
+    (made_facts c.args.self.now.store (file_id.Made c.args.named.now.asked) c.args.named.now.node at.name.now (new_directory at.mode at.umask) made.result (still_tree _ c.args.self.now c.self.view_is c.self.invariant) may.1 may.0.1
+    (same_new Directory Directory bits.result (new_bits at.mode at.umask) 0
     made.result refl bits.ensures made.ensures)) told)
 
 pub returns-in-Link-default-Succeeds : goal.returns-in-Link-default-Succeeds
@@ -85,5 +89,6 @@ returns-in-Create-default-default-default-default-Succeeds c =
     let told : IsTrue fit.result ↔ FitIfAny c.facts_created-facts.result at.entry.attr = search rules in
     rw (at.is, done) (λ handle direct count may.
     any_fit _ _ c.facts_created-facts.result at.entry.attr fit.result
-    (created_facts c.args.self.now.store c.args.truncates c.args.named.now.node at.name.now (new_regular at.mode at.umask) bits.result c.facts_created-facts.result
-    (get c.args.self.now.store.names (c.args.named.now.node, at.name.now)) refl refl refl bits.ensures c.facts_created-facts.ensures) told)
+    (created_facts c.args.self.now.store c.args.named.now.asked c.args.truncates c.args.named.now.node at.name.now (new_regular at.mode at.umask) bits.result c.facts_created-facts.result
+    (get c.args.self.now.store.names (c.args.named.now.node, at.name.now)) (still_tree _ c.args.self.now c.self.view_is c.self.invariant)
+    (creates_new c.args.self.now.store c.args.named.now.asked c.args.named.now.node at.name.now at.flags may) refl refl refl bits.ensures c.facts_created-facts.ensures) told)

@@ -9,17 +9,23 @@ use Rattle.fa_tree.proofs.WalkLemmas.{still_tree}
 use Rattle.fa_tree.proofs.stored.Stored.change.Goals as goal
 
 pub make-requires : goal.make-requires
-make-requires c = subst (λ a. (action_rule c.args.self.now.store (named_shown c.args.named.now None) (action_shown a)).needs) c.in-Symlink.is (c.requires None)
+make-requires c =
+    let may = subst (λ a. (action_rule c.args.self.now.store (named_shown c.args.named.now None) (action_shown a)).needs) c.in-Symlink.is (c.requires None) in
+    record { free = may.0; new = may.1; made = tt }
 
 pub make-requires-in-Mknod : goal.make-requires-in-Mknod
-make-requires-in-Mknod c = subst (λ a. (action_rule c.args.self.now.store (named_shown c.args.named.now None) (action_shown a)).needs) c.in-Mknod.is (c.requires None)
+make-requires-in-Mknod c =
+    let may = subst (λ a. (action_rule c.args.self.now.store (named_shown c.args.named.now None) (action_shown a)).needs) c.in-Mknod.is (c.requires None) in
+    record { free = may.0; new = may.1; made = tt }
 
 pub make-requires-in-Mkdir : goal.make-requires-in-Mkdir
-make-requires-in-Mkdir c = subst (λ a. (action_rule c.args.self.now.store (named_shown c.args.named.now None) (action_shown a)).needs) c.in-Mkdir.is (c.requires None)
+make-requires-in-Mkdir c =
+    let may = subst (λ a. (action_rule c.args.self.now.store (named_shown c.args.named.now None) (action_shown a)).needs) c.in-Mkdir.is (c.requires None) in
+    record { free = may.0; new = may.1; made = tt }
 
 pub create-requires : goal.create-requires
 create-requires c = λ free.
-    created_made c.args.self.now.store c.args.named.now.node c.in-Create.name.now c.in-Create.flags
+    created_made c.args.self.now.store c.args.named.now.asked c.args.named.now.node c.in-Create.name.now c.in-Create.flags
     (subst (λ a. (action_rule c.args.self.now.store (named_shown c.args.named.now None) (action_shown a)).needs) c.in-Create.is (c.requires None)) free
 
 pub rename-requires : goal.rename-requires

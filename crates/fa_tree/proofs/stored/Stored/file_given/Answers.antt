@@ -17,8 +17,8 @@ returns-in-Create-default-default-default-default-Succeeds c =
     let at = c.in-Create-default-default-default-default-Succeeds in
     let done : at.outcome ≡ Succeeds at.outcome-0 = search rules in
     rw (at.is, done) (λ handle truncates direct count may. (
-      created_file c.args.self.now.store truncates c.args.named.now.node at.name.now (new_regular at.mode at.umask) c.found_or_next.result
-          (get c.args.self.now.store.names (c.args.named.now.node, at.name.now)) refl c.found_or_next.ensures,
+      created_file c.args.self.now.store c.args.named.now.asked truncates c.args.named.now.node at.name.now (new_regular at.mode at.umask) c.found_or_made.result
+          (get c.args.self.now.store.names (c.args.named.now.node, at.name.now)) refl c.found_or_made.ensures,
       refl,
     ))
 
@@ -26,16 +26,16 @@ pub returns-in-Symlink-default-default-Succeeds : goal.returns-in-Symlink-defaul
 returns-in-Symlink-default-default-Succeeds c =
     let at = c.in-Symlink-default-default-Succeeds in
     let done : at.outcome ≡ Succeeds at.outcome-0 = search rules in
-    rw (at.is, done, c.next_file.ensures) (λ handle truncates direct count may. (sym (found_after c.args.self.now.store c.args.named.now.node at.name.now _), refl))
+    rw (at.is, done) (λ handle truncates direct count may. (sym (found_after c.args.self.now.store c.args.named.now.node at.name.now _), refl))
 
 pub returns-in-Mknod-default-default-default-Succeeds : goal.returns-in-Mknod-default-default-default-Succeeds
 returns-in-Mknod-default-default-default-Succeeds c =
     let at = c.in-Mknod-default-default-default-Succeeds in
     let done : at.outcome ≡ Succeeds at.outcome-0 = search rules in
-    rw (at.is, done, c.next_file-in-Mknod-default-default-default-Succeeds.ensures) (λ handle truncates direct count may. (sym (found_after c.args.self.now.store c.args.named.now.node at.name.now _), refl))
+    rw (at.is, done) (λ handle truncates direct count may. (sym (found_after c.args.self.now.store c.args.named.now.node at.name.now _), refl))
 
 pub returns-in-Mkdir-default-default-default-Succeeds : goal.returns-in-Mkdir-default-default-default-Succeeds
 returns-in-Mkdir-default-default-default-Succeeds c =
     let at = c.in-Mkdir-default-default-default-Succeeds in
     let done : at.outcome ≡ Succeeds at.outcome-0 = search rules in
-    rw (at.is, done, c.next_file-in-Mkdir-default-default-default-Succeeds.ensures) (λ handle truncates direct count may. (sym (found_after c.args.self.now.store c.args.named.now.node at.name.now _), refl))
+    rw (at.is, done) (λ handle truncates direct count may. (sym (found_after c.args.self.now.store c.args.named.now.node at.name.now _), refl))

@@ -1,8 +1,9 @@
-use Rattle.std.proofs.Common.{ℕ, List, ◌++◌, ap, refl, sym, ◌∙◌}
+use Rattle.std.proofs.Common.{List, ◌++◌, ap, refl, sym, ◌∙◌}
 use Rattle.fa_bodies.specs.declared.dirent.Entries.{Entries}
 use Rattle.fa_bodies.specs.Dirents.{dirent_shown}
 use Rattle.fa_bodies.specs.Listing.{entries_left}
 use Rattle.fa_ledger.specs.declared.name.NodeName.{NodeName}
+use Rattle.fa_tree.specs.declared.id.FileId.{FileId}
 use Rattle.fa_tree.specs.Directories.{files_listed}
 use Rattle.fa_tree.specs.Bindings.{bound}
 use Rattle.fa_tree.proofs.ListingLemmas.{entry_skipped, entry_in_vain, entry_bound, no_name_left, no_entry_left}
@@ -10,7 +11,7 @@ use Rattle.fa_tree.proofs.stored.Stored.nodes_listed.Goals as goal
 
 pub loop-dirent-init : goal.loop-dirent-init
 loop-dirent-init c =
-    let left : Entries → List (NodeName × ℕ) = λ it. bound c.args.names.now (files_listed c.args.self.now.store c.args.directory (entries_left it)) in (
+    let left : Entries → List (NodeName × FileId) = λ it. bound c.args.names.now (files_listed c.args.self.now.store c.args.directory (entries_left it)) in (
       tt,
       tt,
       ap left (sym c.into_iter-dirent-iterator.ensures.into_iter_gives)

@@ -1,0 +1,12 @@
+use Rattle.std.proofs.Common.{◌≡◌}
+use Rattle.fa_tree.specs.State.{File}
+use Rattle.fa_tree.specs.parts.FileParts.{file_shown}
+use Rattle.fa_tree.specs.parts.StoredView.{stored_shown}
+use Rattle.fa_tree.proofs.JudgingLemmas.{file_there, of_this}
+use Rattle.fa_tree.proofs.stored.Stored.is_target.Goals as goal
+
+pub returns-in-Some : goal.returns-in-Some
+returns-in-Some c =
+    let file : File = file_shown c.in-Some.there.now in
+    of_this c.args.self.now.store.files c.args.file file (λ f. c.args.target.now ≡ f.bytes) c.is.result
+    (file_there (stored_shown c.self.inside) c.args.self.now c.args.file file c.self.view_is c.in-Some.ensures) c.is.ensures
