@@ -1,0 +1,127 @@
+//! A stress run of a server: files and further names come and go by the ten thousand in a few directories.
+
+use crate::random::Random;
+use crate::recording::EEXIST;
+use crate::volume::{DIR, LNK, REG, Volume};
+use fa_bodies::opcodes;
+use std::alloc::{AllocError, Global};
+
+/// How many directories there are.
+const DIRECTORIES: u64 = 6;
+
+/// The capture of so many steps, before which a twelfth as many files are made.
+pub fn volume(alloc: Global, seed: u64, steps: u64) -> Result<Volume, AllocError> {
+    let mut random = Random::new(seed);
+    let mut volume = Volume::new(alloc, 28)?;
+    for _ in 1..DIRECTORIES {
+        volume.mkdir(0)?;
+    }
+    for _ in 0..steps / 12 {
+        let directory = random.below(DIRECTORIES) as usize;
+        volume.mknod(directory)?;
+    }
+    for _ in 0..steps {
+        step(&mut volume, &mut random)?;
+    }
+    Ok(volume)
+}
+
+/// One of the requests of such a run, by their shares of a thousand.
+fn step(volume: &mut Volume, random: &mut Random) -> Result<(), AllocError> {
+    let directory = random.below(DIRECTORIES) as usize;
+    match random.below(1000) {
+        0..370 => volume.statfs(),
+        370..480 => look(volume, random, directory),
+        480..560 => volume.miss(opcodes::LOOKUP, directory),
+        560..710 => stat(volume, random, directory),
+        710..775 => remove(volume, random, directory),
+        775..790 => volume.miss(opcodes::UNLINK, directory),
+        790..860 => read_link(volume, random, directory),
+        860..905 => link(volume, random, directory),
+        905..915 => link_refused(volume, random, directory),
+        915..940 => opened(volume, directory),
+        940..965 => {
+            volume.symlink(directory)?;
+            Ok(())
+        }
+        965..985 => {
+            volume.mknod(directory)?;
+            Ok(())
+        }
+        _ => rename(volume, random, directory),
+    }
+}
+
+fn look(volume: &mut Volume, random: &mut Random, directory: usize) -> Result<(), AllocError> {
+    match volume.some_child(random, directory) {
+        Some((_, child)) => volume.lookup(directory, child),
+        None => Ok(()),
+    }
+}
+
+fn stat(volume: &mut Volume, random: &mut Random, directory: usize) -> Result<(), AllocError> {
+    match volume.some_child(random, directory) {
+        Some((_, child)) => volume.getattr(child.node),
+        None => Ok(()),
+    }
+}
+
+fn remove(volume: &mut Volume, random: &mut Random, directory: usize) -> Result<(), AllocError> {
+    match volume.some_child(random, directory) {
+        Some((place, child)) if volume.attributes(child.node).mode != DIR => {
+            volume.unlink(directory, place, child)
+        }
+        _ => Ok(()),
+    }
+}
+
+/// READLINK of a symbolic link, if one of a few names is one
+fn read_link(volume: &mut Volume, random: &mut Random, directory: usize) -> Result<(), AllocError> {
+    for _ in 0..8 {
+        if let Some((_, child)) = volume.some_child(random, directory) {
+            if volume.attributes(child.node).mode == LNK {
+                return volume.readlink(child.node);
+            }
+        }
+    }
+    Ok(())
+}
+
+fn link(volume: &mut Volume, random: &mut Random, directory: usize) -> Result<(), AllocError> {
+    let from = random.below(DIRECTORIES) as usize;
+    match volume.some_child(random, from) {
+        Some((_, child)) if volume.attributes(child.node).mode == REG => {
+            volume.link(child.node, directory)
+        }
+        _ => Ok(()),
+    }
+}
+
+/// LINK to a name that is there
+fn link_refused(
+    volume: &mut Volume,
+    random: &mut Random,
+    directory: usize,
+) -> Result<(), AllocError> {
+    match volume.some_child(random, directory) {
+        Some((_, child)) if volume.attributes(child.node).mode == REG => {
+            volume.link_refused(child.node, directory, child, EEXIST)
+        }
+        _ => Ok(()),
+    }
+}
+
+fn opened(volume: &mut Volume, directory: usize) -> Result<(), AllocError> {
+    let handle = volume.opendir(directory)?;
+    volume.releasedir(directory, handle)
+}
+
+fn rename(volume: &mut Volume, random: &mut Random, directory: usize) -> Result<(), AllocError> {
+    let to = random.below(DIRECTORIES) as usize;
+    match volume.some_child(random, directory) {
+        Some((place, child)) if volume.attributes(child.node).mode != DIR => {
+            volume.rename(directory, place, child, to)
+        }
+        _ => Ok(()),
+    }
+}

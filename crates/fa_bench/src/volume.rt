@@ -1,0 +1,599 @@
+//! What a server keeps of its files, of which the replies are made.
+
+use crate::random::{Random, mixed};
+use crate::recording::{Attributes, ENODATA, ENOENT, Entries, Recording};
+use fa_bodies::opcodes;
+use std::alloc::{AllocError, Global};
+
+/// The modes of files: a regular one, a directory, a symbolic link.
+pub const REG: u32 = 0o100644;
+
+pub const DIR: u32 = 0o040755;
+
+pub const LNK: u32 = 0o120777;
+
+/// The node of the root.
+pub const ROOT: u64 = 1;
+
+/// A file, whose node is its place in the list and one.
+#[derive(Clone, Copy)]
+pub struct Node {
+    pub attributes: Attributes,
+    /// How many lookups the kernel has of it.
+    pub lookups: u64,
+}
+
+/// A name in a directory, told by a number.
+#[derive(Clone, Copy)]
+pub struct Child {
+    pub label: u64,
+    pub node: u64,
+}
+
+/// A directory: its node, and the names in it.
+#[derive(Drop)]
+pub struct Directory {
+    pub node: u64,
+    pub children: Vec<Child>,
+}
+
+/// The files of a server, and the capture of what it says of them.
+#[derive(Drop)]
+pub struct Volume {
+    pub alloc: Global,
+    pub recording: Recording,
+    pub nodes: Vec<Node>,
+    pub directories: Vec<Directory>,
+    /// The number of the next name.
+    label: u64,
+    handle: u64,
+    /// The bytes of the name of which a message is made.
+    name: Vec<u8>,
+    other: Vec<u8>,
+    /// The mean length of names.
+    name_len: u64,
+}
+
+/// Writes the name of this number, whose length is about this.
+fn spell(name: &mut Vec<u8>, label: u64, mean: u64) -> Result<(), AllocError> {
+    name.clear();
+    spell_more(name, label, mean)
+}
+
+/// Writes it behind other bytes.
+fn spell_more(name: &mut Vec<u8>, label: u64, mean: u64) -> Result<(), AllocError> {
+    let before = name.len() as u64;
+    let bits = mixed(label);
+    let len = (mean / 2).saturating_add(bits % mean.max(1));
+    let mut left = label;
+    for _ in 0..12 {
+        name.push(b'a' + (left % 26) as u8)?;
+        left /= 26;
+        if left == 0 {
+            break;
+        }
+    }
+    name.push(b'-')?;
+    let mut more = bits;
+    for _ in 0..len.saturating_sub((name.len() as u64).saturating_sub(before)) {
+        name.push(b'a' + (more % 26) as u8)?;
+        more = mixed(more);
+    }
+    Ok(())
+}
+
+impl Volume {
+    /// An empty root, and the capture of a session that begins. Names have about so many bytes.
+    pub fn new(alloc: Global, name_len: u64) -> Result<Self, AllocError> {
+        let mut volume = Volume {
+            alloc,
+            recording: Recording::new(alloc)?,
+            nodes: Vec::new(alloc),
+            directories: Vec::new(alloc),
+            label: 0,
+            handle: 0,
+            name: Vec::new(alloc),
+            other: Vec::new(alloc),
+            name_len,
+        };
+        volume.add_node(DIR, 0)?;
+        volume.add_directory(ROOT)?;
+        Ok(volume)
+    }
+
+    /// A number that no name had.
+    pub fn fresh_label(&mut self) -> u64 {
+        self.label = self.label.wrapping_add(1);
+        self.label
+    }
+
+    /// Writes the name of this number behind a path.
+    pub fn spell_behind(&self, path: &mut Vec<u8>, label: u64) -> Result<(), AllocError> {
+        spell_more(path, label, self.name_len)
+    }
+
+    /// A file with one name: its node.
+    pub fn add_node(&mut self, mode: u32, size: u64) -> Result<u64, AllocError> {
+        let attributes = Attributes {
+            mode,
+            size,
+            links: 1,
+        };
+        self.nodes.push(Node {
+            attributes,
+            lookups: 1,
+        })?;
+        Ok(self.nodes.len() as u64)
+    }
+
+    /// A directory that has this node: its place.
+    pub fn add_directory(&mut self, node: u64) -> Result<usize, AllocError> {
+        let place = self.directories.len();
+        self.directories.push(Directory {
+            node,
+            children: Vec::new(self.alloc),
+        })?;
+        Ok(place)
+    }
+
+    /// What is said of a node.
+    pub fn attributes(&self, node: u64) -> Attributes {
+        match self.nodes.get(node.wrapping_sub(1) as usize) {
+            Some(there) => there.attributes,
+            None => Attributes {
+                mode: REG,
+                size: 0,
+                links: 0,
+            },
+        }
+    }
+
+    pub fn set_size(&mut self, node: u64, size: u64) {
+        if let Some(there) = self.nodes.get_mut(node.wrapping_sub(1) as usize) {
+            there.attributes.size = size;
+        }
+    }
+
+    pub fn set_links(&mut self, node: u64, links: u32) {
+        if let Some(there) = self.nodes.get_mut(node.wrapping_sub(1) as usize) {
+            there.attributes.links = links;
+        }
+    }
+
+    /// One lookup more.
+    pub fn looked_up(&mut self, node: u64) {
+        if let Some(there) = self.nodes.get_mut(node.wrapping_sub(1) as usize) {
+            there.lookups = there.lookups.wrapping_add(1);
+        }
+    }
+
+    /// The node of a directory.
+    pub fn directory_node(&self, directory: usize) -> u64 {
+        match self.directories.get(directory) {
+            Some(there) => there.node,
+            None => ROOT,
+        }
+    }
+
+    /// Some name in a directory, if it has one: its place, and the name.
+    pub fn some_child(&self, random: &mut Random, directory: usize) -> Option<(usize, Child)> {
+        let there = self.directories.get(directory)?;
+        let place = random.place(there.children.len());
+        let child = there.children.get(place)?;
+        Some((place, *child))
+    }
+
+    /// The name that came to a directory last: its place, and the name.
+    pub fn last_child(&self, directory: usize) -> Option<(usize, Child)> {
+        let there = self.directories.get(directory)?;
+        let child = there.children.last()?;
+        Some((there.children.len().saturating_sub(1), *child))
+    }
+
+    /// The name of a node in a directory that came to it last, if it has one: its place, and the name.
+    pub fn last_named(&self, directory: usize, node: u64) -> Option<(usize, Child)> {
+        let there = self.directories.get(directory)?;
+        let place = there.children.iter().rposition(|child| child.node == node)?;
+        Some((place, *there.children.get(place)?))
+    }
+
+    /// Adds a name to a directory.
+    pub fn add_child(&mut self, directory: usize, label: u64, node: u64) -> Result<(), AllocError> {
+        if let Some(there) = self.directories.get_mut(directory) {
+            there.children.push(Child { label, node })?;
+        }
+        Ok(())
+    }
+
+    /// Takes the name at a place of a directory away.
+    pub fn take_child(&mut self, directory: usize, place: usize) {
+        if let Some(there) = self.directories.get_mut(directory) {
+            if place < there.children.len() {
+                there.children.swap_remove(place);
+            }
+        }
+    }
+
+    // ---- requests whose replies come later: the unique of each
+
+    /// LOOKUP or UNLINK
+    pub fn ask_named(
+        &mut self,
+        opcode: u32,
+        directory: usize,
+        label: u64,
+    ) -> Result<u64, AllocError> {
+        let at = self.directory_node(directory);
+        spell(&mut self.name, label, self.name_len)?;
+        self.recording.named(opcode, at, self.name.as_slice())
+    }
+
+    /// CREATE
+    pub fn ask_create(&mut self, directory: usize, label: u64) -> Result<u64, AllocError> {
+        let at = self.directory_node(directory);
+        spell(&mut self.name, label, self.name_len)?;
+        self.recording.create(at, self.name.as_slice(), REG)
+    }
+
+    /// LINK to a name in the root
+    pub fn ask_link(&mut self, node: u64, label: u64) -> Result<u64, AllocError> {
+        spell(&mut self.name, label, self.name_len)?;
+        self.recording.link(node, ROOT, self.name.as_slice())
+    }
+
+    // ---- requests with their replies
+
+    pub fn statfs(&mut self) -> Result<(), AllocError> {
+        let unique = self.recording.bare(opcodes::STATFS, ROOT)?;
+        self.recording.done(unique, 80)
+    }
+
+    /// LOOKUP of a name that is there
+    pub fn lookup(&mut self, directory: usize, child: Child) -> Result<(), AllocError> {
+        let at = self.directory_node(directory);
+        spell(&mut self.name, child.label, self.name_len)?;
+        let unique = self
+            .recording
+            .named(opcodes::LOOKUP, at, self.name.as_slice())?;
+        let attributes = self.attributes(child.node);
+        self.looked_up(child.node);
+        self.recording.entry(unique, child.node, attributes)
+    }
+
+    /// LOOKUP or UNLINK of a name that is not there
+    pub fn miss(&mut self, opcode: u32, directory: usize) -> Result<(), AllocError> {
+        let at = self.directory_node(directory);
+        let label = self.fresh_label();
+        spell(&mut self.name, label, self.name_len)?;
+        let unique = self.recording.named(opcode, at, self.name.as_slice())?;
+        self.recording.error(unique, ENOENT)
+    }
+
+    /// The same, of the name that the next new file will have
+    pub fn miss_next(&mut self, directory: usize) -> Result<(), AllocError> {
+        let at = self.directory_node(directory);
+        let label = self.label.wrapping_add(1);
+        spell(&mut self.name, label, self.name_len)?;
+        let unique = self
+            .recording
+            .named(opcodes::LOOKUP, at, self.name.as_slice())?;
+        self.recording.error(unique, ENOENT)
+    }
+
+    pub fn getattr(&mut self, node: u64) -> Result<(), AllocError> {
+        let unique = self.recording.getattr(node)?;
+        let attributes = self.attributes(node);
+        self.recording.attributes(unique, node, attributes)
+    }
+
+    /// GETXATTR of a file that has none
+    pub fn getxattr(&mut self, node: u64) -> Result<(), AllocError> {
+        let unique = self.recording.bare(opcodes::GETXATTR, node)?;
+        self.recording.error(unique, ENODATA)
+    }
+
+    /// SETATTR of the size
+    pub fn truncate(&mut self, node: u64, size: u64) -> Result<(), AllocError> {
+        let unique = self.recording.truncate(node, size)?;
+        self.set_size(node, size);
+        let attributes = self.attributes(node);
+        self.recording.attributes(unique, node, attributes)
+    }
+
+    pub fn readlink(&mut self, node: u64) -> Result<(), AllocError> {
+        let unique = self.recording.bare(opcodes::READLINK, node)?;
+        spell(&mut self.name, mixed(node), 40)?;
+        self.recording.bytes(unique, self.name.as_slice())
+    }
+
+    /// SYMLINK: its node
+    pub fn symlink(&mut self, directory: usize) -> Result<u64, AllocError> {
+        let at = self.directory_node(directory);
+        let label = self.fresh_label();
+        let node = self.add_node(LNK, 0)?;
+        spell(&mut self.name, label, self.name_len)?;
+        spell(&mut self.other, mixed(node), 40)?;
+        let size = self.other.len() as u64;
+        self.set_size(node, size);
+        let unique = self
+            .recording
+            .symlink(at, self.name.as_slice(), self.other.as_slice())?;
+        self.add_child(directory, label, node)?;
+        let attributes = self.attributes(node);
+        self.recording.entry(unique, node, attributes)?;
+        Ok(node)
+    }
+
+    /// MKNOD of a regular file: its node
+    pub fn mknod(&mut self, directory: usize) -> Result<u64, AllocError> {
+        let at = self.directory_node(directory);
+        let label = self.fresh_label();
+        let node = self.add_node(REG, 0)?;
+        spell(&mut self.name, label, self.name_len)?;
+        let unique = self.recording.mknod(at, self.name.as_slice(), REG)?;
+        self.add_child(directory, label, node)?;
+        let attributes = self.attributes(node);
+        self.recording.entry(unique, node, attributes)?;
+        Ok(node)
+    }
+
+    /// MKDIR: its place
+    pub fn mkdir(&mut self, directory: usize) -> Result<usize, AllocError> {
+        let at = self.directory_node(directory);
+        let label = self.fresh_label();
+        let node = self.add_node(DIR, 0)?;
+        let place = self.add_directory(node)?;
+        spell(&mut self.name, label, self.name_len)?;
+        let unique = self.recording.mkdir(at, self.name.as_slice(), DIR)?;
+        self.add_child(directory, label, node)?;
+        let attributes = self.attributes(node);
+        self.recording.entry(unique, node, attributes)?;
+        Ok(place)
+    }
+
+    /// CREATE: its node, and its handle
+    pub fn create(&mut self, directory: usize) -> Result<(u64, u64), AllocError> {
+        let at = self.directory_node(directory);
+        let label = self.fresh_label();
+        let node = self.add_node(REG, 0)?;
+        let handle = self.fresh_handle();
+        spell(&mut self.name, label, self.name_len)?;
+        let unique = self.recording.create(at, self.name.as_slice(), REG)?;
+        self.add_child(directory, label, node)?;
+        let attributes = self.attributes(node);
+        self.recording.created(unique, node, attributes, handle)?;
+        Ok((node, handle))
+    }
+
+    /// A handle that no opening had.
+    pub fn fresh_handle(&mut self) -> u64 {
+        self.handle = self.handle.wrapping_add(1);
+        self.handle
+    }
+
+    /// LINK of a file to a new name
+    pub fn link(&mut self, node: u64, directory: usize) -> Result<(), AllocError> {
+        let at = self.directory_node(directory);
+        let label = self.fresh_label();
+        spell(&mut self.name, label, self.name_len)?;
+        let unique = self.recording.link(node, at, self.name.as_slice())?;
+        if let Some(there) = self.nodes.get_mut(node.wrapping_sub(1) as usize) {
+            there.attributes.links = there.attributes.links.wrapping_add(1);
+            there.lookups = there.lookups.wrapping_add(1);
+        }
+        self.add_child(directory, label, node)?;
+        let attributes = self.attributes(node);
+        self.recording.entry(unique, node, attributes)
+    }
+
+    /// LINK of a file to a name that is there
+    pub fn link_refused(
+        &mut self,
+        node: u64,
+        directory: usize,
+        child: Child,
+        error: i32,
+    ) -> Result<(), AllocError> {
+        let at = self.directory_node(directory);
+        spell(&mut self.name, child.label, self.name_len)?;
+        let unique = self.recording.link(node, at, self.name.as_slice())?;
+        self.recording.error(unique, error)
+    }
+
+    /// UNLINK of the name at a place, and FORGET of its file where that was the last
+    pub fn unlink(
+        &mut self,
+        directory: usize,
+        place: usize,
+        child: Child,
+    ) -> Result<(), AllocError> {
+        let at = self.directory_node(directory);
+        spell(&mut self.name, child.label, self.name_len)?;
+        let unique = self
+            .recording
+            .named(opcodes::UNLINK, at, self.name.as_slice())?;
+        self.recording.done(unique, 0)?;
+        self.take_child(directory, place);
+        self.lose_name(child.node)
+    }
+
+    /// RMDIR of the name at a place, and FORGET of the directory
+    pub fn rmdir(
+        &mut self,
+        directory: usize,
+        place: usize,
+        child: Child,
+    ) -> Result<(), AllocError> {
+        let at = self.directory_node(directory);
+        spell(&mut self.name, child.label, self.name_len)?;
+        let unique = self
+            .recording
+            .named(opcodes::RMDIR, at, self.name.as_slice())?;
+        self.recording.done(unique, 0)?;
+        self.take_child(directory, place);
+        self.lose_name(child.node)
+    }
+
+    /// A file has a name less, and is forgotten where it has none.
+    fn lose_name(&mut self, node: u64) -> Result<(), AllocError> {
+        let Some(there) = self.nodes.get_mut(node.wrapping_sub(1) as usize) else {
+            return Ok(());
+        };
+        there.attributes.links = there.attributes.links.saturating_sub(1);
+        if there.attributes.links == 0 {
+            let lookups = there.lookups;
+            there.lookups = 0;
+            self.recording.forget(node, lookups)?;
+        }
+        Ok(())
+    }
+
+    /// RENAME of the name at a place to a new one
+    pub fn rename(
+        &mut self,
+        directory: usize,
+        place: usize,
+        child: Child,
+        new_directory: usize,
+    ) -> Result<(), AllocError> {
+        let at = self.directory_node(directory);
+        let to = self.directory_node(new_directory);
+        let label = self.fresh_label();
+        spell(&mut self.name, child.label, self.name_len)?;
+        spell(&mut self.other, label, self.name_len)?;
+        let unique = self
+            .recording
+            .rename(at, self.name.as_slice(), to, self.other.as_slice())?;
+        self.recording.done(unique, 0)?;
+        self.take_child(directory, place);
+        self.add_child(new_directory, label, child.node)
+    }
+
+    /// OPEN: its handle
+    pub fn open(&mut self, node: u64) -> Result<u64, AllocError> {
+        let unique = self.recording.open(opcodes::OPEN, node)?;
+        let handle = self.fresh_handle();
+        self.recording.opened(unique, handle)?;
+        Ok(handle)
+    }
+
+    /// READ of so many bytes, of which these come
+    pub fn read(
+        &mut self,
+        node: u64,
+        handle: u64,
+        offset: u64,
+        size: u32,
+        bytes: &[u8],
+    ) -> Result<(), AllocError> {
+        let unique = self
+            .recording
+            .read(opcodes::READ, node, handle, offset, size)?;
+        self.recording.bytes(unique, bytes)
+    }
+
+    pub fn write(
+        &mut self,
+        node: u64,
+        handle: u64,
+        offset: u64,
+        payload: &[u8],
+    ) -> Result<(), AllocError> {
+        let unique = self.recording.write(node, handle, offset, payload)?;
+        self.recording.wrote(unique, payload.len())?;
+        let end = offset.wrapping_add(payload.len() as u64);
+        let size = self.attributes(node).size;
+        self.set_size(node, size.max(end));
+        Ok(())
+    }
+
+    /// FLUSH and RELEASE
+    pub fn close(&mut self, node: u64, handle: u64) -> Result<(), AllocError> {
+        let unique = self.recording.close(opcodes::FLUSH, node, handle)?;
+        self.recording.done(unique, 0)?;
+        let unique = self.recording.close(opcodes::RELEASE, node, handle)?;
+        self.recording.done(unique, 0)
+    }
+
+    /// OPENDIR: its handle
+    pub fn opendir(&mut self, directory: usize) -> Result<u64, AllocError> {
+        let node = self.directory_node(directory);
+        let unique = self.recording.open(opcodes::OPENDIR, node)?;
+        let handle = self.fresh_handle();
+        self.recording.opened(unique, handle)?;
+        Ok(handle)
+    }
+
+    pub fn releasedir(&mut self, directory: usize, handle: u64) -> Result<(), AllocError> {
+        let node = self.directory_node(directory);
+        let unique = self.recording.close(opcodes::RELEASEDIR, node, handle)?;
+        self.recording.done(unique, 0)
+    }
+
+    /// READDIR or READDIRPLUS on a handle, in answers of at most so many bytes, up to the empty one
+    pub fn list(
+        &mut self,
+        directory: usize,
+        handle: u64,
+        opcode: u32,
+        size: u32,
+    ) -> Result<(), AllocError> {
+        let node = self.directory_node(directory);
+        let mut next = 0usize;
+        for _ in 0..u32::MAX {
+            let unique = self
+                .recording
+                .read(opcode, node, handle, next as u64, size)?;
+            let plus = opcode == opcodes::READDIRPLUS;
+            let mut entries = Entries::new(self.alloc, plus, size as usize);
+            let before = next;
+            next = self.list_some(&mut entries, directory, next)?;
+            self.recording.bytes(unique, entries.as_slice())?;
+            if next == before {
+                break;
+            }
+        }
+        Ok(())
+    }
+
+    /// Adds the entries from this place on, as many as there is room for: the place behind them.
+    fn list_some(
+        &mut self,
+        entries: &mut Entries,
+        directory: usize,
+        from: usize,
+    ) -> Result<usize, AllocError> {
+        let mut next = from;
+        let Some(there) = self.directories.get(directory) else {
+            return Ok(next);
+        };
+        for child in there.children.get(from..).unwrap_or(&[]) {
+            spell(&mut self.name, child.label, self.name_len)?;
+            let Some(node) = self.nodes.get_mut(child.node.wrapping_sub(1) as usize) else {
+                return Ok(next);
+            };
+            let offset = (next as u64).wrapping_add(1);
+            let name = self.name.as_slice();
+            if !entries.add(name, offset, child.node, node.attributes)? {
+                return Ok(next);
+            }
+            if entries.gives_nodes() {
+                node.lookups = node.lookups.wrapping_add(1);
+            }
+            next = next.wrapping_add(1);
+        }
+        Ok(next)
+    }
+
+    /// OPENDIR, a whole listing, and RELEASEDIR
+    pub fn list_whole(
+        &mut self,
+        directory: usize,
+        opcode: u32,
+        size: u32,
+    ) -> Result<(), AllocError> {
+        let handle = self.opendir(directory)?;
+        self.list(directory, handle, opcode, size)?;
+        self.releasedir(directory, handle)
+    }
+}
