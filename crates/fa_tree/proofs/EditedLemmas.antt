@@ -2,9 +2,9 @@
 use Rattle.std.proofs.Common.{◌≡◌, ◌≢◌, ℕ, Bool, true, false, cond, List, [], ◌∷◌, ◌++◌, Option, None, Some, refl, sym, ap, subst, ◌∙◌}
 use Rattle.std.specs.Prelude.{◌&&◌, if◌then◌else◌, IsTrue}
 use Rattle.std.specs.Option.{option_map}
-use Rattle.std.specs.Ordering.{nat_cmp, eq_by_cmp}
+use Rattle.std.specs.Ordering.{nat_cmp, eq_by_cmp, is_eq}
 use Rattle.std.specs.declared.cmp.Ordering.{Ordering}
-use Rattle.std.specs.Cmp.{IsTotalOrder, Equal-is, nat_cmp_total}
+use Rattle.std.specs.Cmp.{IsTotalOrder, tied_itself, Equal-is, nat_cmp_total}
 use Rattle.std.specs.Cmp.Lexicographic.{nat_list_cmp_total}
 use Rattle.std.specs.FinMap as map
 use Rattle.std.specs.FinMap.{FinMap, IsAntisymmetric, same_map, nat_cmp-IsAntisymmetric}
@@ -30,6 +30,10 @@ remove_none {K = K} {X = X} {R = R} o apart m k none = same_map o apart _ _ (λ 
     by : (q : K) (b : Bool) → eq_by_cmp R q k ≡ b → cond b None (map.get m q) ≡ map.get m q
     by q true test = sym (ap (map.get m) (apart q k ((Equal-is (R q k)).0 test)) ∙ none)
     by q false test = refl
+
+-- what is put is found
+pub insert_there : {K X : Type 0} {R : K → K → Ordering} → IsTotalOrder R → (m : FinMap R X) (k : K) (v : X) → map.get (map.insert m k v) k ≡ Some v
+insert_there total m k v = map.get-insert total m k v k ∙ ap (λ b. cond b (Some v) (map.get m k)) (ap is_eq (tied_itself total k))
 
 -- two keys are taken away in either order
 pub remove_swap : {K X : Type 0} {R : K → K → Ordering} → IsTotalOrder R → IsAntisymmetric R → (m : FinMap R X) (k l : K)

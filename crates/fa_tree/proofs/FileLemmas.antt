@@ -22,8 +22,8 @@ abbrev Table : Type 0
 Table = List (FileId × declared.File.File)
 
 -- a file that is there is put again
-pub insert_there : (files : FinMap file_cmp state.File) (id : FileId) (f : state.File) → map.get files id ≡ Some f → map.insert files id f ≡ files
-insert_there files id f is = map.same_map file_cmp_total files_apart _ _ (λ q. map.get-insert file_cmp_total files id f q ∙ by q (file_eq q id) refl)
+pub put_again : (files : FinMap file_cmp state.File) (id : FileId) (f : state.File) → map.get files id ≡ Some f → map.insert files id f ≡ files
+put_again files id f is = map.same_map file_cmp_total files_apart _ _ (λ q. map.get-insert file_cmp_total files id f q ∙ by q (file_eq q id) refl)
   where
     by : (q : FileId) (b : Bool) → file_eq q id ≡ b → cond b (Some f) (map.get files q) ≡ map.get files q
     by q true test = sym (ap (map.get files) (same_file q id test) ∙ is)
@@ -109,7 +109,7 @@ pub files_kept : (old new : Table) (id : FileId) (f : declared.File.File) (bytes
 files_kept old new id f bytes there same wrote =
     files_put old new id (record { kind = f.kind; bits = f.bits; contents = bytes }) wrote
     ∙ ap (λ (b : List ℕ). let shown : state.File = record { kind = f.kind; bits = f.bits; bytes = b } in map.insert (files_shown old) id shown) same
-    ∙ insert_there (files_shown old) id (file_shown f) (get_files old id ∙ ap (option_map file_shown) there)
+    ∙ put_again (files_shown old) id (file_shown f) (get_files old id ∙ ap (option_map file_shown) there)
 
 -- no file is there
 pub files_unchanged : (old : Table) (id : FileId) (change : state.File → state.File)

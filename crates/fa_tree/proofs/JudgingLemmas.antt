@@ -22,6 +22,7 @@ use Rattle.fa_tree.specs.Attributes.{Fits}
 use Rattle.fa_tree.specs.Rules.{with_file}
 use Rattle.fa_tree.specs.Contents.{filled, resized}
 use Rattle.fa_tree.specs.Making.{emptied, files_created, HasMadeNone}
+use Rattle.fa_tree.proofs.EditedLemmas.{insert_there}
 use Rattle.fa_tree.proofs.ShapeLemmas.{put_here, no_name_yet}
 use Rattle.fa_tree.specs.Edits.{names_after}
 use Rattle.fa_tree.specs.Edits.Edit.{Added}
@@ -102,9 +103,7 @@ unnamed_yet s id tree absent = none_counted (entries s.names) id (none (parent_o
 
 -- a name that comes is found
 pub found_after : (s : Store) (directory : FileId) (name : List ℕ) (file : FileId) → get (insert s.names (directory, name) file) (directory, name) ≡ Some file
-found_after s directory name file =
-    get-insert place_cmp_total s.names (directory, name) file (directory, name)
-    ∙ ap (λ b. cond b (Some file) (get s.names (directory, name))) (place_self (directory, name))
+found_after s directory name file = insert_there place_cmp_total s.names (directory, name) file
 
 -- the facts of a file that is made
 pub made_facts : (s : Store) (id directory : FileId) (name : List ℕ) (new : File) (facts : Facts) → IsTree s → get s.files id ≡ None → IsFree s directory name

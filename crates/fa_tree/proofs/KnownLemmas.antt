@@ -36,6 +36,7 @@ use Rattle.fa_tree.specs.Directories.{judged, IsThereIfLookedUp, file_if, files_
 use Rattle.fa_tree.specs.Operations.{Setting, rule, changed, said, directory_opened, count_written}
 use Rattle.fa_tree.specs.Bindings.{bound, nodes_after}
 use Rattle.fa_tree.specs.Steps.{names_given, opens_anew, setting, given_in, tree_done, tree_by, operation_checks, checks_of_files, step_checks, Steps}
+use Rattle.fa_tree.proofs.EditedLemmas.{insert_there}
 use Rattle.fa_tree.proofs.NodeLemmas.{node_total}
 use Rattle.fa_tree.proofs.NameLemmas.{get-each_open}
 use Rattle.fa_tree.proofs.NamedLemmas.{checks_hold}
@@ -61,10 +62,6 @@ insert_keeps {X = X} {R = R} total m k v q has = by (eq_by_cmp R q k) (get-inser
     by : (b : Bool) → get (insert m k v) q ≡ cond b (Some v) (get m q) → (y : X) × (get (insert m k v) q ≡ Some y)
     by true is = (v, is)
     by false is = (has.0, is ∙ has.1)
-
--- and has what is written
-insert_there : {K X : Type 0} {R : K → K → Ordering} → IsTotalOrder R → (m : FinMap R X) (k : K) (v : X) → get (insert m k v) k ≡ Some v
-insert_there {R = R} total m k v = get-insert total m k v k ∙ ap (λ b. cond b (Some v) (get m k)) (ap is_eq (tied_itself total k))
 
 -- names that are given leave what was known
 nodes_keep : (given : List (NodeName × FileId)) (nodes : FinMap node_cmp FileId) (name : NodeName) → (file : FileId) × (get nodes name ≡ Some file)

@@ -22,7 +22,7 @@ use Rattle.fa_tree.proofs.BindingLemmas.{bound_to_none}
 
 -- ---- the type of a file
 
--- what is told of the type of a file, if there is one of this number
+-- what is told of the type of a file, if it is there
 pub typed_by : (files : FinMap file_cmp File) (id : FileId) (kind : Kind) (P : Kind → Type 0) (b : Bool) → Some kind ≡ option_map (λ (f : File). f.kind) (get files id)
     → IsTrue b ↔ P kind → IsTrue b ↔ ((f : File) → get files id ≡ Some f → P f.kind)
 typed_by files id kind P b is told = by (get files id) is

@@ -30,6 +30,7 @@ use Rattle.fa_tree.specs.Shape.{IsRooted, IsTree}
 use Rattle.fa_tree.specs.Shape.IsRooted.{rooted}
 use Rattle.fa_tree.specs.Building.{empty_tree}
 use Rattle.fa_tree.specs.Laws.{ChangesKeepTrees, FilesStay, OnlyItsOwnIsMade}
+use Rattle.fa_tree.proofs.EditedLemmas.{insert_there}
 use Rattle.fa_tree.proofs.PlaceOrderLemmas.{name_added, name_left, name_goes_first}
 
 -- ---- files and their kinds
@@ -53,7 +54,7 @@ all_stay files = record { kinds = λ id kind has. has; next = λ free. free }
 
 -- what is found once a file is put
 pub put_here : (files : FinMap file_cmp File) (id : FileId) (new : File) → get (insert files id new) id ≡ Some new
-put_here files id new = get-insert file_cmp_total files id new id ∙ ap (λ b. cond b (Some new) (get files id)) (file_self id)
+put_here files id new = insert_there file_cmp_total files id new
 
 pub put_elsewhere : (files : FinMap file_cmp File) (id : FileId) (new : File) (q : FileId) → file_eq q id ≡ false → get (insert files id new) q ≡ get files q
 put_elsewhere files id new q test = get-insert file_cmp_total files id new q ∙ ap (λ b. cond b (Some new) (get files q)) test

@@ -11,7 +11,7 @@ use Rattle.fa_bodies.specs.Flags.{has_flag, fattr_bits}
 use Rattle.fa_tree.specs.declared.id.FileId.{FileId}
 use Rattle.fa_tree.specs.contracts.id.FileIdPartialEq.TheImpl as derived
 use Rattle.fa_tree.specs.State.{File, file_cmp, file_eq, IsSymlink}
-use Rattle.fa_tree.proofs.FileLemmas.{insert_there}
+use Rattle.fa_tree.proofs.FileLemmas.{put_again}
 use Rattle.fa_tree.specs.Contents.{resized}
 use Rattle.fa_tree.specs.Rules.{with_file}
 use Rattle.fa_tree.specs.Edits.{names_after, open_after}
@@ -104,7 +104,7 @@ with_same files at change same = by (get files at) refl
   where
     by : (found : Option File) → get files at ≡ found → option_map_or (λ file. insert files at (change file)) found files ≡ files
     by None is = refl
-    by (Some file) is = ap (insert files at) (same file is) ∙ insert_there files at file is
+    by (Some file) is = ap (insert files at) (same file is) ∙ put_again files at file is
 
 -- a file that a change was made of is there
 pub with_there : (files : FinMap file_cmp File) (id : FileId) (file : File) (change : File → File) → get files id ≡ Some file

@@ -1,5 +1,5 @@
 -- What a tally tells once a name was noted, and once entries were.
-use Rattle.std.proofs.Common.{◌≡◌, ℕ, zero, suc, ◌+◌, ◌<◌, ◌⊎◌, Bool, true, false, cond, List, [], ◌∷◌, ◌++◌, length, Option, None, Some, Bor, refl, sym, ap, subst, ◌∙◌, inl, inr, arith}
+use Rattle.std.proofs.Common.{◌≡◌, ℕ, zero, suc, ◌+◌, ◌<◌, ◌⊎◌, Bool, true, false, cond, List, [], ◌∷◌, ◌++◌, length, Option, None, Some, refl, sym, ap, subst, ◌∙◌, inl, inr, arith}
 use Rattle.std.specs.Bool.{MatchBool}
 use Rattle.std.specs.Cmp.Lexicographic.{bytes_decides, on_texts_equal}
 use Rattle.std.specs.List.{AllWithin, HoldsAt, IsDistinct}
@@ -10,6 +10,7 @@ use Rattle.std.proofs.lemmas.Map.Entries.{lookup_from_place, place_from_lookup}
 use Rattle.std.proofs.lemmas.Option.{get_or_from_slice_get, slice_get_within}
 use Rattle.fa_bodies.specs.Dirents.{PlainDirent}
 use Rattle.fa_ledger.proofs.CallerLemmas.{element_at}
+use Rattle.fa_tree.specs.declared.tally.Listed.{Listed}
 use Rattle.fa_tree.specs.declared.tally.Tally.{Tally}
 use Rattle.fa_tree.specs.Directories.{times_listed}
 use Rattle.fa_tree.specs.parts.TallyParts.{tallied, tally_of, Tallies, Notes}
@@ -26,6 +27,12 @@ pub listed_again : (n : ℕ) (more : Bool) → tallied n ≡ Some more → talli
 listed_again zero more is = absurd cc
 listed_again (suc zero) more is = refl
 listed_again (suc (suc n)) more is = let next : suc (suc n) + 1 ≡ suc (suc (n + 1)) = omega arith in ap tallied next
+
+-- a write that is seen at each listed name is seen at each name
+pub wrote_each : (old new : Tally) (name : List ℕ) (w : Option Bool)
+    → ((listed : Listed) → tally_of new listed.name.now ≡ cond (bytes_eq name listed.name.now) w (tally_of old listed.name.now))
+    → (other : List ℕ) → tally_of new other ≡ cond (bytes_eq name other) w (tally_of old other)
+wrote_each old new name w wrote other = wrote (record { name = record { ref_ptr = (0, 0); now = other } })
 
 -- a tally after something was written for one name, which that name's times ask for
 pub tallies_more : (old new : Tally) (name : List ℕ) (w : Option Bool) (times : List ℕ → ℕ)
@@ -73,26 +80,26 @@ told_more (suc (suc n)) is = omega arith
 
 -- the names of a tally stand in it once
 abbrev pub AreApart : Tally → Type 0
-AreApart tally = IsDistinct (λ (x y : Bor (List ℕ)). bytes_eq x.now y.now) (keys_of tally.names.entries)
+AreApart tally = IsDistinct (λ (x y : Listed). bytes_eq x.name.now y.name.now) (keys_of tally.names.entries)
 
 module _ (tally : Tally) (times : List ℕ → ℕ) (are : Tallies tally times) (Holds Fails : List ℕ → Type 0) where
-  abbrev Passes : Bor (List ℕ) × Bool → Type 0
-  Passes e = (e.1 ≡ false) ⊎ Holds e.0.now
+  abbrev Passes : Listed × Bool → Type 0
+  Passes e = (e.1 ≡ false) ⊎ Holds e.0.name.now
 
-  abbrev Stops : Bor (List ℕ) × Bool → Type 0
-  Stops e = (e.1 ≡ true) × Fails e.0.now
+  abbrev Stops : Listed × Bool → Type 0
+  Stops e = (e.1 ≡ true) × Fails e.0.name.now
 
   -- what each entry passes holds of each such name
   each_holds : AllWithin Passes tally.names.entries 0 (length tally.names.entries) → (name : List ℕ) → 1 < times name → Holds name
   each_holds all name more =
       let entries = tally.names.entries in
-      let found = place_from_lookup (λ key. bytes_eq name key.now) entries true (are name ∙ more_than_once (times name) more) in
-      let entry : Bor (List ℕ) × Bool = (found.1, true) in
+      let found = place_from_lookup (λ listed. bytes_eq name listed.name.now) entries true (are name ∙ more_than_once (times name) more) in
+      let entry : Listed × Bool = (found.1, true) in
       let there = get_or_from_slice_get entries found.0 entry entry found.2 in
       let passes : Passes entry = subst Passes there (all found.0 entry (omega arith) (slice_get_within entries found.0 entry found.2)) in
       elim passes [
         | inl once ↦ absurd (let clash : true ≡ false = once in cc)
-        | inr holds ↦ subst Holds (sym ((bytes_decides name found.1.now).0 found.3)) holds
+        | inr holds ↦ subst Holds (sym ((bytes_decides name found.1.name.now).0 found.3)) holds
       ]
 
   -- an entry that stops is one of such a name
@@ -101,8 +108,8 @@ module _ (tally : Tally) (times : List ℕ → ℕ) (are : Tallies tally times) 
       let entries = tally.names.entries in
       let entry = element_at entries at.0 at.1 in
       let stops : Stops entry.0 = subst Stops (get_or_from_slice_get entries at.0 entry.0 entry.0 entry.1) (at.2 entry.0) in
-      let name = entry.0.0.now in
-      let told = lookup_from_place (on_texts_equal (λ (key : Bor (List ℕ)). key.now)) entries at.0 entry.0.0 entry.0.1 apart entry.1 in
+      let name = entry.0.0.name.now in
+      let told = lookup_from_place (on_texts_equal (λ (key : Listed). key.name.now)) entries at.0 entry.0.0 entry.0.1 apart entry.1 in
       (name, told_more (times name) (sym (are name) ∙ told ∙ ap (λ more. Some more) stops.0), stops.1)
 
   pub repeated_all : (r : Bool) → AreApart tally

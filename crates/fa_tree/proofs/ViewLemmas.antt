@@ -155,7 +155,7 @@ written_in old new directory name change wrote other b test q =
     wrote (other, q)
     ∙ ap (λ t. cond t (change (slot_at old (other, q))) (slot_at old (other, q))) (place_tests (other, q) (directory, name) ∙ ap (λ t. t && eq_by_cmp name_cmp q name) test)
 
--- an open directory of another number, and one of this number
+-- an open directory that is another, and this one
 removed_elsewhere : (directory : FileId) (name : List ℕ) (h : OpenDirectory) → (file_eq directory h.directory) ≡ false → open_after_one (Removed directory name) h ≡ h
 removed_elsewhere directory name h test =
     ap (λ b. if b then record { directory = h.directory; since = h.since; stayed = map.remove h.stayed name } else h) test

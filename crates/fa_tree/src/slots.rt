@@ -10,16 +10,17 @@ ghost use Rattle.fa_tree.specs.parts.SlotParts.{slot_at, gone_at, file_in, is_of
 use crate::id::FileId;
 use indexmap::{Equivalent, IndexMap};
 use std::alloc::{AllocError, Global};
+use std::hash::{Hash, Hasher};
 
 /// A place: a directory, and a name in it.
-#[derive(Drop, PartialEq, Eq, Hash)]
+#[derive(Drop, PartialEq, Eq)]
 pub(crate) struct Place {
     pub directory: FileId,
     pub name: Vec<u8>,
 }
 
 /// A place whose name is borrowed, to look a [`Place`] up without memory.
-#[derive(Clone, Copy, PartialEq, Eq, Hash)]
+#[derive(Clone, Copy, PartialEq, Eq)]
 pub(crate) struct PlaceAt<'a> {
     pub directory: FileId,
     pub name: &'a [u8],
@@ -41,16 +42,42 @@ pub(crate) struct Slots {
     pub table: IndexMap<Place, Slot>,
 }
 
+/// The name is handed on whole, not byte by byte.
+impl Hash for Place {
+    ghost use Rattle.fa_tree.specs.parts.SlotParts.{place_of};
+    ghost use Rattle.fa_tree.specs.parts.PlaceLaws.{place_fed, fed_alike};
+
+    ghost hash_input = { λ p. place_fed (place_of p) };
+
+    ghost respects_eq = { λ x y equal. fed_alike (place_of x) (place_of y) equal };
+
+    fn hash<H: Hasher>(&self, state: &mut H) {
+        self.directory.hash(state);
+        state.write(self.name.as_slice());
+    }
+}
+
+impl Hash for PlaceAt<'_> {
+    ghost use Rattle.fa_tree.specs.parts.PlaceLaws.{place_fed, fed_alike};
+
+    ghost hash_input = { λ p. place_fed (p.directory, p.name.now) };
+
+    ghost respects_eq = { λ x y equal. fed_alike (x.directory, x.name.now) (y.directory, y.name.now) equal };
+
+    fn hash<H: Hasher>(&self, state: &mut H) {
+        self.directory.hash(state);
+        state.write(self.name);
+    }
+}
+
 impl Equivalent<Place> for &PlaceAt<'_> {
-    ghost use Rattle.std.proofs.Common.{ap, ◌++◌};
-    ghost use Rattle.std.specs.Hash as fed;
-    ghost use Rattle.fa_tree.specs.contracts.id.FileIdHash.TheImpl as hashed;
+    ghost use Rattle.std.proofs.Common.{ap};
     ghost use Rattle.fa_tree.specs.parts.SlotParts.{is_at, place_of};
-    ghost use Rattle.fa_tree.specs.parts.PlaceLaws.{same_place, alike_test};
+    ghost use Rattle.fa_tree.specs.parts.PlaceLaws.{same_place, place_fed, alike_test};
 
     ghost equivalent = { λ q. is_at (q.now.directory, q.now.name.now) };
 
-    ghost respects_hash = { λ q k is. ap (λ place. hashed.hash_input-value.it place.0 ++ fed.slice fed.u8 place.1) (same_place (q.now.directory, q.now.name.now) (place_of k) is) };
+    ghost respects_hash = { λ q k is. ap place_fed (same_place (q.now.directory, q.now.name.now) (place_of k) is) };
 
     ghost respects_eq = { λ q x y. alike_test (q.now.directory, q.now.name.now) (place_of x) (place_of y) };
 
@@ -166,7 +193,10 @@ impl Slot {
     fn is_for(self, file: FileId) -> bool
         ensures { result ≡ is_of file self }
     {
-        self.file() == Some(file)
+        match self {
+            Slot::There { file: of, .. } => of == file,
+            Slot::Gone { .. } => false,
+        }
     }
 
     /// The name goes, if there is one.

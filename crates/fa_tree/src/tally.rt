@@ -1,6 +1,6 @@
 //! How often names were listed.
 
-ghost use Rattle.std.specs.Prelude.{◌≡◌, ◌↔◌, ◌≤◌, ◌<◌, ◌+◌, cond, ℕ, true, false, List, IsTrue, OnOk, OnErr};
+ghost use Rattle.std.specs.Prelude.{◌≡◌, ◌↔◌, ◌≤◌, ◌<◌, ◌+◌, [], ◌∷◌, cond, ℕ, true, false, List, IsTrue, OnOk, OnErr};
 ghost use Rattle.std.specs.Bool.{MatchBool};
 ghost use Rattle.std.specs.Fn.{FnReturnsAt};
 ghost use Rattle.std.specs.Str.{bytes_eq};
@@ -8,11 +8,31 @@ ghost use Rattle.fa_tree.specs.parts.TallyParts.{Tallies};
 
 use indexmap::IndexMap;
 use std::alloc::{AllocError, Global};
+use std::hash::{Hash, Hasher};
+
+/// A name that was listed.
+#[derive(Clone, Copy, PartialEq, Eq)]
+pub(crate) struct Listed<'a> {
+    pub name: &'a [u8],
+}
+
+/// The name is handed on whole, not byte by byte.
+impl Hash for Listed<'_> {
+    ghost use Rattle.fa_tree.specs.parts.TallyParts.{listed_alike};
+
+    ghost hash_input = { λ listed. listed.name.now ∷ [] };
+
+    ghost respects_eq = { λ x y equal. listed_alike x.name.now y.name.now equal };
+
+    fn hash<H: Hasher>(&self, state: &mut H) {
+        state.write(self.name);
+    }
+}
 
 /// Names that were listed, each with whether that was more than once.
 #[derive(Drop)]
 pub(crate) struct Tally<'a> {
-    pub names: IndexMap<&'a [u8], bool>,
+    pub names: IndexMap<Listed<'a>, bool>,
 }
 
 impl<'a> Tally<'a> {
@@ -32,13 +52,13 @@ impl<'a> Tally<'a> {
         ensures noted { OnOk result ((times : List ℕ → ℕ) → Tallies self.old times → Tallies self.new (λ other. times other + cond (bytes_eq name.now other) 1 0)) }
         ensures unchanged { OnErr result (self.new.names.entries ≡ self.old.names.entries) }
     {
-        match self.names.get_mut(name) {
+        match self.names.get_mut(&Listed { name }) {
             Some(more) => {
                 *more = true;
                 Ok(())
             }
             None => {
-                self.names.insert(name, false)?;
+                self.names.insert(Listed { name }, false)?;
                 Ok(())
             }
         }
@@ -48,7 +68,7 @@ impl<'a> Tally<'a> {
     pub fn has(&self, name: &[u8]) -> bool
         ensures { (times : List ℕ → ℕ) → Tallies self.now times → IsTrue result ↔ (1 ≤ times name.now) }
     {
-        self.names.contains_key(name)
+        self.names.contains_key(&Listed { name })
     }
 
     /// Whether this holds of each name that was listed more than once. Takes no memory, in time of the names and of what it asks.
@@ -56,6 +76,8 @@ impl<'a> Tally<'a> {
         requires { F.IsAlwaysCallable holds }
         ensures { (times : List ℕ → ℕ) → Tallies self.now times → MatchBool result ((name : List ℕ) → 1 < times name → FnReturnsAt F.Fn holds name true) ((name : List ℕ) × (1 < times name) × FnReturnsAt F.Fn holds name false) }
     {
-        self.names.iter().all(|(name, more)| !*more || holds(name))
+        self.names
+            .iter()
+            .all(|(listed, more)| !*more || holds(listed.name))
     }
 }

@@ -1,5 +1,5 @@
 -- The order of places.
-use Rattle.std.proofs.Common.{◌≡◌, ℕ, Bool, true, List, refl, sym, ap, ◌∙◌}
+use Rattle.std.proofs.Common.{◌≡◌, ℕ, Bool, true, List, [], ◌∷◌, ◌++◌, refl, sym, ap, ◌∙◌}
 use Rattle.std.specs.Prelude.{◌&&◌, IsTrue, nat_eq}
 use Rattle.std.specs.Ordering.{nat_cmp, ordering_then, eq_by_cmp}
 use Rattle.std.specs.declared.cmp.Ordering.{Ordering}
@@ -7,7 +7,9 @@ use Rattle.std.specs.declared.cmp.Ordering.TheVariants.{Less, Equal, Greater}
 use Rattle.std.specs.Cmp.{IsTotalOrder, IsEquivalence, total, then_po, then_agrees, partial_order_from_total, on_total, tied_then, unsigned_ties, Equal-is, eq_by_cmp_equiv}
 use Rattle.std.specs.Cmp.Lexicographic.{nat_list_cmp_total, pointwise, lists_ties}
 use Rattle.std.specs.FinMap.{IsAntisymmetric, nat_cmp-IsAntisymmetric, slice_cmp-IsAntisymmetric}
+use Rattle.std.specs.Hash.{HashWrites}
 use Rattle.fa_tree.specs.contracts.id.FileIdPartialEq.TheImpl as derived
+use Rattle.fa_tree.specs.contracts.id.FileIdHash.TheImpl as hashed
 use Rattle.fa_tree.specs.State.{Place, file_cmp, file_eq, place_cmp, name_cmp}
 use Rattle.fa_tree.specs.parts.FileIdLaws.{file_cmp_total, files_apart, file_ties}
 
@@ -63,3 +65,11 @@ alike_test place a b is = place_equiv.congr place a b is ∙ place_test a b
 -- a directory that is another, and a name that is another, or not
 pub place_in : (a b : Place) (one : Bool) → derived.eq-value.it a.0 b.0 ≡ true → one ≡ pointwise nat_eq a.1 b.1 → one ≡ eq_by_cmp place_cmp a b
 place_in a b one directory name = name ∙ sym (place_test a b ∙ ap (λ t. t && pointwise nat_eq a.1 b.1) directory)
+
+-- ---- what a place feeds a hasher: its directory, and its name in one write
+abbrev pub place_fed : Place → HashWrites
+place_fed place = hashed.hash_input-value.it place.0 ++ place.1 ∷ []
+
+-- places whose parts are equal feed alike
+pub fed_alike : (a b : Place) → IsTrue (derived.eq-value.it a.0 b.0 && pointwise nat_eq a.1 b.1) → place_fed a ≡ place_fed b
+fed_alike a b equal = ap place_fed (same_place a b (place_test a b ∙ equal))

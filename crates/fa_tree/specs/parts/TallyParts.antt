@@ -1,5 +1,7 @@
 -- How often names were listed, as a tally of them tells it.
-use Rattle.std.specs.Prelude.{◌≡◌, ◌+◌, ℕ, zero, suc, Bool, true, false, List, Option, None, Some, option_map, option_and_then}
+use Rattle.std.specs.Prelude.{◌≡◌, ◌+◌, ℕ, zero, suc, Bool, true, false, IsTrue, List, [], ◌∷◌, Option, None, Some, option_map, option_and_then}
+use Rattle.std.proofs.Common.{ap}
+use Rattle.std.specs.Cmp.Lexicographic.{bytes_decides}
 use Rattle.std.specs.Map.{lookup}
 use Rattle.std.specs.Str.{bytes_eq}
 use Rattle.fa_bodies.specs.Dirents.{PlainDirent}
@@ -7,6 +9,10 @@ use Rattle.fa_ledger.specs.Calls.{PlainCall}
 use Rattle.fa_ledger.specs.SoFar.{call_asked, before_of}
 use Rattle.fa_tree.specs.declared.tally.Tally.{Tally}
 use Rattle.fa_tree.specs.Directories.{times_listed}
+
+-- names that are equal feed a hasher alike, in one write
+pub listed_alike : (a b : List ℕ) → IsTrue (bytes_eq a b) → ◌≡◌ {A = List (List ℕ)} (a ∷ []) (b ∷ [])
+listed_alike a b equal = ap (λ name. name ∷ []) ((bytes_decides a b).0 equal)
 
 -- what a tally has for a name that was listed so many times: nothing, or whether that was more than once
 abbrev pub tallied : ℕ → Option Bool
@@ -16,7 +22,7 @@ tallied (suc (suc more)) = Some true
 
 -- what the tally has for a name
 abbrev pub tally_of : Tally → List ℕ → Option Bool
-tally_of tally name = lookup (λ key. bytes_eq name key.now) tally.names.entries
+tally_of tally name = lookup (λ listed. bytes_eq name listed.name.now) tally.names.entries
 
 -- the tally tells how many times each name was listed
 abbrev pub Tallies : Tally → (times : List ℕ → ℕ) → Type 0

@@ -1,7 +1,6 @@
 use Rattle.std.proofs.Common.{Some, true, false, sym, ap, ◌∙◌, is_some}
-use Rattle.std.proofs.lemmas.Map.Text.{hash_map_updates_str}
 use Rattle.fa_tree.specs.declared.tally.Tally.{Tally}
-use Rattle.fa_tree.proofs.TallyLemmas.{listed_first, listed_again, tallies_more}
+use Rattle.fa_tree.proofs.TallyLemmas.{listed_first, listed_again, tallies_more, wrote_each}
 use Rattle.fa_tree.proofs.tally.Tally.note.Goals as goal
 
 pub returns-in-Some-clause-noted : goal.returns-in-Some-clause-noted
@@ -9,7 +8,7 @@ returns-in-Some-clause-noted c = λ times are.
     let name = c.args.name.now in
     let new = c.get_mut.follows.lender true in
     let tally : Tally = record { names = new } in
-    let wrote = hash_map_updates_str name c.args.self.now.names new _ ((c.get_mut.follows.holds true).3 (ap is_some (sym c.in-Some.ensures.value))) in
+    let wrote = wrote_each c.args.self.now tally name (Some true) ((c.get_mut.follows.holds true).3 (ap is_some (sym c.in-Some.ensures.value))).0 in
     tallies_more c.args.self.now tally name (Some true) times wrote (sym (listed_again (times name) c.in-Some.more.now (sym (are name) ∙ sym c.in-Some.ensures.value))) are
 
 pub returns-in_ok-insert-in-None-clause-noted : goal.returns-in_ok-insert-in-None-clause-noted
@@ -18,5 +17,5 @@ returns-in_ok-insert-in-None-clause-noted c = λ times are.
     let new = c.insert.new.self in
     let tally : Tally = record { names = new } in
     let updates = rw c.get_mut.follows.holds-at-none at c.in_ok-insert-in-None.ensures.updates in
-    let wrote = hash_map_updates_str name c.args.self.now.names new _ updates in
+    let wrote = wrote_each c.args.self.now tally name (Some false) updates.0 in
     tallies_more c.args.self.now tally name (Some false) times wrote (sym (listed_first (times name) (sym (are name) ∙ sym c.in-None.ensures.value))) are
