@@ -319,15 +319,3 @@ pub edited_of_one : (n : NamesShown) (old_directory : FileId) (old_name : List �
 edited_of_one n old_directory old_name new_directory new_name file other test =
     (λ i. record { names = n.names; handles = sym (each_same (open_after []) n.handles (λ asked h is. refl)) i })
     ∙ sym (ap (λ b. edited (if b then [] else Removed old_directory old_name ∷ Added old_directory old_name other ∷ Removed new_directory new_name ∷ Added new_directory new_name file ∷ []) n) test)
-
--- a name that is there is there after another is put
-pub there_after_put : (n : NamesShown) (directory : FileId) (name : List ℕ) (file : FileId) (place : state.Place) → map.get n.names place ≢ None
-    → map.get (edited (Removed directory name ∷ Added directory name file ∷ []) n).names place ≢ None
-there_after_put n directory name file place there none =
-    by (eq_by_cmp place_cmp place (directory, name))
-    (sym (map.get-insert place_cmp_total (map.remove n.names (directory, name)) (directory, name) file place
-    ∙ ap (cond (eq_by_cmp place_cmp place (directory, name)) (Some file)) (map.get-remove place_cmp_total n.names (directory, name) place)) ∙ none)
-  where
-    by : (b : Bool) → cond b (Some file) (cond b None (map.get n.names place)) ≡ None → ⊥
-    by true clash = absurd (let some : Some file ≡ None = clash in cc)
-    by false none = there none

@@ -4,7 +4,9 @@ pub mod ChangeLemmas
 pub mod ChangedLemmas
 pub mod ContentsLemmas
 pub mod EditedLemmas
+pub mod ExchangeLemmas
 pub mod FileLemmas
+pub mod HolderLemmas
 pub mod JudgeLemmas
 pub mod JudgingLemmas
 pub mod KnownLemmas

@@ -11,6 +11,7 @@ use Rattle.std.specs.FinSet as set
 use Rattle.std.specs.FinSet.{same_set}
 use Rattle.std.proofs.lemmas.Bool.Decides.{nat_tests}
 use Rattle.fa_tree.specs.declared.id.FileId.{FileId}
+use Rattle.fa_tree.specs.State as state
 use Rattle.fa_tree.specs.State.{place_cmp, name_cmp, OpenDirectory, file_eq}
 use Rattle.fa_tree.specs.Edits.{each_open, open_after, open_after_one}
 use Rattle.fa_tree.specs.Edits.Edit.{Added, Removed}
@@ -235,7 +236,7 @@ module _ (old new : List (Place × Slot)) (directory : FileId) (name : List ℕ)
 
 module _ (old new : List (Place × Slot)) (directory : FileId) (name : List ℕ) (file : FileId) (n : ℕ)
     (wrote : IsChangedAt (directory, name) (λ slot. Some (There file n)) old new) where
-  names_put : names_shown new ≡ map.insert (map.remove (names_shown old) (directory, name)) (directory, name) file
+  pub names_put : names_shown new ≡ map.insert (map.remove (names_shown old) (directory, name)) (directory, name) file
   names_put = same_map place_cmp_total places_apart _ _ (λ q.
       get-names_shown new q ∙ ap (option_and_then file_in) (wrote q)
       ∙ puts (eq_by_cmp place_cmp q (directory, name)) (slot_at old q)
@@ -280,7 +281,7 @@ module _ (old new : List (Place × Slot)) (directory : FileId) (name : List ℕ)
 
 module _ (old new : List (Place × Slot)) (directory : FileId) (name : List ℕ) (n : ℕ)
     (wrote : IsChangedAt (directory, name) (gone_at n) old new) where
-  names_removed : names_shown new ≡ map.remove (names_shown old) (directory, name)
+  pub names_removed : names_shown new ≡ map.remove (names_shown old) (directory, name)
   names_removed = same_map place_cmp_total places_apart _ _ (λ q.
       get-names_shown new q ∙ ap (option_and_then file_in) (wrote q)
       ∙ goes (eq_by_cmp place_cmp q (directory, name)) (slot_at old q)
@@ -326,3 +327,27 @@ module _ (old new : List (Place × Slot)) (directory : FileId) (name : List ℕ)
   shown_removed openings count =
       let handles = handles_changed old new openings (open_after (Removed directory name ∷ [])) (λ other at before. open_removed other at (omega arith)) in
       λ i. record { names = names_removed i; handles = handles i }
+
+-- ---- stamps
+
+-- a stamp that is written is no later than so many openings where it is made of one that is not
+within_written : (n : ℕ) (old new : List (Place × Slot)) (place : state.Place) (change : Option Slot → Option Slot) → IsChangedAt place change old new
+    → ((slot : Option Slot) → IsStampWithin n slot → IsStampWithin n (change slot)) → AreStampsWithin n old → AreStampsWithin n new
+within_written n old new place change wrote keeps within q = subst (IsStampWithin n) (sym (wrote q)) (by (eq_by_cmp place_cmp q place) (slot_at old q) (within q))
+  where
+    by : (b : Bool) (slot : Option Slot) → IsStampWithin n slot → IsStampWithin n (cond b (change slot) slot)
+    by true slot within = keeps slot within
+    by false slot within = within
+
+pub within_put : (n : ℕ) (old new : List (Place × Slot)) (place : state.Place) (file : FileId) (born : ℕ) → born ≡ n → IsChangedAt place (λ slot. Some (There file born)) old new
+    → AreStampsWithin n old → AreStampsWithin n new
+within_put n old new place file born is wrote = within_written n old new place (λ slot. Some (There file born)) wrote (λ slot within. let few : born ≤ n = omega arith in few)
+
+pub within_removed : (n : ℕ) (old new : List (Place × Slot)) (place : state.Place) (at : ℕ) → at ≡ n → IsChangedAt place (gone_at at) old new
+    → AreStampsWithin n old → AreStampsWithin n new
+within_removed n old new place at is wrote = within_written n old new place (gone_at at) wrote keeps
+  where
+    keeps : (slot : Option Slot) → IsStampWithin n slot → IsStampWithin n (gone_at at slot)
+    keeps None within = tt
+    keeps (Some (There file born)) within = let few : at ≤ n = omega arith in few
+    keeps (Some (Gone before)) within = within

@@ -7,6 +7,8 @@ pub mod SlotParts
 -- the table of names: its value, and what its body shows of it
 pub mod NameParts
 pub mod NameViews
+-- what is counted of files
+pub mod HolderParts
 -- openings, and open directories
 pub mod OpenParts
 -- what was listed so far

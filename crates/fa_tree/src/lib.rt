@@ -10,6 +10,7 @@ mod error;
 mod facts;
 mod file;
 mod files;
+mod holders;
 mod id;
 mod judging;
 pub mod laws;

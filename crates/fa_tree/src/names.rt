@@ -10,6 +10,7 @@ ghost use Rattle.fa_tree.specs.Renaming.{moved, exchanged};
 ghost use Rattle.fa_tree.specs.parts.NameParts.{NamesShown, no_names, edited, opened_by};
 ghost use Rattle.fa_tree.specs.parts.OpenParts.{open_of};
 
+use crate::holders::Holders;
 use crate::id::FileId;
 use crate::open::{OpenNames, Opening, Openings};
 use crate::slots::{Slot, Slots};
@@ -19,13 +20,16 @@ use std::marker::Model;
 /// The names of directories, with their files, and the directories that are open, with what was in them since then.
 ///
 /// Of the names of a directory that is open nothing is copied: each name has the number of openings before it came, or
-/// before it went, and each opening is told by its number.
+/// before it went, and each opening is told by its number. How many names a file has, how many are in a directory, and a
+/// directory that has a name for a file are kept as names come and go, and not looked for among all places.
 #[derive(Drop)]
 pub(crate) struct Names {
     /// For each place that ever had a name what is there.
     slots: Slots,
     /// All openings.
     openings: Openings,
+    /// What is counted of each file.
+    holders: Holders,
 }
 
 impl Model for Names {
@@ -37,11 +41,13 @@ impl Model for Names {
     ghost coded = { names_code };
 
     ghost use Rattle.std.specs.Prelude.{length};
+    ghost use Rattle.fa_tree.specs.parts.SlotParts.{names_shown};
     ghost use Rattle.fa_tree.specs.parts.NameViews.{shown, AreStampsWithin};
+    ghost use Rattle.fa_tree.specs.parts.HolderParts.{held, AreCounted};
 
     ghost view = { λ n. shown n.slots.table.entries n.openings };
 
-    ghost invariant = { λ n. AreStampsWithin (length n.openings) n.slots.table.entries };
+    ghost invariant = { λ n. AreStampsWithin (length n.openings) n.slots.table.entries × AreCounted (names_shown n.slots.table.entries) (held n.holders.table.entries) };
 }
 
 impl Names {
@@ -54,6 +60,7 @@ impl Names {
         Names {
             slots: Slots::new(alloc),
             openings: Openings::new(alloc),
+            holders: Holders::new(alloc),
         }
     }
 
@@ -71,45 +78,71 @@ impl Names {
 
     /// Whether a directory has no name.
     ///
-    /// Takes no memory, and time in the number of all places that ever had a name.
+    /// Takes no memory, in expected constant time.
     pub fn is_empty(&self, directory: FileId) -> bool
         ensures { IsTrue result ↔ ((name : List ℕ) → get self.now.names (directory, name) ≡ None) }
     {
-        self.slots.is_empty(directory)
+        self.holders.get(directory).inside == 0
+    }
+
+    /// Whether a file has a name.
+    ///
+    /// Takes no memory, in expected constant time.
+    pub fn is_named(&self, file: FileId) -> bool
+        ensures { IsTrue result ↔ ((directory : FileId) × (name : List ℕ) × (get self.now.names (directory, name) ≡ Some file)) }
+    {
+        self.holders.get(file).links != 0
     }
 
     /// A directory that has a name for a file, if there is one.
     ///
-    /// Takes no memory, and time in the number of all places that ever had a name.
+    /// Takes no memory, in expected constant time for a file that never had two names at a time, as no directory has. Of
+    /// another the directory is not known after one of its names was taken away: then it is looked for among all places that
+    /// ever had a name.
     pub fn parent(&self, file: FileId) -> Option<FileId>
         ensures there { IfSome result (λ directory. (name : List ℕ) × (get self.now.names (directory, name) ≡ Some file)) }
         ensures none { IfNone result ((directory : FileId) (name : List ℕ) → get self.now.names (directory, name) ≡ Some file → ⊥) }
     {
-        self.slots.parent(file)
+        let holder = self.holders.get(file);
+        if holder.links == 0 {
+            return None;
+        }
+        match holder.parent {
+            Some(directory) => Some(directory),
+            // Reached for a file that had several names, never for a directory.
+            None => self.slots.parent(file),
+        }
     }
 
     /// How many names a file has.
     ///
-    /// Takes no memory, and time in the number of all places that ever had a name.
+    /// Takes no memory, in expected constant time.
     pub fn links(&self, file: FileId) -> usize
         ensures { result ≡ count_by (λ entry. file_eq entry.1 file) (entries self.now.names) }
     {
-        self.slots.links(file)
+        self.holders.get(file).links
     }
 
     /// Puts a name into a directory, for a file. A name that is there already is another's from then on. An error says that
     /// memory was refused, and nothing is changed.
     ///
-    /// Takes no memory where the directory ever had the name, and copies it otherwise. Expected constant time but for
-    /// reading the name and for growing.
+    /// Takes no memory where the directory ever had the name and the file one, and copies the name where it is new. Expected
+    /// constant time but for reading the name and for growing.
     pub fn put(&mut self, directory: FileId, name: &[u8], file: FileId) -> Result<(), AllocError>
         ensures fresh { get self.old.names (directory, name.now) ≡ None → OnOk result (self.new ≡ edited (Added directory name.now file ∷ []) self.old) }
         ensures put { OnOk result (self.new ≡ edited (Removed directory name.now ∷ Added directory name.now file ∷ []) self.old) }
         ensures unchanged { OnErr result (self.new ≡ self.old) }
     {
+        let old = self.get(directory, name);
         let born = self.openings.len();
+        // `len` is called for its clause that slots are few, so that no count of names is too large.
+        let _ = self.slots.len();
+        self.holders.make_room(directory)?;
+        self.holders.make_room(file)?;
         self.slots
-            .insert(directory, name, Slot::There { file, born })
+            .insert(directory, name, Slot::There { file, born })?;
+        self.holders.put(directory, old, file);
+        Ok(())
     }
 
     /// Takes a name out of a directory, if it is there.
@@ -118,8 +151,12 @@ impl Names {
     pub fn remove(&mut self, directory: FileId, name: &[u8])
         ensures { self.new ≡ edited (Removed directory name.now ∷ []) self.old }
     {
+        let old = self.get(directory, name);
         let at = self.openings.len();
         self.slots.remove(directory, name, at);
+        if let Some(file) = old {
+            self.holders.remove(directory, file);
+        }
     }
 
     /// Moves the name of a file to another place. A name that is there already is the file's from then on. An error says that
@@ -142,19 +179,18 @@ impl Names {
         let _ = &self.slots;
         self.put(new_directory, new_name, file)?;
         self.remove(old_directory, old_name);
+        self.note_parent(new_directory, file);
         Ok(())
     }
 
-    /// Gives a name that is there to another file.
+    /// Notes that this directory has a name for the file.
     ///
-    /// Takes no memory. Expected constant time but for reading the name.
-    fn replace(&mut self, directory: FileId, name: &[u8], file: FileId)
-        requires { get self.old.names (directory, name.now) ≢ None }
-        ensures { self.new ≡ edited (Removed directory name.now ∷ Added directory name.now file ∷ []) self.old }
+    /// Takes no memory, in expected constant time.
+    fn note_parent(&mut self, directory: FileId, file: FileId)
+        requires { (name : List ℕ) × (get self.old.names (directory, name) ≡ Some file) }
+        ensures { self.new ≡ self.old }
     {
-        let born = self.openings.len();
-        self.slots
-            .replace(directory, name, Slot::There { file, born });
+        self.holders.note_parent(directory, file);
     }
 
     /// Gives each of two names the other's file.
@@ -175,8 +211,16 @@ impl Names {
     {
         let _ = &self.slots;
         if other != file {
-            self.replace(old_directory, old_name, other);
-            self.replace(new_directory, new_name, file);
+            let born = self.openings.len();
+            // `len` is called for its clause that slots are few, as in `put`.
+            let _ = self.slots.len();
+            self.slots
+                .replace(old_directory, old_name, Slot::There { file: other, born });
+            self.slots
+                .replace(new_directory, new_name, Slot::There { file, born });
+            self.holders.put(old_directory, Some(file), other);
+            self.holders.put(new_directory, Some(other), file);
+            self.holders.note_parent(old_directory, other);
         }
     }
 

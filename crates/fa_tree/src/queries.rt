@@ -52,7 +52,7 @@ impl Stored {
         self.kind(file) == Some(Kind::Symlink)
     }
 
-    /// A directory that has a name for the file, if one has.
+    /// A directory that has a name for the file, if one has. Of a directory in expected constant time.
     pub(crate) fn parent(&self, file: FileId) -> Option<FileId>
         ensures there { IfSome result (λ directory. IsParent self.now.store directory file) }
         ensures none { IfNone result ((directory : FileId) → IsParent self.now.store directory file → ⊥) }
@@ -60,18 +60,18 @@ impl Stored {
         self.names.parent(file)
     }
 
-    /// Whether no name is in a directory.
+    /// Whether no name is in a directory. In expected constant time.
     fn has_no_names(&self, directory: FileId) -> bool
         ensures { IsTrue result ↔ ((name : List ℕ) → IsFree self.now.store directory name) }
     {
         self.names.is_empty(directory)
     }
 
-    /// Whether it is the root or has a name.
+    /// Whether it is the root or has a name. In expected constant time.
     pub(crate) fn is_linked(&self, file: FileId) -> bool
         ensures { IsTrue result ↔ IsLinked self.now.store file }
     {
-        file == self.root() || self.parent(file).is_some()
+        file == self.root() || self.names.is_named(file)
     }
 
     /// Whether it is a directory that is linked.
@@ -88,7 +88,7 @@ impl Stored {
         self.is_directory(file) && self.has_no_names(file)
     }
 
-    /// How many names a file has.
+    /// How many names a file has. In expected constant time.
     pub(crate) fn links(&self, file: FileId) -> usize
         ensures { result ≡ links self.now.store file }
     {

@@ -1,10 +1,9 @@
 //! The table of places: for each place that a name was put at, the slot that says what is there.
 
-ghost use Rattle.std.specs.Prelude.{◌≡◌, [], ℕ, List, count_by, is_some, ◌↔◌, ◌==◌, IsTrue, IfSome, IfNone, Some, None, OnOk, OnErr};
+ghost use Rattle.std.specs.Prelude.{◌≡◌, ◌<◌, ◌^◌, [], ℕ, List, length, ◌==◌, IfSome, IfNone, Some, None, OnOk, OnErr};
 ghost use Rattle.fa_tree.specs.declared.id.FileId.{FileId};
 ghost use Rattle.std.specs.FinMap as map;
 ghost use Rattle.std.specs.Option.{option_map};
-ghost use Rattle.fa_tree.specs.State.{file_eq};
 ghost use Rattle.fa_tree.specs.parts.SlotParts.{slot_at, gone_at, file_in, is_of, names_shown, IsChangedAt};
 
 use crate::id::FileId;
@@ -104,13 +103,6 @@ impl Slots {
         self.table.get(&PlaceAt { directory, name }).copied()
     }
 
-    /// Whether a directory has no name. Goes through all slots.
-    pub fn is_empty(&self, directory: FileId) -> bool
-        ensures { IsTrue result ↔ ((name : List ℕ) → map.get (names_shown self.now.table.entries) (directory, name) ≡ None) }
-    {
-        !self.table.iter().any(|(place, slot)| place.directory == directory && slot.is_there())
-    }
-
     /// A directory that has a name for a file, if there is one. Goes through all slots.
     pub fn parent(&self, file: FileId) -> Option<FileId>
         ensures there { IfSome result (λ directory. (name : List ℕ) × (map.get (names_shown self.now.table.entries) (directory, name) ≡ Some file)) }
@@ -120,14 +112,12 @@ impl Slots {
         Some(place.directory)
     }
 
-    /// How many names a file has. Goes through all slots.
-    pub fn links(&self, file: FileId) -> usize
-        ensures { result ≡ count_by (λ entry. file_eq entry.1 file) (map.entries (names_shown self.now.table.entries)) }
+    /// How many there are.
+    pub fn len(&self) -> usize
+        ensures len { result ≡ length self.now.table.entries }
+        ensures small { result < 2 ^ 63 }
     {
-        self.table
-            .iter()
-            .filter(|(_, slot)| slot.is_for(file))
-            .count()
+        self.table.len()
     }
 
     /// Puts a slot at a place. An error says that memory was refused for a place that had none, and nothing is changed.
@@ -180,13 +170,6 @@ impl Slot {
             Slot::There { file, .. } => Some(file),
             Slot::Gone { .. } => None,
         }
-    }
-
-    /// Whether there is a name.
-    fn is_there(self) -> bool
-        ensures { result ≡ is_some (file_in self) }
-    {
-        self.file().is_some()
     }
 
     /// Whether there is a name for this file.

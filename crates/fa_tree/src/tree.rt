@@ -80,8 +80,7 @@ impl Tree {
     /// files have any, symbolic links a target, others none), or that the body has more than
     /// [`MAX_FILE_BYTES`](fa_bodies::MAX_FILE_BYTES) bytes; `Memory` that memory was refused. The tree is then as it was.
     ///
-    /// Time and memory in the bytes of the name and the body; and time in all names of the tree, unless the parent is the root
-    /// (whether it is linked is looked for).
+    /// Expected time and memory in the bytes of the name and the body, but for what growing costs.
     pub fn add(
         &mut self,
         parent: FileId,
@@ -112,7 +111,7 @@ impl Tree {
     /// is not linked, that the name is there or is not permitted, or that the file is a directory or is not in the tree;
     /// `Memory` that memory was refused. The tree is then as it was.
     ///
-    /// Time and memory in the bytes of the name; and time in all names of the tree, unless the parent is the root.
+    /// Expected time and memory in the bytes of the name, but for what growing costs.
     pub fn add_link(&mut self, parent: FileId, name: &[u8], file: FileId) -> Result<(), StepError>
         ensures added { OnOk result (self.new ≡ tree_linked self.old parent name.now file) }
         ensures allowed { OnOk result (MayBeLinkedTo self.old parent name.now file) }

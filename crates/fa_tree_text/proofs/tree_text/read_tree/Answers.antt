@@ -1,6 +1,10 @@
-use Rattle.std.proofs.Common.{◌≡◌, ◌+◌, ◌≤◌, length, Some, None, ap, arith}
+use Rattle.std.proofs.Common.{◌≡◌, ℕ, ◌+◌, ◌≤◌, List, length, Some, None, ap, arith}
+use Rattle.std.specs.Prelude.{Result, Ok, Err, IfErr, IsErrAnd}
 use Rattle.std.specs.Cmp.{unsigned_Decides}
 use Rattle.std.proofs.lemmas.Slice.Eq.{strip_prefix_is}
+use Rattle.fa_order.specs.declared.error.TextError.{TextError}
+use Rattle.fa_order.specs.declared.error.TextError.TheVariants.{Line, Memory}
+use Rattle.fa_tree_text.specs.Faults.{IsTreeFaultTold}
 use Rattle.fa_tree_text.proofs.TreeLemmas.{so_far_first, so_far_more, so_far_number, text_read, tree_fault_next, tree_fault_on, tree_fault_root}
 use Rattle.fa_tree_text.proofs.tree_text.read_tree.Goals as goal
 
@@ -43,3 +47,12 @@ returns-in-Some-strip_prefix-clause-fault c =
     let end = strip_prefix_is unsigned_Decides c.loop-tree.left.now c.as_slice-2.result.now (Some c.in-Some-strip_prefix.field-0) c.in-Some-strip_prefix.ensures.cases in
     tree_fault_on c.args.bytes.now c.loop-tree.left.now c.in-Some-strip_prefix.field-0.now c.in-Some-read_root.bits c.loop-tree.line c.loop-tree.tree c.loop-tree.invariant (rw c.as_slice-2.ensures at end)
     (λ none. let short : length c.in-Some-strip_prefix.field-0.now ≡ 0 = ap length none in omega (arith, short, c.in-Some-strip_prefix.len_at_least))
+
+-- want of memory says nothing of the bytes
+memory_tells : {T : Type 0} (r : Result T TextError) (bytes : List ℕ) → IsErrAnd r (λ e. e ≡ Memory) → IfErr r (IsTreeFaultTold bytes)
+memory_tells (Ok x) bytes is = tt
+memory_tells (Err (Line n)) bytes is = absurd (let clash : Line n ≡ Memory = is in cc)
+memory_tells (Err Memory) bytes is = tt
+
+pub returns-in_err-rest-clause-fault : goal.returns-in_err-rest-clause-fault
+returns-in_err-rest-clause-fault c = memory_tells c.from_residual-in_err-rest.result c.args.bytes.now c.from_residual-in_err-rest.ensures.1

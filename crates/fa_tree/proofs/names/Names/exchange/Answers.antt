@@ -1,10 +1,14 @@
-use Rattle.std.proofs.Common.{◌≡◌, None, Some, ◌∷◌, [], Bool, true, false, refl, sym, ap, ◌∙◌}
+use Rattle.std.proofs.Common.{◌≡◌, ◌∷◌, [], Bool, true, false, refl, sym, ap, subst, ◌∙◌, arith}
 use Rattle.std.specs.Prelude.{not}
 use Rattle.std.specs.FinMap.{get}
 use Rattle.fa_tree.specs.Edits.Edit.{Added, Removed}
 use Rattle.fa_tree.specs.parts.FileIdLaws.{file_ties}
 use Rattle.fa_tree.specs.parts.NameParts.{edited}
-use Rattle.fa_tree.proofs.EditedLemmas.{edited_exchanged, edited_of_one, there_after_put}
+use Rattle.fa_tree.specs.parts.SlotParts.{names_shown}
+use Rattle.fa_tree.specs.parts.HolderParts.{held, AreCounted}
+use Rattle.fa_tree.proofs.EditedLemmas.{edited_exchanged, edited_of_one}
+use Rattle.fa_tree.proofs.ExchangeLemmas.{after_put, also_there, one_there, names_exchanged, shown_exchanged, within_exchanged}
+use Rattle.fa_tree.proofs.HolderLemmas.{some_links, some_inside, known_links, known_inside, names_few, put_few}
 use Rattle.fa_tree.proofs.names.Names.exchange.Goals as goal
 
 differs : (b : Bool) → true ≡ not b → b ≡ false
@@ -15,18 +19,98 @@ is_one : (b : Bool) → false ≡ not b → b ≡ true
 is_one true is = refl
 is_one false is = absurd cc
 
-pub replace-requires-then-ne : goal.replace-requires-then-ne
-replace-requires-then-ne c = λ none.
-    there_after_put c.args.self.now c.args.old_directory c.args.old_name.now c.args.other (c.args.new_directory, c.args.new_name.now)
-    (λ free. let clash : Some c.args.other ≡ None = sym c.requires.also ∙ free in absurd cc)
-    (ap (λ n. get n.names (c.args.new_directory, c.args.new_name.now)) (sym c.replace.ensures) ∙ none)
+pub put-requires-clause-directory : goal.put-requires-clause-directory
+put-requires-clause-directory c =
+    let names = names_shown c.self.inside.slots.table.entries in
+    let holder = held c.self.inside.holders.table.entries in
+    let there = ap (λ n. get n.names (c.args.old_directory, c.args.old_name.now)) c.self.view_is ∙ c.requires.there in
+    known_inside c.self.inside.holders.table.entries c.args.old_directory (some_inside names holder c.self.invariant.1 (c.args.old_directory, c.args.old_name.now) c.args.file there)
+
+pub put-requires-clause-file : goal.put-requires-clause-file
+put-requires-clause-file c =
+    let names = names_shown c.self.inside.slots.table.entries in
+    let holder = held c.self.inside.holders.table.entries in
+    let also = ap (λ n. get n.names (c.args.new_directory, c.args.new_name.now)) c.self.view_is ∙ c.requires.also in
+    known_links c.self.inside.holders.table.entries c.args.other (some_links names holder c.self.invariant.1 (c.args.new_directory, c.args.new_name.now) c.args.other also)
+
+pub put-requires-clause-counted : goal.put-requires-clause-counted
+put-requires-clause-counted c =
+    let names = names_shown c.self.inside.slots.table.entries in
+    let holder = held c.self.inside.holders.table.entries in
+    let there = ap (λ n. get n.names (c.args.old_directory, c.args.old_name.now)) c.self.view_is ∙ c.requires.there in
+    let few = names_few c.self.inside.slots.table.entries in
+    (record { names = names; name = c.args.old_name.now; at = there; counted = c.self.invariant.1 }, omega (arith, few, c.len.ensures.len, c.len.ensures.small))
+
+pub put-requires-then-ne-clause-directory : goal.put-requires-then-ne-clause-directory
+put-requires-then-ne-clause-directory c =
+    let names = names_shown c.self.inside.slots.table.entries in
+    let holder = held c.self.inside.holders.table.entries in
+    let also = ap (λ n. get n.names (c.args.new_directory, c.args.new_name.now)) c.self.view_is ∙ c.requires.also in
+    c.put.ensures.kept c.args.new_directory (known_inside c.self.inside.holders.table.entries c.args.new_directory (some_inside names holder c.self.invariant.1 (c.args.new_directory, c.args.new_name.now) c.args.other also))
+
+pub put-requires-then-ne-clause-file : goal.put-requires-then-ne-clause-file
+put-requires-then-ne-clause-file c =
+    let names = names_shown c.self.inside.slots.table.entries in
+    let holder = held c.self.inside.holders.table.entries in
+    let there = ap (λ n. get n.names (c.args.old_directory, c.args.old_name.now)) c.self.view_is ∙ c.requires.there in
+    c.put.ensures.kept c.args.file (known_links c.self.inside.holders.table.entries c.args.file (some_links names holder c.self.invariant.1 (c.args.old_directory, c.args.old_name.now) c.args.file there))
+
+pub put-requires-then-ne-clause-counted : goal.put-requires-then-ne-clause-counted
+put-requires-then-ne-clause-counted c =
+    let names = names_shown c.self.inside.slots.table.entries in
+    let there = ap (λ n. get n.names (c.args.old_directory, c.args.old_name.now)) c.self.view_is ∙ c.requires.there in
+    let also = ap (λ n. get n.names (c.args.new_directory, c.args.new_name.now)) c.self.view_is ∙ c.requires.also in
+    let few = names_few c.self.inside.slots.table.entries in
+    let same = put_few names (c.args.old_directory, c.args.old_name.now) c.args.file c.args.other there in (
+      record {
+        names = after_put names (c.args.old_directory, c.args.old_name.now) c.args.other;
+        name = c.args.new_name.now;
+        at = also_there names (c.args.old_directory, c.args.old_name.now) (c.args.new_directory, c.args.new_name.now) c.args.file c.args.other there also;
+        counted = c.put.ensures.counted names c.args.old_name.now there c.self.invariant.1;
+      },
+      omega (arith, few, same, c.len.ensures.len, c.len.ensures.small),
+    )
+
+pub note_parent-requires : goal.note_parent-requires
+note_parent-requires c =
+    let names = names_shown c.self.inside.slots.table.entries in
+    let there = ap (λ n. get n.names (c.args.old_directory, c.args.old_name.now)) c.self.view_is ∙ c.requires.there in
+    let also = ap (λ n. get n.names (c.args.new_directory, c.args.new_name.now)) c.self.view_is ∙ c.requires.also in
+    let between = after_put names (c.args.old_directory, c.args.old_name.now) c.args.other in
+    record {
+      names = after_put between (c.args.new_directory, c.args.new_name.now) c.args.file;
+      name = c.args.old_name.now;
+      at = one_there names (c.args.old_directory, c.args.old_name.now) (c.args.new_directory, c.args.new_name.now) c.args.file c.args.other there also;
+      counted =
+          c.put-then-ne.ensures.counted between c.args.new_name.now (also_there names (c.args.old_directory, c.args.old_name.now) (c.args.new_directory, c.args.new_name.now) c.args.file c.args.other there also)
+          (c.put.ensures.counted names c.args.old_name.now there c.self.invariant.1);
+    }
+
+pub invariant_of-self : goal.invariant_of-self
+invariant_of-self c =
+    let names = names_shown c.self.inside.slots.table.entries in
+    let there = ap (λ n. get n.names (c.args.old_directory, c.args.old_name.now)) c.self.view_is ∙ c.requires.there in
+    let also = ap (λ n. get n.names (c.args.new_directory, c.args.new_name.now)) c.self.view_is ∙ c.requires.also in
+    let between = after_put names (c.args.old_directory, c.args.old_name.now) c.args.other in (
+      within_exchanged c.self.inside.slots.table.entries c.replace.new.self.table.entries c.replace-then-ne.new.self.table.entries c.args.old_directory c.args.old_name.now c.args.new_directory c.args.new_name.now c.args.file c.args.other c.len-born.result
+          there also c.replace.ensures c.replace-then-ne.ensures _ c.len-born.ensures c.self.invariant.0,
+      subst (λ names. AreCounted names (held c.note_parent.new.self.table.entries))
+          (sym (names_exchanged c.self.inside.slots.table.entries c.replace.new.self.table.entries c.replace-then-ne.new.self.table.entries c.args.old_directory c.args.old_name.now c.args.new_directory c.args.new_name.now c.args.file c.args.other c.len-born.result
+          there also c.replace.ensures c.replace-then-ne.ensures))
+          (c.note_parent.ensures (after_put between (c.args.new_directory, c.args.new_name.now) c.args.file) c.args.old_name.now (one_there names (c.args.old_directory, c.args.old_name.now) (c.args.new_directory, c.args.new_name.now) c.args.file c.args.other there also)
+          (c.put-then-ne.ensures.counted between c.args.new_name.now (also_there names (c.args.old_directory, c.args.old_name.now) (c.args.new_directory, c.args.new_name.now) c.args.file c.args.other there also)
+          (c.put.ensures.counted names c.args.old_name.now there c.self.invariant.1))),
+    )
 
 pub returns-then-ne : goal.returns-then-ne
 returns-then-ne c =
-    c.replace-then-ne.ensures
-    ∙ ap (edited (Removed c.args.new_directory c.args.new_name.now ∷ Added c.args.new_directory c.args.new_name.now c.args.file ∷ [])) c.replace.ensures
-    ∙ edited_exchanged c.args.self.now c.args.old_directory c.args.old_name.now c.args.new_directory c.args.new_name.now c.args.file c.args.other
-    (file_ties c.args.other c.args.file ∙ differs _ c.if-ne.ensures)
+    let there = ap (λ n. get n.names (c.args.old_directory, c.args.old_name.now)) c.self.view_is ∙ c.requires.there in
+    let also = ap (λ n. get n.names (c.args.new_directory, c.args.new_name.now)) c.self.view_is ∙ c.requires.also in
+    shown_exchanged c.self.inside.slots.table.entries c.replace.new.self.table.entries c.replace-then-ne.new.self.table.entries c.args.old_directory c.args.old_name.now c.args.new_directory c.args.new_name.now c.args.file c.args.other c.len-born.result
+    there also c.replace.ensures c.replace-then-ne.ensures
+    c.self.inside.openings (sym c.len-born.ensures)
+    ∙ ap (λ n. edited (Removed c.args.new_directory c.args.new_name.now ∷ Added c.args.new_directory c.args.new_name.now c.args.file ∷ []) (edited (Removed c.args.old_directory c.args.old_name.now ∷ Added c.args.old_directory c.args.old_name.now c.args.other ∷ []) n)) c.self.view_is
+    ∙ edited_exchanged c.args.self.now c.args.old_directory c.args.old_name.now c.args.new_directory c.args.new_name.now c.args.file c.args.other (file_ties c.args.other c.args.file ∙ differs _ c.if-ne.ensures)
 
 pub returns-else-ne : goal.returns-else-ne
 returns-else-ne c =

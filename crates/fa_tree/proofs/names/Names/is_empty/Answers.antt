@@ -1,8 +1,10 @@
-use Rattle.std.proofs.Common.{List, ℕ, ap, sym, ◌∙◌}
-use Rattle.std.specs.FinMap.{get}
+use Rattle.std.proofs.Common.{ap, subst}
+use Rattle.fa_tree.specs.parts.HolderParts.{held, AreCounted}
+use Rattle.fa_tree.proofs.HolderLemmas.{tells_empty}
 use Rattle.fa_tree.proofs.names.Names.is_empty.Goals as goal
 
 pub returns : goal.returns
 returns c =
-    let shown = λ (name : List ℕ). ap (λ n. get n.names (c.args.directory, name)) c.self.view_is in
-    (λ empty name. sym (shown name) ∙ c.is_empty.ensures.0 empty name, λ none. c.is_empty.ensures.1 (λ name. shown name ∙ none name))
+    let holder = held c.self.inside.holders.table.entries in
+    tells_empty c.args.self.now.names holder (subst (λ n. AreCounted n.names holder) c.self.view_is c.self.invariant.1) c.get.result.inside c.args.directory
+    (ap (λ h. h.inside) c.get.ensures)

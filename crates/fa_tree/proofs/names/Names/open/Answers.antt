@@ -13,6 +13,6 @@ returns-clause-opened c =
     let o : Opening = record { asked = c.args.asked; directory = c.args.directory } in
     ok_also c.push.result _ _ (λ pushed.
     ap (shown slots) pushed
-    ∙ shown_push slots openings o c.self.invariant
+    ∙ shown_push slots openings o c.self.invariant.0
     ∙ ap (opened_by c.args.asked c.args.directory) c.self.view_is)
     c.push.ensures.pushed

@@ -1,6 +1,7 @@
-use Rattle.std.proofs.Common.{rules}
+use Rattle.std.proofs.Common.{rules, sym}
+use Rattle.fa_tree.specs.parts.StoredView.{stored_shown}
 use Rattle.fa_tree.proofs.QueryLemmas.{linked_by}
 use Rattle.fa_tree.proofs.stored.Stored.is_linked.Goals as goal
 
 pub returns-else-eq : goal.returns-else-eq
-returns-else-eq c = rw (c.is_some.ensures) (linked_by c.args.self.now.store c.args.file c.parent.result c.parent.ensures.there c.parent.ensures.none (search rules))
+returns-else-eq c = rw (sym c.self.view_is) (linked_by (stored_shown c.self.inside).store c.args.file c.is_named.result c.is_named.ensures (search rules))

@@ -1,0 +1,176 @@
+//! What is counted of each file, so that it need not be looked for among all names: how many names it has, how many are in
+//! it, and a directory that has a name for it.
+
+ghost use Rattle.std.specs.Prelude.{◌≡◌, ◌<◌, ◌^◌, cond, [], ℕ, List, Option, Some, None, OnOk};
+ghost use Rattle.std.specs.FinMap as map;
+ghost use Rattle.std.specs.FinMap.{FinMap};
+ghost use Rattle.fa_tree.specs.declared.id.FileId.{FileId};
+ghost use Rattle.fa_tree.specs.State.{place_cmp, file_eq};
+ghost use Rattle.fa_tree.specs.parts.HolderParts.{held, IsKnown, AreCounted, IsCountedAt};
+
+use crate::id::FileId;
+use indexmap::IndexMap;
+use std::alloc::{AllocError, Global};
+
+/// What is counted of a file.
+#[derive(Clone, Copy)]
+pub(crate) struct Holder {
+    /// How many names it has.
+    pub links: usize,
+    /// How many names are in it.
+    pub inside: usize,
+    /// A directory that has a name for it, if one is known.
+    pub parent: Option<FileId>,
+}
+
+/// What is counted of each file that a name was put for, or put into. Of any other nothing is.
+#[derive(Drop)]
+pub(crate) struct Holders {
+    pub table: IndexMap<FileId, Holder>,
+}
+
+impl Holders {
+    /// Of no file anything is counted. What is stored later takes memory from `alloc`.
+    ///
+    /// Takes no memory, in constant time.
+    pub fn new(alloc: Global) -> Self
+        ensures { result.table.entries ≡ [] }
+    {
+        Holders {
+            table: IndexMap::new(alloc),
+        }
+    }
+
+    /// What is counted of a file.
+    ///
+    /// Takes no memory, in expected constant time.
+    pub fn get(&self, file: FileId) -> Holder
+        ensures { result ≡ held self.now.table.entries file }
+    {
+        match self.table.get(&file) {
+            Some(holder) => *holder,
+            None => Holder {
+                links: 0,
+                inside: 0,
+                parent: None,
+            },
+        }
+    }
+
+    /// Makes an entry for a file, if it has none, so that what is counted of it later takes no memory. An error says that
+    /// memory was refused.
+    ///
+    /// Expected constant time but for growing.
+    pub fn make_room(&mut self, file: FileId) -> Result<(), AllocError>
+        ensures same { (of : FileId) → held self.new.table.entries of ≡ held self.old.table.entries of }
+        ensures kept { (of : FileId) → IsKnown self.old.table.entries of → IsKnown self.new.table.entries of }
+        ensures known { OnOk result (IsKnown self.new.table.entries file) }
+    {
+        let holder = self.get(file);
+        self.table.insert(file, holder)?;
+        Ok(())
+    }
+
+    /// What is counted of a file that has an entry is this from then on.
+    ///
+    /// Takes no memory, in expected constant time.
+    fn set(&mut self, file: FileId, holder: Holder)
+        requires { IsKnown self.old.table.entries file }
+        ensures held { (of : FileId) → held self.new.table.entries of ≡ cond (file_eq of file) holder (held self.old.table.entries of) }
+        ensures kept { (of : FileId) → IsKnown self.old.table.entries of → IsKnown self.new.table.entries of }
+    {
+        match self.table.get_mut(&file) {
+            Some(old) => *old = holder,
+            None => {}
+        }
+    }
+
+    /// Counts a name that comes into a directory, for a file.
+    ///
+    /// Takes no memory, in expected constant time.
+    fn add(&mut self, directory: FileId, file: FileId)
+        requires directory { IsKnown self.old.table.entries directory }
+        requires file { IsKnown self.old.table.entries file }
+        requires counted { (at : IsCountedAt (held self.old.table.entries) directory None) × (map.len at.names < 2 ^ 63) }
+        ensures counted { (names : FinMap place_cmp FileId) (name : List ℕ) → map.get names (directory, name) ≡ None → AreCounted names (held self.old.table.entries) → AreCounted (map.insert names (directory, name) file) (held self.new.table.entries) }
+        ensures kept { (of : FileId) → IsKnown self.old.table.entries of → IsKnown self.new.table.entries of }
+    {
+        let holder = self.get(file);
+        self.set(
+            file,
+            Holder {
+                links: holder.links + 1,
+                parent: Some(directory),
+                ..holder
+            },
+        );
+        let holder = self.get(directory);
+        self.set(
+            directory,
+            Holder {
+                inside: holder.inside + 1,
+                ..holder
+            },
+        );
+    }
+
+    /// Counts a name that goes out of a directory, and was for this file. The directory is no longer known to have a name for it.
+    ///
+    /// Takes no memory, in expected constant time.
+    pub fn remove(&mut self, directory: FileId, file: FileId)
+        requires { IsCountedAt (held self.old.table.entries) directory (Some file) }
+        ensures counted { (names : FinMap place_cmp FileId) (name : List ℕ) → map.get names (directory, name) ≡ Some file → AreCounted names (held self.old.table.entries) → AreCounted (map.remove names (directory, name)) (held self.new.table.entries) }
+        ensures kept { (of : FileId) → IsKnown self.old.table.entries of → IsKnown self.new.table.entries of }
+    {
+        let holder = self.get(file);
+        self.set(
+            file,
+            Holder {
+                links: holder.links - 1,
+                parent: None,
+                ..holder
+            },
+        );
+        let holder = self.get(directory);
+        self.set(
+            directory,
+            Holder {
+                inside: holder.inside - 1,
+                ..holder
+            },
+        );
+    }
+
+    /// Counts a name of a directory, which was for the old file, if it was there, and is for this one from then on.
+    ///
+    /// Takes no memory, in expected constant time.
+    pub fn put(&mut self, directory: FileId, old: Option<FileId>, file: FileId)
+        requires directory { IsKnown self.old.table.entries directory }
+        requires file { IsKnown self.old.table.entries file }
+        requires counted { (at : IsCountedAt (held self.old.table.entries) directory old) × (map.len at.names < 2 ^ 63) }
+        ensures counted { (names : FinMap place_cmp FileId) (name : List ℕ) → map.get names (directory, name) ≡ old → AreCounted names (held self.old.table.entries) → AreCounted (map.insert (map.remove names (directory, name)) (directory, name) file) (held self.new.table.entries) }
+        ensures kept { (of : FileId) → IsKnown self.old.table.entries of → IsKnown self.new.table.entries of }
+    {
+        if let Some(old) = old {
+            self.remove(directory, old);
+        }
+        self.add(directory, file);
+    }
+
+    /// Notes that this directory has a name for the file.
+    ///
+    /// Takes no memory, in expected constant time.
+    pub fn note_parent(&mut self, directory: FileId, file: FileId)
+        requires { IsCountedAt (held self.old.table.entries) directory (Some file) }
+        ensures { (names : FinMap place_cmp FileId) (name : List ℕ) → map.get names (directory, name) ≡ Some file → AreCounted names (held self.old.table.entries) → AreCounted names (held self.new.table.entries) }
+    {
+        let holder = self.get(file);
+        self.set(
+            file,
+            Holder {
+                parent: Some(directory),
+                ..holder
+            },
+        );
+    }
+}
