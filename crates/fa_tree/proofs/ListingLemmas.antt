@@ -13,9 +13,9 @@ use Rattle.fa_bodies.specs.Dirents.{PlainDirent}
 use Rattle.fa_ledger.specs.Counts.{is_dots, nodes_of_entry}
 use Rattle.fa_ledger.specs.declared.name.NodeName.{NodeName}
 use Rattle.fa_tree.specs.declared.id.FileId.{FileId}
-use Rattle.fa_tree.specs.State.{File, Store, file_cmp}
-use Rattle.fa_tree.specs.Directories.{judged, IsTypedIfLookedUp}
-use Rattle.fa_tree.specs.parts.ListingParts.{IsTypedNow}
+use Rattle.fa_tree.specs.State.{File, Store, OpenDirectory, file_cmp}
+use Rattle.fa_tree.specs.Directories.{judged, WasThere, IsTypedAsStayed, IsThereIfLookedUp, IsTypedIfLookedUp}
+use Rattle.fa_tree.specs.parts.ListingParts.{IsAllowed, IsTypedNow}
 use Rattle.fa_tree.specs.Directories.{file_if, files_listed}
 use Rattle.fa_tree.specs.Bindings.{bound}
 use Rattle.fa_tree.proofs.BindingLemmas.{bound_to_none}
@@ -71,6 +71,14 @@ pub all_typed_now : (s : Store) (directory : FileId) (entries : List PlainDirent
 all_typed_now s directory entries told is = (
   λ t k d within. (is.0 t k d within).typed,
   λ each. is.1 (λ k d within. record { typed = each k d within }),
+)
+
+-- each entry that is judged is allowed: what its name, its type and its node say, apart
+pub allowed_each : (s : Store) (h : OpenDirectory) (entries : List PlainDirent) (told : Bool) → IsTrue told ↔ All (IsAllowed s h) (judged entries)
+    → IsTrue told ↔ (All (WasThere h) (judged entries) × All (IsTypedAsStayed s h) (judged entries) × All (IsThereIfLookedUp s h.directory) (judged entries))
+allowed_each s h entries told is = (
+  λ t. ((λ k d within. (is.0 t k d within).there), (λ k d within. (is.0 t k d within).typed), (λ k d within. (is.0 t k d within).now)),
+  λ each. is.1 (λ k d within. record { there = each.0 k d within; typed = each.1 k d within; now = each.2 k d within }),
 )
 
 -- ---- the nodes that they give

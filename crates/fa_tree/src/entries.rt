@@ -85,7 +85,7 @@ impl Stored {
     }
 
     /// Whether the name of an entry is in the directory now, if the entry looks it up.
-    fn is_there_if_looked_up(&self, directory: FileId, dirent: &Dirent<'_>) -> bool
+    pub(crate) fn is_there_if_looked_up(&self, directory: FileId, dirent: &Dirent<'_>) -> bool
         ensures { IsTrue result ↔ IsThereIfLookedUp self.now.store directory (dirent_shown dirent.now) }
     {
         !looks_up(dirent) || self.find(directory, dirent.name).is_some()
@@ -114,13 +114,6 @@ impl Stored {
         self.is_typed_if_looked_up(directory, dirent)
     }
 
-    /// Whether all names that the entries look up are in the directory now.
-    pub(crate) fn all_there(&self, directory: FileId, mut entries: Entries<'_>) -> bool
-        ensures { IsTrue result ↔ All (IsThereIfLookedUp self.now.store directory) (judged (entries_left entries.entry)) }
-    {
-        entries.all(|dirent| !is_judged(&dirent) || self.is_there_if_looked_up(directory, &dirent))
-    }
-
     /// Whether the types in the attributes of the entries fit.
     pub(crate) fn all_typed(&self, directory: FileId, mut entries: Entries<'_>) -> bool
         ensures { IsTrue result ↔ All (IsTypedIfLookedUp self.now.store directory) (judged (entries_left entries.entry)) }
@@ -139,6 +132,9 @@ impl Stored {
     {
         let mut given = Vec::new(self.alloc);
         let mut left = names;
+        if left.is_empty() {
+            return Ok(given);
+        }
         for dirent in entries {
             if gives_node(&dirent) {
                 let Some((name, rest)) = left.split_first() else {

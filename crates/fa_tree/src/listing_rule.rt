@@ -6,9 +6,11 @@ ghost use Rattle.fa_bodies.specs.Listing.{entries_left};
 ghost use Rattle.fa_ledger.specs.Calls.{call_shown};
 ghost use Rattle.fa_ledger.specs.SoFar.{listing_so_far};
 ghost use Rattle.fa_tree.specs.Directories.{judged, WasThere, IsTypedAsStayed, IsThereIfLookedUp, IsListed};
+ghost use Rattle.fa_tree.specs.parts.ListingParts.{IsTypedAs, IsAllowed};
 ghost use Rattle.fa_tree.specs.parts.OpenParts.{open_of};
 
 use crate::entries::is_judged;
+use crate::id::FileId;
 use crate::open::OpenNames;
 use crate::orderly::is_orderly;
 use crate::stored::Stored;
@@ -16,47 +18,31 @@ use fa_bodies::{Dirent, Entries};
 use fa_ledger::{Calls, Listing};
 use std::alloc::AllocError;
 
-impl OpenNames<'_> {
-    /// Whether each name that is listed was in the directory at some moment since it was opened.
-    fn all_were_there(&self, mut entries: Entries<'_>) -> bool
-        ensures { IsTrue result ↔ All (WasThere (open_of self.now)) (judged (entries_left entries.entry)) }
-    {
-        entries.all(|dirent| !is_judged(&dirent) || self.had(dirent.name))
-    }
-}
-
 impl Stored {
     /// Whether the type of an entry is that of the file which stayed under its name, if one did.
-    fn is_typed_as_stayed(&self, names: &OpenNames<'_>, dirent: &Dirent<'_>) -> bool
-        ensures { IsTrue result ↔ IsTypedAsStayed self.now.store (open_of names.now) (dirent_shown dirent.now) }
+    fn is_typed_as(&self, stayed: Option<FileId>, dirent: &Dirent<'_>) -> bool
+        ensures { IsTrue result ↔ IsTypedAs self.now.store stayed (dirent_shown dirent.now) }
     {
-        match names.stayed(dirent.name) {
+        match stayed {
             Some(file) => self.is_type_of(file, dirent),
             None => true,
         }
     }
 
-    /// Whether the types of the entries are those of the files which stayed under their names.
-    fn all_typed_as_stayed(&self, names: &OpenNames<'_>, mut entries: Entries<'_>) -> bool
-        ensures { IsTrue result ↔ All (IsTypedAsStayed self.now.store (open_of names.now)) (judged (entries_left entries.entry)) }
+    /// Whether an entry is what the rule of listings allows, whatever the others are.
+    fn is_allowed(&self, names: &OpenNames<'_>, dirent: &Dirent<'_>) -> bool
+        ensures { IsTrue result ↔ IsAllowed self.now.store (open_of names.now) (dirent_shown dirent.now) }
     {
-        entries.all(|dirent| !is_judged(&dirent) || self.is_typed_as_stayed(names, &dirent))
-    }
-
-    /// Whether all names that the entries look up are in the open directory now.
-    fn all_there_now(&self, names: &OpenNames<'_>, entries: Entries<'_>) -> bool
-        ensures { IsTrue result ↔ All (IsThereIfLookedUp self.now.store (open_of names.now).directory) (judged (entries_left entries.entry)) }
-    {
-        self.all_there(names.directory(), entries)
+        let (had, stayed) = names.since(dirent.name);
+        had && self.is_typed_as(stayed, dirent)
+            && self.is_there_if_looked_up(names.directory(), dirent)
     }
 
     /// Whether each entry that is judged is what the rule of listings allows, whatever the others are.
-    fn all_allowed(&self, names: &OpenNames<'_>, entries: Entries<'_>) -> bool
+    fn all_allowed(&self, names: &OpenNames<'_>, mut entries: Entries<'_>) -> bool
         ensures { IsTrue result ↔ (All (WasThere (open_of names.now)) (judged (entries_left entries.entry)) × All (IsTypedAsStayed self.now.store (open_of names.now)) (judged (entries_left entries.entry)) × All (IsThereIfLookedUp self.now.store (open_of names.now).directory) (judged (entries_left entries.entry))) }
     {
-        names.all_were_there(entries)
-            && self.all_typed_as_stayed(names, entries)
-            && self.all_there_now(names, entries)
+        entries.all(|dirent| !is_judged(&dirent) || self.is_allowed(names, &dirent))
     }
 
     /// Whether the entries are what the rule of listings allows, for the call at this place. An error says that memory was

@@ -7,7 +7,7 @@ ghost use Rattle.std.specs.FinMap as map;
 ghost use Rattle.std.specs.FinMap.{get};
 ghost use Rattle.std.specs.FinSet.{contains};
 ghost use Rattle.std.specs.Option.{option_map};
-ghost use Rattle.fa_tree.specs.parts.NameViews.{has_stayed, handles_shown};
+ghost use Rattle.fa_tree.specs.parts.NameViews.{has_stayed, was_since, handles_shown};
 ghost use Rattle.fa_tree.specs.parts.OpenParts.{open_of};
 
 use crate::id::FileId;
@@ -114,16 +114,17 @@ impl OpenNames<'_> {
         self.directory
     }
 
-    /// Whether a name was in the directory at some moment since it was opened.
+    /// Whether a name was in the directory at some moment since it was opened, and the file that stayed in it under that name
+    /// since then, if one did.
     ///
     /// Takes no memory, in expected constant time but for reading the name.
-    pub fn had(&self, name: &[u8]) -> bool
-        ensures { result ≡ contains (open_of self.now).since name.now }
+    pub fn since(&self, name: &[u8]) -> (bool, Option<FileId>)
+        ensures had { result.0 ≡ contains (open_of self.now).since name.now }
+        ensures stayed { result.1 ≡ get (open_of self.now).stayed name.now }
     {
         match self.slots.get(self.directory, name) {
-            Some(Slot::There { .. }) => true,
-            Some(Slot::Gone { at }) => self.at < at,
-            None => false,
+            Some(slot) => (self.was_there(slot), self.file_stayed(slot)),
+            None => (false, None),
         }
     }
 
@@ -149,6 +150,16 @@ impl OpenNames<'_> {
                 || self.file_stayed(*slot).is_none()
                 || is_listed(place.name.as_slice())
         })
+    }
+
+    /// Whether the name of a slot was there at some moment since the directory was opened.
+    fn was_there(&self, slot: Slot) -> bool
+        ensures { result ≡ was_since self.now.at slot }
+    {
+        match slot {
+            Slot::There { .. } => true,
+            Slot::Gone { at } => self.at < at,
+        }
     }
 
     /// The file of a slot, if it stayed since the directory was opened.

@@ -1,14 +1,14 @@
 -- Calls that list, and what is judged of them.
-use Rattle.std.specs.Prelude.{ℕ, false, List, [], ◌∷◌, Option}
+use Rattle.std.specs.Prelude.{◌≡◌, ℕ, false, List, [], ◌∷◌, Option, Some}
 use Rattle.std.specs.FinMap.{FinMap}
 use Rattle.fa_capture.specs.declared.codes.TheConstants.{SUCCESS_NOT_ALLOWED, ATTRIBUTES, NODE_ID_OF_ANOTHER, LISTING}
 use Rattle.fa_bodies.specs.Dirents.{PlainDirent}
 use Rattle.fa_ledger.specs.declared.call.Listing.{Listing}
 use Rattle.fa_ledger.specs.declared.name.NodeName.{NodeName}
 use Rattle.fa_tree.specs.declared.id.FileId.{FileId}
-use Rattle.fa_tree.specs.State.{Store, IsDirectory, node_cmp}
+use Rattle.fa_tree.specs.State.{Store, OpenDirectory, IsDirectory, node_cmp}
 use Rattle.fa_tree.specs.Bindings.{AreBound, bound}
-use Rattle.fa_tree.specs.Directories.{IsTypedIfLookedUp, TypesFit, files_on, EntriesAre}
+use Rattle.fa_tree.specs.Directories.{IsTypeOf, IsTypedIfLookedUp, IsTypedAsStayed, WasThere, IsThereIfLookedUp, TypesFit, files_on, EntriesAre}
 use Rattle.fa_tree.specs.Operations.{Setting}
 use Rattle.fa_tree.specs.Resolved.{Resolved}
 use Rattle.fa_tree.specs.declared.error.StepError.{StepError}
@@ -35,3 +35,13 @@ entries_checks nodes s x listing size so_far given entries =
 -- the type in the attributes of an entry fits, if it looks its name up, as one fact
 pub record IsTypedNow (s : Store) (directory : FileId) (d : PlainDirent) : Type 0 where
   pub typed : IsTypedIfLookedUp s directory d
+
+-- the type of an entry is that of the file which stayed under its name, if one did
+abbrev pub IsTypedAs : Store → Option FileId → PlainDirent → Type 0
+IsTypedAs s stayed d = (file : FileId) → stayed ≡ Some file → IsTypeOf s file d
+
+-- an entry is what the rule of listings allows, whatever the others are, as one fact
+pub record IsAllowed (s : Store) (h : OpenDirectory) (d : PlainDirent) : Type 0 where
+  pub there : WasThere h d
+  pub typed : IsTypedAsStayed s h d
+  pub now : IsThereIfLookedUp s h.directory d
