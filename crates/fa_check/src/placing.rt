@@ -1,9 +1,9 @@
 //! How far an order is placed.
 
-ghost use Rattle.std.specs.Prelude.{◌≡◌, ◌+◌, ◌++◌, ◌∷◌, [], List, length, map, set, true, IfOk, IfErr, OnOk, OnErr};
+ghost use Rattle.std.specs.Prelude.{◌≡◌, ◌+◌, ◌++◌, ◌∷◌, [], ℕ, List, Some, length, map, set, slice_get, true, IfSome, IfNone, IfOk, IfErr, OnOk, OnErr};
 ghost use Rattle.fa_capture.specs.Checks.{AllHold, FirstFailure};
 ghost use Rattle.fa_capture.specs.Message.{Message};
-ghost use Rattle.fa_ledger.specs.Calls.{call_shown};
+ghost use Rattle.fa_ledger.specs.Calls.{PlainCall, call_shown};
 ghost use Rattle.fa_ledger.specs.declared.calls.Calls.{Calls as TheCalls};
 ghost use Rattle.fa_tree.specs.State.{TreeState};
 ghost use Rattle.fa_order.specs.declared.entry.Entry.{Entry as TheEntry};
@@ -45,6 +45,21 @@ impl Placing {
         })
     }
 
+    /// The place in the list of the call of this message number, if there is one.
+    ///
+    /// Takes no memory. Constant time where as many calls are placed as stand before it, as in an order in which all are placed one
+    /// after the other; logarithmic in the calls otherwise.
+    fn place_of(&self, calls: &Calls<'_>, at: u32) -> Option<usize>
+        ensures found { IfSome result (λ place. (call : PlainCall) × (slice_get (map call_shown calls.now.list.items) place ≡ Some call) × (call.asked ≡ at)) }
+        ensures none { IfNone result ((place : ℕ) (call : PlainCall) → slice_get (map call_shown calls.now.list.items) place ≡ Some call → call.asked ≡ at → ⊥) }
+    {
+        let next = self.count as usize;
+        if next < calls.list.len() && calls.list[next].asked == at {
+            return Some(next);
+        }
+        calls.find(at)
+    }
+
     /// The place of the call that an entry names, where the entry may come next. The error is the code of the first check of
     /// its place that it fails.
     fn check(&self, calls: &Calls<'_>, entry: Entry) -> Result<usize, u16>
@@ -53,7 +68,7 @@ impl Placing {
         ensures holds { OnOk result (AllHold (place_checks (map call_shown calls.now.list.items) self.now.marks.items entry)) }
         ensures fault { IfErr result (FirstFailure (place_checks (map call_shown calls.now.list.items) self.now.marks.items entry)) }
     {
-        let Some(place) = calls.find(entry.at) else {
+        let Some(place) = self.place_of(calls, entry.at) else {
             return Err(codes::NO_TREE_REQUEST);
         };
         if self.marks[place] {
