@@ -13,6 +13,8 @@ pub mod HolderParts
 pub mod OpenParts
 -- what was listed so far
 pub mod TallyParts
+-- pages of the bytes of a file
+pub mod PageParts
 -- files
 pub mod FileParts
 pub mod FactParts

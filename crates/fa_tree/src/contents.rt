@@ -1,64 +1,73 @@
 //! The bytes of a file.
 
-ghost use Rattle.std.specs.Prelude.{◌≡◌, ◌↔◌, ℕ, List, [], length, IsTrue, IfOk, OnOk, OnErr};
+ghost use Rattle.std.specs.Prelude.{◌≡◌, ◌↔◌, ◌+◌, ◌%◌, ◌^◌, ◌<◌, ◌≤◌, [], length, IsTrue, IfOk, OnOk, OnErr};
 ghost use Rattle.fa_tree.specs.Contents.{IsReadAs, readable, resized, written};
+ghost use Rattle.fa_tree.specs.parts.PageParts.{IsPart, page_at, SameBytes, IsStored, AreFrom, AreWritten, AreCut};
 
+use crate::page::{PAGE, Page, are_zeros};
 use std::alloc::{AllocError, Global};
 use std::marker::Model;
 
 /// The bytes of a regular file, or the target of a symbolic link.
 #[derive(Drop)]
 pub(crate) struct Contents {
-    bytes: Vec<u8>,
+    alloc: Global,
+    /// How many there are.
+    len: usize,
+    /// They are in pages, one after the other. A byte that its page does not store, or whose page is not in the list, is zero.
+    pages: Vec<Page>,
 }
 
 impl Model for Contents {
+    ghost use Rattle.std.specs.Prelude.{List, ℕ};
+    ghost use Rattle.fa_tree.specs.parts.PageParts.{bytes_of, IsZeroFrom};
+
     ghost Value = { List ℕ };
 
-    ghost view = { λ c. c.bytes.items };
+    ghost view = { λ c. bytes_of c.pages.items c.len };
+
+    // What is stored behind the end are zeros, so that growing changes the length alone.
+    ghost invariant = { λ c. IsZeroFrom c.pages.items c.len };
 }
 
 impl Contents {
-    /// No bytes.
+    /// No bytes. Takes no memory.
     pub fn new(alloc: Global) -> Self
         ensures { result ≡ [] }
     {
         Contents {
-            bytes: Vec::new(alloc),
+            alloc,
+            len: 0,
+            pages: Vec::new(alloc),
         }
     }
 
-    /// A copy of these bytes, in their number.
+    /// A copy of these bytes, in time and memory in their number: as many pages as they are in, none longer than what it has of
+    /// them.
     pub fn from_slice(alloc: Global, bytes: &[u8]) -> Result<Self, AllocError>
         ensures { IfOk result (λ contents. contents ≡ bytes.now) }
     {
-        let bytes = Vec::from_slice(alloc, bytes)?;
-        Ok(Contents { bytes })
+        let mut contents = Contents {
+            alloc,
+            len: 0,
+            pages: Vec::with_capacity(alloc, bytes.len().div_ceil(PAGE))?,
+        };
+        contents.write(0, bytes)?;
+        Ok(contents)
     }
 
     /// How many there are.
     pub fn len(&self) -> usize
         ensures { result ≡ length self.now }
     {
-        self.bytes.len()
+        self.len
     }
 
-    /// Whether they are these, without memory.
+    /// Whether they are these. Takes no memory, and time in their number.
     pub fn is(&self, bytes: &[u8]) -> bool
         ensures { IsTrue result ↔ (bytes.now ≡ self.now) }
     {
-        bytes == self.bytes.as_slice()
-    }
-
-    /// The bytes that there are from an offset on, at most so many.
-    fn range(&self, offset: u64, size: u32) -> &[u8]
-        ensures { result.now ≡ readable self.now offset size }
-    {
-        let bytes = self.bytes.as_slice();
-        let start = bytes.len().min(offset as usize);
-        let rest = &bytes[start..];
-        let end = rest.len().min(size as usize);
-        &rest[..end]
+        bytes.len() == self.len && are_from(&self.pages, 0, bytes)
     }
 
     /// Whether a read of so many bytes at an offset gives these; where the handle is direct, whether it may give these, a front
@@ -66,16 +75,19 @@ impl Contents {
     pub fn is_read(&self, direct: bool, offset: u64, size: u32, given: &[u8]) -> bool
         ensures { IsTrue result ↔ IsReadAs direct (readable self.now offset size) given.now }
     {
-        let asked = self.range(offset, size);
-        if direct {
-            asked.starts_with(given)
+        let start = self.len.min(offset as usize);
+        let asked = (self.len - start).min(size as usize);
+        let fits = if direct {
+            given.len() <= asked
         } else {
-            given == asked
-        }
+            given.len() == asked
+        };
+        fits && are_from(&self.pages, start, given)
     }
 
     /// Writes bytes at an offset, with zeros between the end and the offset; writing none changes nothing. An error says that
-    /// memory was refused, and nothing is changed. Time in the bytes written and the zeros.
+    /// memory was refused, and nothing is changed. Time in the bytes written, and a constant for each page in front of them that
+    /// was not there yet: of the zeros only those are stored that are in one page with bytes written, less than a page of them.
     pub fn write(&mut self, offset: u64, payload: &[u8]) -> Result<(), AllocError>
         ensures written { OnOk result (self.new ≡ written self.old offset payload.now) }
         ensures unchanged { OnErr result (self.new ≡ self.old) }
@@ -86,26 +98,120 @@ impl Contents {
         let start = offset as usize;
         // No memory holds more bytes than a number of 64 bits counts.
         let end = start.checked_add(payload.len()).ok_or(AllocError)?;
-        if self.bytes.len() < end {
-            self.bytes.resize(end, 0)?;
-        }
-        self.bytes[start..end].copy_from_slice(payload);
+        store(self.alloc, &mut self.pages, start, end)?;
+        put(&mut self.pages, start, payload);
+        self.len = self.len.max(end);
         Ok(())
     }
 
-    /// Cuts the bytes to this length, or fills them with zeros up to it. An error says that memory was refused, and nothing is
-    /// changed.
+    /// Cuts the bytes to this length, or fills them with zeros up to it. An error would say that memory was refused, and nothing
+    /// is changed; there is none, since it takes no memory. Constant time, and a constant for each page that is cut away.
     pub fn resize(&mut self, size: u64) -> Result<(), AllocError>
         ensures resized { OnOk result (self.new ≡ resized self.old size) }
         ensures unchanged { OnErr result (self.new ≡ self.old) }
     {
-        self.bytes.resize(size as usize, 0)
+        let size = size as usize;
+        if size < self.len {
+            cut(&mut self.pages, size);
+        }
+        self.len = size;
+        Ok(())
     }
 
     /// Takes all bytes away.
     pub fn clear(&mut self)
         ensures { self.new ≡ [] }
     {
-        self.bytes.clear();
+        self.pages.clear();
+        self.len = 0;
+    }
+}
+
+/// Whether these are the bytes of the pages from this place on. Takes no memory, and time in their number: each page is compared
+/// as a whole.
+fn are_from(pages: &[Page], start: usize, bytes: &[u8]) -> bool
+    requires { start + length bytes.now < 2 ^ 64 }
+    ensures { IsTrue result ↔ AreFrom pages.now start bytes.now }
+{
+    let mut done = 0;
+    while done < bytes.len() {
+        let at = start + done;
+        let count = (PAGE - at % PAGE).min(bytes.len() - done);
+        if !has(pages, at, &bytes[done..done + count]) {
+            return false;
+        }
+        done += count;
+    }
+    true
+}
+
+/// Whether these are the bytes from this place on, in one page.
+fn has(pages: &[Page], at: usize, part: &[u8]) -> bool
+    ensures { IsTrue result ↔ IsPart (page_at pages.now at) (at % 4096) part.now }
+{
+    match pages.get(at / PAGE) {
+        Some(page) => page.has(at % PAGE, part),
+        None => are_zeros(part),
+    }
+}
+
+/// Adds pages up to so many. They store nothing: all bytes are as they were, after an error too. Time in the pages that are added.
+fn add_pages(alloc: Global, pages: &mut Vec<Page>, count: usize) -> Result<(), AllocError>
+    ensures same { SameBytes pages.new.items pages.old.items }
+    ensures added { OnOk result (count ≤ length pages.new.items) }
+{
+    if pages.len() < count {
+        pages.reserve(count - pages.len())?;
+    }
+    while pages.len() < count {
+        pages.push(Page::new(alloc))?;
+    }
+    Ok(())
+}
+
+/// Makes pages store the bytes from one place up to another. All are as they were, after an error too. Time in the bytes that were
+/// not stored, and in the pages that are added.
+fn store(alloc: Global, pages: &mut Vec<Page>, start: usize, end: usize) -> Result<(), AllocError>
+    ensures same { SameBytes pages.new.items pages.old.items }
+    ensures stored { OnOk result (IsStored pages.new.items start end) }
+{
+    add_pages(alloc, pages, end.div_ceil(PAGE))?;
+    let mut at = start;
+    while at < end {
+        let from = at % PAGE;
+        let count = (PAGE - from).min(end - at);
+        let page = &mut pages[at / PAGE];
+        page.store(from + count)?;
+        at += count;
+    }
+    Ok(())
+}
+
+/// Puts these bytes at this place, where as many are stored. Takes no memory, and time in their number.
+fn put(pages: &mut Vec<Page>, start: usize, bytes: &[u8])
+    requires fits { start + length bytes.now < 2 ^ 64 }
+    requires stored { IsStored pages.old.items start (start + length bytes.now) }
+    ensures { AreWritten pages.new.items pages.old.items start bytes.now (length bytes.now) }
+{
+    let mut done = 0;
+    while done < bytes.len() {
+        let at = start + done;
+        let from = at % PAGE;
+        let count = (PAGE - from).min(bytes.len() - done);
+        let page = &mut pages[at / PAGE];
+        page.put(from, &bytes[done..done + count]);
+        done += count;
+    }
+}
+
+/// Takes the bytes from this place on away: zeros follow.
+fn cut(pages: &mut Vec<Page>, size: usize)
+    ensures { AreCut pages.new.items pages.old.items size }
+{
+    pages.truncate(size.div_ceil(PAGE));
+    let last = size / PAGE;
+    if last < pages.len() {
+        let page = &mut pages[last];
+        page.cut(size % PAGE);
     }
 }

@@ -22,6 +22,7 @@ mod names;
 mod nodes;
 mod open;
 mod orderly;
+mod page;
 mod queries;
 mod renaming;
 mod slots;

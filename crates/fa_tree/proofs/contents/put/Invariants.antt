@@ -1,0 +1,13 @@
+use Rattle.std.proofs.Common.{◌-◌, ◌≤◌, ◌+◌, length}
+use Rattle.fa_tree.specs.parts.PageParts.{AreWritten, IsStored}
+use Rattle.fa_tree.proofs.contents.put.Given as goal
+
+abbrev pub invariant-loop-done : goal.invariant-loop-done
+invariant-loop-done l = record {
+  within : l.done ≤ length l.bytes;
+  stored : IsStored l.pages.items l.start (l.start + length l.bytes);
+  written : AreWritten l.pages.items l.fn.pages.items l.start l.bytes l.done;
+}
+
+abbrev pub decreases-loop-done : goal.decreases-loop-done
+decreases-loop-done l = length l.bytes - l.done

@@ -1,0 +1,83 @@
+//! Pages of the bytes of a file.
+
+ghost use Rattle.std.specs.Prelude.{◌≡◌, ◌↔◌, ◌+◌, ◌<◌, ◌≤◌, ℕ, List, [], get_or, length, take, IsTrue, OnOk, OnErr};
+ghost use Rattle.fa_tree.specs.parts.PageParts.{IsPart, with_part};
+
+use std::alloc::{AllocError, Global};
+use std::marker::Model;
+
+/// A page has so many bytes.
+pub(crate) const PAGE: usize = 4096;
+
+/// The bytes of a page that are stored. Those behind them are zeros.
+#[derive(Drop)]
+pub(crate) struct Page {
+    bytes: Vec<u8>,
+}
+
+impl Model for Page {
+    ghost use Rattle.std.specs.Prelude.{◌≤◌, ℕ, List, length};
+
+    ghost Value = { List ℕ };
+
+    ghost view = { λ p. p.bytes.items };
+
+    ghost invariant = { λ p. length p.bytes.items ≤ 4096 };
+}
+
+impl Page {
+    /// Zeros. Takes no memory.
+    pub fn new(alloc: Global) -> Self
+        ensures { result ≡ [] }
+    {
+        Page {
+            bytes: Vec::new(alloc),
+        }
+    }
+
+    /// Stores so many bytes at least, where those that were not stored are zeros still. An error says that memory was refused, and
+    /// nothing is changed. Time in the bytes that were not stored, but where the page has to move.
+    pub fn store(&mut self, size: usize) -> Result<(), AllocError>
+        requires { size ≤ 4096 }
+        ensures same { (i : ℕ) → get_or self.new i 0 ≡ get_or self.old i 0 }
+        ensures kept { length self.old ≤ length self.new }
+        ensures stored { OnOk result (size ≤ length self.new) }
+    {
+        if self.bytes.len() < size {
+            self.bytes.resize(size, 0)?;
+        }
+        Ok(())
+    }
+
+    /// Puts these bytes at this place, where as many are stored. Takes no memory, and time in their number.
+    pub fn put(&mut self, at: usize, part: &[u8])
+        requires { at + length part.now ≤ length self.old }
+        ensures { self.new ≡ with_part self.old at part.now }
+    {
+        self.bytes[at..at + part.len()].copy_from_slice(part);
+    }
+
+    /// Stores so many bytes at most: zeros follow.
+    pub fn cut(&mut self, size: usize)
+        ensures { self.new ≡ take size self.old }
+    {
+        self.bytes.truncate(size);
+    }
+
+    /// Whether these are the bytes from this place on. Takes no memory, and time in their number.
+    pub fn has(&self, at: usize, part: &[u8]) -> bool
+        ensures { IsTrue result ↔ IsPart self.now at part.now }
+    {
+        let bytes = self.bytes.as_slice();
+        let rest = &bytes[bytes.len().min(at)..];
+        let stored = rest.len().min(part.len());
+        part[..stored] == rest[..stored] && are_zeros(&part[stored..])
+    }
+}
+
+/// Whether all of these bytes are zeros.
+pub(crate) fn are_zeros(bytes: &[u8]) -> bool
+    ensures { IsTrue result ↔ ((i : ℕ) → i < length bytes.now → get_or bytes.now i 0 ≡ 0) }
+{
+    bytes.iter().all(|byte| *byte == 0)
+}
