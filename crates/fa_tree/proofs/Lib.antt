@@ -14,6 +14,7 @@ pub mod LawLemmas
 pub mod ListingLemmas
 pub mod ListingStepLemmas
 pub mod MakingLemmas
+pub mod MemberLemmas
 pub mod NameLemmas
 pub mod NamedLemmas
 pub mod NodeLemmas

@@ -35,11 +35,11 @@ module _ (eq : Place → Place → Bool) (same : (x y : Place) → eq x y ≡ eq
   apart_slots (e ∷ slots) distinct = (none_behind e.0 slots distinct.0, apart_slots slots distinct.1)
 
 -- the first slot is that of its place
-pub slot_first : (e : Place × Slot) (slots : List (Place × Slot)) → slot_at (e ∷ slots) (place_of e.0) ≡ Some e.1
+slot_first : (e : Place × Slot) (slots : List (Place × Slot)) → slot_at (e ∷ slots) (place_of e.0) ≡ Some e.1
 slot_first e slots = ap (λ b. cond b (Some e.1) (slot_at slots (place_of e.0))) (place_equiv.refl (place_of e.0))
 
 -- a place that has a slot behind it has not the first
-pub slot_behind : (e : Place × Slot) (slots : List (Place × Slot)) → slot_at slots (place_of e.0) ≡ None
+slot_behind : (e : Place × Slot) (slots : List (Place × Slot)) → slot_at slots (place_of e.0) ≡ None
     → (place : state.Place) (slot : Slot) → slot_at slots place ≡ Some slot → slot_at (e ∷ slots) place ≡ Some slot
 slot_behind e slots apart place slot found = by (is_at place e.0) refl
   where

@@ -1,34 +1,57 @@
--- What a walk over all slots tells of the names that stayed in a directory.
-use Rattle.std.proofs.Common.{◌≡◌, ℕ, ◌<◌, Bool, true, false, cond, List, [], ◌∷◌, length, Option, None, Some, zero, suc, refl, sym, ap, subst, ◌∙◌, arith}
-use Rattle.std.specs.Prelude.{is_some}
+-- What a walk over the places of a directory tells of the names that stayed in it.
+use Rattle.std.proofs.Common.{◌≡◌, ℕ, ◌<◌, Bool, true, false, cond, List, [], ◌∷◌, length, get_or, Option, None, Some, suc, refl, sym, ap, subst, ◌∙◌, arith}
+use Rattle.std.specs.Prelude.{◌||◌, is_some, nat_eq, slice_get, IsTrue, Vec}
 use Rattle.std.specs.Borrow.{Bor}
 use Rattle.std.specs.Fn.{Shared, FnReturnsAt}
-use Rattle.std.specs.List.{All, HoldsAt}
-use Rattle.std.specs.Option.{option_and_then}
+use Rattle.std.specs.List.{All, HoldsAt, list_any}
+use Rattle.std.specs.Map.{keys_of, lookup}
+use Rattle.std.specs.Option.{option_map, option_and_then}
 use Rattle.std.specs.FinMap as map
+use Rattle.std.specs.declared.alloc.Global.{Global}
+use Rattle.std.proofs.lemmas.Bool.Decides.{nat_tests}
+use Rattle.std.proofs.lemmas.Option.{slice_get-get_or, slice_get-map}
+use Rattle.fa_capture.proofs.CallerLemmas.{found_alike}
 use Rattle.fa_tree.specs.declared.id.FileId.{FileId}
-use Rattle.fa_tree.specs.contracts.id.FileIdPartialEq.TheImpl as derived
+use Rattle.fa_tree.specs.contracts.slots.PlacePartialEq.TheImpl as same_key
 use Rattle.fa_tree.specs.declared.slots.Place.{Place}
 use Rattle.fa_tree.specs.declared.slots.Slot.{Slot}
-use Rattle.fa_tree.specs.parts.FileIdLaws.{same_equal, self_equal}
+use Rattle.fa_tree.specs.parts.MemberParts.{members_of, is_member, AreMembers}
 use Rattle.fa_tree.specs.parts.PlaceLaws.{same_place}
 use Rattle.fa_tree.specs.parts.SlotParts.{place_of, is_at, slot_at}
 use Rattle.fa_tree.specs.parts.NameViews.{has_stayed, stayed_shown}
 use Rattle.fa_tree.proofs.NameLemmas.{get-stayed_shown}
-use Rattle.fa_tree.proofs.ScanLemmas.{AreApart, slot_first, slot_behind}
+use Rattle.fa_tree.proofs.SlotLemmas.{keys_same}
 
 -- what a closure answered at a value, where it answers by a test
 pub answered : {F T R : Type 0} (g : Shared F (Bor T × Unit {0}) R) (f : F) (test : T → R) → ((p : Bor T) (r : R) → g.post f (p, tt) r → r ≡ test p.now) → (x : T) (r : R) → FnReturnsAt g f x r → r ≡ test x
 answered g f test tests x r returned = tests returned.shown r returned.says.met ∙ ap test returned.shows
 
+-- the file of a name that stayed is known
+pub stayed_there : (directory : FileId) (at : ℕ) (slots : List (Place × Slot)) (key : Place) (slot : Slot) → lookup (same_key.eq-value.it key) slots ≡ Some slot
+    → key.directory ≡ directory → (x : Option FileId) → x ≡ has_stayed at slot → is_some x ≡ true
+    → (file : FileId) × (map.get (stayed_shown directory at slots) key.name.items ≡ Some file)
+stayed_there directory at slots key slot found own None stayed some = absurd (let clash : false ≡ true = some in cc)
+stayed_there directory at slots key slot found own (Some file) stayed some = (
+  file,
+  get-stayed_shown directory at slots key.name.items
+      ∙ ap (λ d. option_and_then (has_stayed at) (slot_at slots (d, key.name.items))) (sym own)
+      ∙ ap (option_and_then (has_stayed at)) (sym (found_alike (same_key.eq-value.it key) (is_at (place_of key)) slots (keys_same key)) ∙ found)
+      ∙ sym stayed,
+)
+
+-- what holds of all indexes holds of one that is among them
+holds_of : (P : ℕ → Type 0) (indexes : List ℕ) → All P indexes → (index : ℕ) → IsTrue (list_any (nat_eq index) indexes) → P index
+holds_of P [] all index is = absurd cc
+holds_of P (i ∷ indexes) all index is = by (nat_eq index i) refl is (holds_of P indexes (λ k d less. all (suc k) d (omega arith)) index)
+  where
+    by : (b : Bool) → nat_eq index i ≡ b → IsTrue (b || list_any (nat_eq index) indexes) → (IsTrue (list_any (nat_eq index) indexes) → P index) → P index
+    by true test is later = let same : i ≡ index = grind (arith, nat_tests) in subst P same (all 0 i (omega arith))
+    by false test is later = later is
+
 module _ (directory : FileId) (at : ℕ) (Answers : List ℕ → Bool → Type 0) where
   -- the test answers true at the name of a slot, if its file stayed in the directory
   abbrev pub Passes : Place × Slot → Type 0
-  Passes e = derived.eq-value.it e.0.directory directory ≡ true → is_some (has_stayed at e.1) ≡ true → Answers e.0.name.items true
-
-  -- the file of a slot stayed in the directory, and the test answers false at its name
-  abbrev pub Fails : Place × Slot → Type 0
-  Fails e = (derived.eq-value.it e.0.directory directory ≡ true) × (is_some (has_stayed at e.1) ≡ true) × Answers e.0.name.items false
+  Passes e = e.0.directory ≡ directory → is_some (has_stayed at e.1) ≡ true → Answers e.0.name.items true
 
   found_passes : (slots : List (Place × Slot)) → All Passes slots → (name : List ℕ) (slot : Slot) → slot_at slots (directory, name) ≡ Some slot → is_some (has_stayed at slot) ≡ true → Answers name true
   found_passes [] all name slot found there = absurd (let clash : None ≡ Some slot = found in cc)
@@ -41,47 +64,34 @@ module _ (directory : FileId) (at : ℕ) (Answers : List ℕ → Bool → Type 0
           let own : (directory, name) ≡ place_of e.0 = same_place (directory, name) (place_of e.0) test in
           let same : e.1 ≡ slot = cc in
           subst (λ q. Answers q true) (sym (ap (λ p. p.1) own))
-          (all 0 e (omega arith) (ap (λ p. derived.eq-value.it e.0.directory p.0) own ∙ self_equal e.0.directory) (ap (λ s. is_some (has_stayed at s)) same ∙ there))
+          (all 0 e (omega arith) (sym (ap (λ p. p.0) own)) (ap (λ s. is_some (has_stayed at s)) same ∙ there))
       by false test found later = later found
 
-  -- where all slots pass it answers true at each name that stayed
-  pub walked_all : (slots : List (Place × Slot)) → All Passes slots → (name : List ℕ) (file : FileId) → map.get (stayed_shown directory at slots) name ≡ Some file → Answers name true
-  walked_all slots all name file stayed = by (slot_at slots (directory, name)) refl (sym (get-stayed_shown directory at slots name) ∙ stayed)
-    where
-      by : (x : Option Slot) → slot_at slots (directory, name) ≡ x → option_and_then (has_stayed at) x ≡ Some file → Answers name true
-      by None was is = absurd (let clash : None ≡ Some file = is in cc)
-      by (Some slot) was is = found_passes slots all name slot was (ap is_some is)
+  -- the slot at an index passes, if there is one
+  abbrev pub PassesAt : List (Place × Slot) → ℕ → Type 0
+  PassesAt slots index = (place : Place) (slot : Slot) → slice_get slots index ≡ Some (place, slot) → Passes (place, slot)
 
-  fails_in : (slots : List (Place × Slot)) → AreApart slots → (k : ℕ) → k < length slots → HoldsAt Fails slots k → (e : Place × Slot) × (slot_at slots (place_of e.0) ≡ Some e.1) × Fails e
-  fails_in [] apart k less fails = absurd (omega arith)
-  fails_in (e ∷ slots) apart zero less fails = (e, slot_first e slots, fails e)
-  fails_in (e ∷ slots) apart (suc k) less fails =
-      let rest = fails_in slots apart.1 k (omega arith) fails in
-      (rest.0, slot_behind e slots apart.0 (place_of rest.0.0) rest.0.1 rest.1, rest.2)
+  -- the test answers false at a name whose file stayed in the directory
+  abbrev pub Missing : List (Place × Slot) → Type 0
+  Missing slots = (name : List ℕ) × (file : FileId) × (map.get (stayed_shown directory at slots) name ≡ Some file) × Answers name false
 
-  -- and where one fails it answers false at one
-  pub walked_missing : (slots : List (Place × Slot)) → AreApart slots → (k : ℕ) × (k < length slots) × HoldsAt Fails slots k
-      → (name : List ℕ) × (file : FileId) × (map.get (stayed_shown directory at slots) name ≡ Some file) × Answers name false
-  walked_missing slots apart failed = by (has_stayed at slot) refl one.2.1
-    where
-      one : (e : Place × Slot) × (slot_at slots (place_of e.0) ≡ Some e.1) × Fails e
-      one = fails_in slots apart failed.0 failed.1 failed.2
+  -- where it does so at an index of a walk, it does
+  pub walked_missing : (slots : List (Place × Slot)) (indexes : List ℕ) → (k : ℕ) × (k < length indexes) × HoldsAt (λ index. Missing slots) indexes k → Missing slots
+  walked_missing slots indexes failed = failed.2 0
 
-      key : Place
-      key = one.0.0
+  module _ (slots : List (Place × Slot)) (table : List (FileId × Vec ℕ Global)) (members : AreMembers (keys_of slots) table) (all : All (PassesAt slots) (members_of table directory)) where
+    -- where the slots at the indexes of the directory pass, all do
+    all_pass : All Passes slots
+    all_pass k d less own =
+        let e : Place × Slot = get_or slots k d in
+        let there : slice_get slots k ≡ Some e = slice_get-get_or slots k d less in
+        let place : slice_get (keys_of slots) k ≡ Some e.0 = slice_get-map (λ e. e.0) slots k ∙ ap (option_map (λ e. e.0)) there in
+        holds_of (PassesAt slots) (members_of table directory) all k (subst (λ of. IsTrue (is_member table of k)) own (members k e.0 place)) e.0 e.1 there own
 
-      slot : Slot
-      slot = one.0.1
-
-      by : (x : Option FileId) → has_stayed at slot ≡ x → is_some x ≡ true → (name : List ℕ) × (file : FileId) × (map.get (stayed_shown directory at slots) name ≡ Some file) × Answers name false
-      by None was is = absurd (let clash : false ≡ true = is in cc)
-      by (Some file) was is =
-          let same : directory ≡ key.directory = sym (same_equal key.directory directory one.2.0) in (
-            key.name.items,
-            file,
-            get-stayed_shown directory at slots key.name.items
-                ∙ ap (λ d. option_and_then (has_stayed at) (slot_at slots (d, key.name.items))) same
-                ∙ ap (option_and_then (has_stayed at)) one.1
-                ∙ was,
-            one.2.2,
-          )
+    -- and it answers true at each name that stayed
+    pub walked_all : (name : List ℕ) (file : FileId) → map.get (stayed_shown directory at slots) name ≡ Some file → Answers name true
+    walked_all name file stayed = by (slot_at slots (directory, name)) refl (sym (get-stayed_shown directory at slots name) ∙ stayed)
+      where
+        by : (x : Option Slot) → slot_at slots (directory, name) ≡ x → option_and_then (has_stayed at) x ≡ Some file → Answers name true
+        by None was is = absurd (let clash : None ≡ Some file = is in cc)
+        by (Some slot) was is = found_passes slots all_pass name slot was (ap is_some is)

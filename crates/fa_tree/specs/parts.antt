@@ -1,9 +1,10 @@
 -- The vocabulary of the crate's private contracts.
 
--- the orders of files and of places, with their laws; and the table of slots
+-- the orders of files and of places, with their laws; the table of slots, and the places of each directory in it
 pub mod FileIdLaws
 pub mod PlaceLaws
 pub mod SlotParts
+pub mod MemberParts
 -- the table of names: its value, and what its body shows of it
 pub mod NameParts
 pub mod NameViews

@@ -17,6 +17,7 @@ pub mod laws;
 mod listing_rule;
 mod listing_step;
 mod making;
+mod members;
 mod named;
 mod names;
 mod nodes;

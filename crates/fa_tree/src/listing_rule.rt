@@ -49,7 +49,8 @@ impl Stored {
     /// refused.
     ///
     /// Expected time in the entries; for a listing that began at the start, without gaps, on a handle of its own, also in the
-    /// calls that it goes on from, the names that they list, and all places that ever had a name.
+    /// calls that it goes on from, the names that they list, and at the end of the listing in the places that the directory
+    /// ever had.
     pub(crate) fn is_listed<'a>(
         &self,
         names: &OpenNames<'_>,

@@ -1,7 +1,9 @@
 //! Directories that are open: all openings, and what was in a directory since one of them.
 
-ghost use Rattle.std.specs.Prelude.{◌≡◌, ◌∷◌, ◌++◌, [], ℕ, List, Some, true, false, length, IsTrue, IsFalse, OnOk, OnErr};
+ghost use Rattle.std.specs.Prelude.{◌≡◌, ◌∷◌, ◌++◌, [], ℕ, List, Some, true, false, length, slice_get, IsTrue, IsFalse, IsSome, OnOk, OnErr};
 ghost use Rattle.fa_tree.specs.declared.id.FileId.{FileId};
+ghost use Rattle.fa_tree.specs.declared.slots.Place.{Place};
+ghost use Rattle.fa_tree.specs.declared.slots.Slot.{Slot};
 ghost use Rattle.std.specs.Fn.{FnReturnsAt};
 ghost use Rattle.std.specs.FinMap as map;
 ghost use Rattle.std.specs.FinMap.{get};
@@ -139,17 +141,36 @@ impl OpenNames<'_> {
 
     /// Whether each name is listed, as this test tells, whose file stayed in the directory since it was opened.
     ///
-    /// Takes no memory, and time in the number of all places that ever had a name.
+    /// Takes no memory, and time in the places that the directory ever had.
     pub fn all_stayed<F: Fn(&[u8]) -> bool>(&self, is_listed: F) -> bool
         requires { F.IsAlwaysCallable is_listed }
         ensures all { IsTrue result → (name : List ℕ) (file : FileId) → get (open_of self.now).stayed name ≡ Some file → FnReturnsAt F.Fn is_listed name true }
         ensures missing { IsFalse result → (name : List ℕ) × (file : FileId) × (get (open_of self.now).stayed name ≡ Some file) × FnReturnsAt F.Fn is_listed name false }
     {
-        self.slots.table.iter().all(|(place, slot)| {
-            place.directory != self.directory
-                || self.file_stayed(*slot).is_none()
-                || is_listed(place.name.as_slice())
-        })
+        self.slots
+            .members
+            .of(self.directory)
+            .iter()
+            .all(|index| self.is_listed_at(*index, &is_listed))
+    }
+
+    /// Whether the name of a place of the table is listed, as this test tells, if its file stayed in the directory since it was
+    /// opened.
+    ///
+    /// Takes no memory, in constant time and that of the test.
+    fn is_listed_at<F: Fn(&[u8]) -> bool>(&self, index: usize, is_listed: &F) -> bool
+        requires { F.IsAlwaysCallable is_listed.now }
+        ensures listed { IsTrue result → (place : Place) (slot : Slot) → slice_get self.now.slots.now.table.entries index ≡ Some (place, slot) → place.directory ≡ self.now.directory → IsSome (has_stayed self.now.at slot) → FnReturnsAt F.Fn is_listed.now place.name.items true }
+        ensures missing { IsFalse result → (name : List ℕ) × (file : FileId) × (get (open_of self.now).stayed name ≡ Some file) × FnReturnsAt F.Fn is_listed.now name false }
+    {
+        match self.slots.table.get_index(index) {
+            Some((place, slot)) => {
+                place.directory != self.directory
+                    || self.file_stayed(*slot).is_none()
+                    || is_listed(place.name.as_slice())
+            }
+            None => true,
+        }
     }
 
     /// Whether the name of a slot was there at some moment since the directory was opened.

@@ -37,7 +37,7 @@ impl OpenNames<'_> {
         tally.all_repeated(|name| self.stayed(name).is_none())
     }
 
-    /// Whether each name that stayed was listed.
+    /// Whether each name that stayed was listed. Takes time in the places that the directory ever had.
     fn all_listed(&self, tally: &Tally<'_>) -> bool
         ensures { (times : List ℕ → ℕ) → Tallies tally.now times → IsTrue result ↔ ((name : List ℕ) (file : FileId) → get (open_of self.now).stayed name ≡ Some file → 1 ≤ times name) }
     {
@@ -55,7 +55,8 @@ impl OpenNames<'_> {
 /// Whether a listing that began at the start, without gaps, on a handle of its own is orderly after what was listed so far for
 /// the call at this place. An error says that memory was refused.
 ///
-/// Expected time in the calls that it goes on from, the names that they list, and all places that ever had a name.
+/// Expected time in the calls that it goes on from, the names that they list, and at the end of the listing in the places that
+/// the directory ever had.
 pub(crate) fn is_orderly<'a>(
     alloc: Global,
     names: &OpenNames<'_>,

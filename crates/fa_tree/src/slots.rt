@@ -3,10 +3,13 @@
 ghost use Rattle.std.specs.Prelude.{◌≡◌, ◌<◌, ◌^◌, [], ℕ, List, length, ◌==◌, IfSome, IfNone, Some, None, OnOk, OnErr};
 ghost use Rattle.fa_tree.specs.declared.id.FileId.{FileId};
 ghost use Rattle.std.specs.FinMap as map;
+ghost use Rattle.std.specs.Map.{keys_of};
 ghost use Rattle.std.specs.Option.{option_map};
 ghost use Rattle.fa_tree.specs.parts.SlotParts.{slot_at, gone_at, file_in, is_of, names_shown, IsChangedAt};
+ghost use Rattle.fa_tree.specs.parts.MemberParts.{AreMembers};
 
 use crate::id::FileId;
+use crate::members::Members;
 use indexmap::{Equivalent, IndexMap};
 use std::alloc::{AllocError, Global};
 use std::hash::{Hash, Hasher};
@@ -38,7 +41,11 @@ pub(crate) enum Slot {
 #[derive(Drop)]
 pub(crate) struct Slots {
     alloc: Global,
+    /// No entry is ever removed, so that a place keeps its index.
     pub table: IndexMap<Place, Slot>,
+    /// For each directory the indexes of its places in the table.
+    pub members: Members,
+    ghost complete: { AreMembers (keys_of table.entries) members.table.entries },
 }
 
 /// The name is handed on whole, not byte by byte.
@@ -93,6 +100,7 @@ impl Slots {
         Slots {
             alloc,
             table: IndexMap::new(alloc),
+            members: Members::new(alloc),
         }
     }
 
@@ -132,12 +140,25 @@ impl Slots {
                 *old = slot;
                 Ok(())
             }
-            None => {
-                let name = name.to_vec(self.alloc)?;
-                self.table.insert(Place { directory, name }, slot)?;
-                Ok(())
-            }
+            None => self.insert_new(directory, name, slot),
         }
+    }
+
+    /// Puts a slot at a place that has none. An error says that memory was refused, and nothing is changed.
+    ///
+    /// Copies the name. Expected constant time, but for what growing costs. What may be refused comes before the place and its
+    /// index, which come together.
+    fn insert_new(&mut self, directory: FileId, name: &[u8], slot: Slot) -> Result<(), AllocError>
+        requires { slot_at self.old.table.entries (directory, name.now) ≡ None }
+        ensures put { OnOk result (IsChangedAt (directory, name.now) (λ _. Some slot) self.old.table.entries self.new.table.entries) }
+        ensures unchanged { OnErr result (self.new.table.entries ≡ self.old.table.entries) }
+    {
+        let name = name.to_vec(self.alloc)?;
+        let index = self.table.len();
+        self.table.reserve(1)?;
+        self.members.add(directory, index)?;
+        self.table.insert(Place { directory, name }, slot).unwrap();
+        Ok(())
     }
 
     /// Puts a slot in the place of what a place has, if it has one. Takes no memory, in expected constant time.

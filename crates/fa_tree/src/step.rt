@@ -79,9 +79,9 @@ impl Tree {
     /// `Memory` tells that memory was refused. The tree is then as it was.
     ///
     /// Errors, GETATTR, READLINK, READ, OPEN, UNLINK, RMDIR and SETATTR without a size take no memory. Time and memory otherwise
-    /// in the bytes of names and targets, and in those that are read, written or filled up with zeros; where a directory is moved,
-    /// time in the directories above its new place too; where all that stayed in a directory is asked for, in all places that
-    /// ever had a name. READDIR and READDIRPLUS take time and memory in the names that were listed so far (this profile).
+    /// in the bytes of names and targets, and in those that are read and written; where a directory is moved, time in the
+    /// directories on the way up too. READDIR and READDIRPLUS take time and memory in the names that were listed so far (this
+    /// profile), and at the end of a listing time in the places that the directory ever had.
     pub fn step(&mut self, calls: &Calls<'_>, k: usize, wrote: Option<u32>) -> Result<(), StepError>
         requires there { k < length calls.now.list.items }
         requires allowed { OfCallAt (map call_shown calls.now.list.items) k (λ call. Allows call wrote) }

@@ -1,6 +1,8 @@
-use Rattle.std.proofs.Common.{Some, refl, sym, ap, ◌∙◌, is_some}
+use Rattle.std.proofs.Common.{Some, refl, sym, ap, subst, ◌∙◌, is_some}
+use Rattle.std.specs.Map.{keys_of}
 use Rattle.fa_tree.specs.State as state
 use Rattle.fa_tree.specs.State.{place_cmp}
+use Rattle.fa_tree.specs.parts.MemberParts.{AreMembers}
 use Rattle.fa_tree.specs.parts.SlotParts.{slot_at, gone_at}
 use Rattle.fa_tree.proofs.SlotLemmas.{after_write, changed_at, keys_same, unchanged_at}
 use Rattle.fa_tree.proofs.slots.Slots.remove.Goals as goal
@@ -19,3 +21,8 @@ returns-in-None c = λ q.
     let old = c.args.self.now.table.entries in
     ap (λ table. slot_at table.entries q) c.get_mut.follows.holds-at-none
     ∙ unchanged_at old place q (gone_at c.args.at) (sym c.in-None.ensures.value ∙ ap (gone_at c.args.at) c.in-None.ensures.value)
+
+pub invariant_of-self-in-None : goal.invariant_of-self-in-None
+invariant_of-self-in-None c = record {
+  complete = subst (λ table. AreMembers (keys_of table.entries) c.args.self.now.members.table.entries) (sym c.get_mut.follows.holds-at-none) c.args.self.now.complete;
+}

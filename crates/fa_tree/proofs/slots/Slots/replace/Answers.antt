@@ -1,6 +1,8 @@
-use Rattle.std.proofs.Common.{Some, refl, sym, ap, ◌∙◌, is_some}
+use Rattle.std.proofs.Common.{Some, refl, sym, ap, subst, ◌∙◌, is_some}
+use Rattle.std.specs.Map.{keys_of}
 use Rattle.std.specs.Option.{option_map}
 use Rattle.fa_tree.specs.State as state
+use Rattle.fa_tree.specs.parts.MemberParts.{AreMembers}
 use Rattle.fa_tree.specs.parts.SlotParts.{slot_at}
 use Rattle.fa_tree.proofs.SlotLemmas.{after_write, changed_at, keys_same, unchanged_at}
 use Rattle.fa_tree.proofs.slots.Slots.replace.Goals as goal
@@ -19,3 +21,8 @@ returns-in-None c = λ q.
     let old = c.args.self.now.table.entries in
     ap (λ table. slot_at table.entries q) c.get_mut.follows.holds-at-none
     ∙ unchanged_at old place q (option_map (λ _. c.args.slot)) (sym c.in-None.ensures.value ∙ ap (option_map (λ _. c.args.slot)) c.in-None.ensures.value)
+
+pub invariant_of-self-in-None : goal.invariant_of-self-in-None
+invariant_of-self-in-None c = record {
+  complete = subst (λ table. AreMembers (keys_of table.entries) c.args.self.now.members.table.entries) (sym c.get_mut.follows.holds-at-none) c.args.self.now.complete;
+}

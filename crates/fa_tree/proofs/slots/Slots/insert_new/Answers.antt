@@ -1,0 +1,57 @@
+use Rattle.std.proofs.Common.{◌≡◌, [], ◌∷◌, ◌++◌, length, None, Some, Result, Ok, Err, cond, sym, ap, subst, ◌∙◌}
+use Rattle.std.specs.Prelude.{IsOk, OnOk}
+use Rattle.std.specs.Map.{keys_of, lookup}
+use Rattle.std.specs.Ordering.{eq_by_cmp}
+use Rattle.std.proofs.lemmas.List.{map-append}
+use Rattle.std.proofs.lemmas.Map.Entries.{length-keys_of}
+use Rattle.indexmap.proofs.CallerLemmas.{insert_entry-new}
+use Rattle.fa_capture.proofs.CallerLemmas.{found_alike}
+use Rattle.fa_ledger.proofs.CallerLemmas.{wrote_ok}
+use Rattle.fa_tree.specs.State as state
+use Rattle.fa_tree.specs.State.{place_cmp, file_eq}
+use Rattle.fa_tree.specs.declared.slots.Place.{Place}
+use Rattle.fa_tree.specs.contracts.slots.PlacePartialEq.TheImpl as derived
+use Rattle.fa_tree.specs.parts.SlotParts.{is_at, slot_at}
+use Rattle.fa_tree.specs.parts.MemberParts.{members_of, AreMembers}
+use Rattle.fa_tree.proofs.SlotLemmas.{after_write, keys_same}
+use Rattle.fa_tree.proofs.MemberLemmas.{members_added}
+use Rattle.fa_tree.proofs.slots.Slots.insert_new.Goals as goal
+
+ok_holds : {A E : Type 0} (r : Result A E) (P : Type 0) → IsOk r → OnOk r P → P
+ok_holds (Ok v) P is holds = holds
+ok_holds (Err e) P is holds = absurd cc
+
+pub returns-clause-put : goal.returns-clause-put
+returns-clause-put c = λ q.
+    let place : state.Place = (c.args.directory, c.args.name.now) in
+    let key : Place = record { directory = c.args.directory; name = c.in_ok-name.name } in
+    let copied = c.in_ok-name.ensures.items_if_clones_equal (λ x y e. e) in
+    let wrote = wrote_ok c.insert.result _ c.unwrap.result c.unwrap.ensures c.insert.ensures.updates in
+    after_write _ keys_same place _ (λ k. keys_same key k ∙ ap (λ items. is_at (c.args.directory, items) k) copied)
+    c.reserve.new.self.entries c.insert.new.self.entries (Some c.args.slot) wrote.1 wrote.3 q
+    ∙ ap (λ slots. cond (eq_by_cmp place_cmp q place) (Some c.args.slot) (slot_at slots q)) c.in_ok-reserve.ensures.entries
+
+pub invariant_of-self-2 : goal.invariant_of-self-2
+invariant_of-self-2 c =
+    let place : state.Place = (c.args.directory, c.args.name.now) in
+    let key : Place = record { directory = c.args.directory; name = c.in_ok-name.name } in
+    let old = c.args.self.now.table.entries in
+    let members = c.args.self.now.members.table.entries in
+    let copied = c.in_ok-name.ensures.items_if_clones_equal (λ x y e. e) in
+    let same = c.in_ok-reserve.ensures.entries in
+    let absent : lookup (derived.eq-value.it key) c.reserve.new.self.entries ≡ None =
+    found_alike (derived.eq-value.it key) (is_at place) c.reserve.new.self.entries (λ k. keys_same key k ∙ ap (λ items. is_at (c.args.directory, items) k) copied)
+    ∙ ap (λ slots. slot_at slots place) same
+    ∙ c.requires in
+    let last =
+    ok_holds c.insert.result _ (c.insert.ensures.succeeds c.in_ok-reserve.ensures.ok) c.insert.ensures.entries
+    ∙ insert_entry-new derived.eq-value.it c.reserve.new.self key c.args.slot absent in
+    let count : c.len-index.result ≡ length (keys_of old) = c.len-index.ensures.len ∙ sym (length-keys_of old) in
+    record {
+      complete =
+          subst (λ keys. AreMembers keys c.add.new.self.table.entries)
+          (sym (ap keys_of last ∙ map-append (λ e. e.0) c.reserve.new.self.entries ((key, c.args.slot) ∷ []) ∙ ap (λ slots. keys_of slots ++ key ∷ []) same))
+          (members_added (keys_of old) members c.add.new.self.table.entries c.args.self.now.complete key
+          (λ of. c.in_ok-add.ensures.added of
+          ∙ ap (λ index. cond (file_eq of c.args.directory) (members_of members of ++ index ∷ []) (members_of members of)) count));
+    }
