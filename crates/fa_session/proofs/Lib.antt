@@ -3,5 +3,6 @@ pub mod GrowthLemmas
 pub mod RequestLemmas
 pub mod ShowsLemmas
 pub mod MessageLemmas
+pub mod OutstandingLemmas
 pub mod TableLemmas
 pub mod LawsLemmas

@@ -1,7 +1,7 @@
 -- The table of the outstanding requests, and the list by rising uniques that it shows.
-use Rattle.std.proofs.Common.{◌≡◌, ℕ, zero, suc, ◌+◌, ◌<◌, Bool, true, false, cond, List, [], ◌∷◌, Option, None, Some, refl, sym, ap, subst, ◌∙◌, add-one, arith}
+use Rattle.std.proofs.Common.{Bor, ◌≡◌, ℕ, zero, suc, ◌+◌, ◌<◌, Bool, true, false, cond, List, [], ◌∷◌, Option, None, Some, refl, sym, ap, subst, ◌∙◌, add-one, arith}
 use Rattle.std.specs.Prelude.{map, nat_eq, slice_get, T, ◌&&◌}
-use Rattle.std.specs.Option.{option_map, option_or}
+use Rattle.std.specs.Option.{option_map, option_or, option_copied}
 use Rattle.std.specs.Ordering.{nat_cmp, is_lt, MatchOrdering}
 use Rattle.std.specs.Cmp.{nat_cmp_total, nat_eq_equiv, unsigned_tied, ranks}
 use Rattle.std.specs.declared.cmp.Ordering.{Ordering}
@@ -22,6 +22,11 @@ use Rattle.fa_session.specs.parts.View.{waiting_shown, entries_shown, by_unique,
 shown_by_test : (test : Bool) (one two : Option Waiting) → option_map waiting_shown (cond test one two) ≡ cond test (option_map waiting_shown one) (option_map waiting_shown two)
 shown_by_test true one two = refl
 shown_by_test false one two = refl
+
+-- a request that is lent shows what it is
+pub shown_copied : (found : Option (Bor Waiting)) → option_map (λ w. waiting_shown w.now) found ≡ option_map waiting_shown (option_copied found)
+shown_copied None = refl
+shown_copied (Some w) = refl
 
 -- a look-up among what entries show
 find_shown : (unique : ℕ) (es : List (ℕ × Waiting)) → find nat_cmp unique (entries_shown es) ≡ option_map waiting_shown (lookup (nat_eq unique) es)
@@ -91,13 +96,13 @@ shown_remove old new at updates unique =
 -- the fields after a reply show that its request was answered
 pub answered_shown : (inside : Inside) (old new : PlainSession) (answered : ℕ) (flags : Option ℕ) (table : List (ℕ × Waiting))
     → session_shown inside ≡ old → new.messages ≡ inside.messages + 1 → new.negotiated ≡ option_or flags inside.negotiated → new.waiting ≡ by_unique table
-    → ((unique : ℕ) → lookup (nat_eq unique) table ≡ cond (nat_eq answered unique) None (lookup (nat_eq unique) inside.waiting.entries))
+    → ((unique : ℕ) → lookup (nat_eq unique) table ≡ cond (nat_eq answered unique) None (lookup (nat_eq unique) inside.waiting))
     → NotesReply old new answered flags
 answered_shown inside old new answered flags table view counted settled shown updates =
     subst (λ (s : PlainSession). NotesReply s new answered flags) view (record {
       counted = counted;
       settled = settled;
-      removed = λ unique. ap (find nat_cmp unique) shown ∙ shown_remove inside.waiting.entries table answered updates unique;
+      removed = λ unique. ap (find nat_cmp unique) shown ∙ shown_remove inside.waiting table answered updates unique;
       rising = subst (λ (es : List (ℕ × PlainWaiting)). IsStrictlyIncreasing (map (λ e. e.0) es)) (sym shown) (uniques_rise table);
     })
 
@@ -105,7 +110,7 @@ answered_shown inside old new answered flags table view counted settled shown up
 pub asked_shown : (inside : Inside) (old new : PlainSession) (r : PlainRequest) (w : Waiting) (table : List (ℕ × Waiting))
     → session_shown inside ≡ old → MayBeAnswered r.body → waiting_shown w ≡ record { at = inside.messages; request = r }
     → new.messages ≡ inside.messages + 1 → new.negotiated ≡ inside.negotiated → new.waiting ≡ by_unique table
-    → ((unique : ℕ) → lookup (nat_eq unique) table ≡ cond (nat_eq r.unique unique) (Some w) (lookup (nat_eq unique) inside.waiting.entries))
+    → ((unique : ℕ) → lookup (nat_eq unique) table ≡ cond (nat_eq r.unique unique) (Some w) (lookup (nat_eq unique) inside.waiting))
     → NotesRequest old new r
 asked_shown inside old new r w table view may waits counted settled shown updates =
     subst (λ (s : PlainSession). NotesRequest s new r) view (record {
@@ -113,8 +118,8 @@ asked_shown inside old new r w table view may waits counted settled shown update
       settled = settled;
       kept = λ _ unique.
           ap (find nat_cmp unique) shown
-          ∙ shown_insert inside.waiting.entries table w r.unique updates unique
-          ∙ ap (λ (x : PlainWaiting). cond (nat_eq unique r.unique) (Some x) (find nat_cmp unique (by_unique inside.waiting.entries))) waits;
+          ∙ shown_insert inside.waiting table w r.unique updates unique
+          ∙ ap (λ (x : PlainWaiting). cond (nat_eq unique r.unique) (Some x) (find nat_cmp unique (by_unique inside.waiting))) waits;
       rising = λ _. subst (λ (es : List (ℕ × PlainWaiting)). IsStrictlyIncreasing (map (λ e. e.0) es)) (sym shown) (uniques_rise table);
       forgotten = λ not. absurd (not may);
     })
@@ -144,6 +149,6 @@ nothing_shown s table counted settled shown empty = record {
 }
 
 -- where the table has nothing at a unique, the session that it shows has no request for it
-pub none_shown : (inside : Inside) (old : PlainSession) (unique : ℕ) → session_shown inside ≡ old → lookup (nat_eq unique) inside.waiting.entries ≡ None → waiting_for old unique ≡ None
+pub none_shown : (inside : Inside) (old : PlainSession) (unique : ℕ) → session_shown inside ≡ old → lookup (nat_eq unique) inside.waiting ≡ None → waiting_for old unique ≡ None
 none_shown inside old unique view none =
-    ap (λ (s : PlainSession). waiting_for s unique) (sym view) ∙ find_by_unique unique inside.waiting.entries ∙ ap (option_map waiting_shown) none
+    ap (λ (s : PlainSession). waiting_for s unique) (sym view) ∙ find_by_unique unique inside.waiting ∙ ap (option_map waiting_shown) none

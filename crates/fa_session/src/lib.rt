@@ -7,6 +7,7 @@
 mod error;
 mod event;
 pub mod laws;
+mod outstanding;
 mod rules;
 mod session;
 mod waiting;

@@ -15,11 +15,11 @@ ghost use Rattle.fa_session.specs.parts.View.{waiting_shown};
 
 use crate::error::SessionError;
 use crate::event::Event;
+use crate::outstanding::Outstanding;
 use crate::rules::{agreed_flags, check_reply, is_init, may_replace};
 use crate::waiting::Waiting;
 use fa_bodies::{Request, reply_body, reply_head, request};
 use fa_capture::{Direction, Packet, codes};
-use indexmap::IndexMap;
 use std::alloc::Global;
 use std::marker::Model;
 
@@ -31,8 +31,8 @@ pub struct Session<'a> {
     messages: u32,
     /// The flags that both sides set at INIT, once it was answered.
     negotiated: Option<u32>,
-    /// The outstanding requests by their uniques.
-    waiting: IndexMap<u64, Waiting<'a>>,
+    /// The outstanding requests.
+    waiting: Outstanding<'a>,
 }
 
 impl<'a> Model for Session<'a> {
@@ -40,11 +40,9 @@ impl<'a> Model for Session<'a> {
 
     ghost Value = { PlainSession };
 
-    ghost use Rattle.fa_session.specs.parts.View.{session_shown, AreByUnique};
+    ghost use Rattle.fa_session.specs.parts.View.{session_shown};
 
     ghost view = { session_shown };
-
-    ghost invariant = { AreByUnique };
 }
 
 impl<'a> Session<'a> {
@@ -57,7 +55,7 @@ impl<'a> Session<'a> {
         Session {
             messages: 0,
             negotiated: None,
-            waiting: IndexMap::new(alloc),
+            waiting: Outstanding::new(alloc),
         }
     }
 
@@ -134,6 +132,7 @@ impl<'a> Session<'a> {
                 let reply = reply_body(&asked.request, packet)?;
                 check_reply(&asked.request, &reply)?;
                 let flags = agreed_flags(&asked.request.body, &reply);
+                let asked = *asked;
                 let at = self.note_reply(head.unique, flags);
                 Ok(Event::Answered {
                     at,
@@ -160,11 +159,11 @@ impl<'a> Session<'a> {
     }
 
     /// The outstanding request with this unique.
-    fn waiting_for(&self, unique: u64) -> Option<Waiting<'a>>
-        ensures found { option_map waiting_shown result ≡ waiting_for self.now unique }
-        ensures unique { IfSome result (λ waiting. waiting.request.unique ≡ unique) }
+    fn waiting_for(&self, unique: u64) -> Option<&Waiting<'a>>
+        ensures found { option_map (λ w. waiting_shown w.now) result ≡ waiting_for self.now unique }
+        ensures unique { IfSome result (λ waiting. waiting.now.request.unique ≡ unique) }
     {
-        self.waiting.get(&unique).copied()
+        self.waiting.get(unique)
     }
 
     /// Looks whether a request keeps the rules after the messages so far. The error is the code of the first rule that
@@ -223,7 +222,7 @@ impl<'a> Session<'a> {
             at: self.messages,
             request: *request,
         };
-        self.waiting.insert(request.unique, waiting)?;
+        self.waiting.insert(waiting)?;
         Ok(self.next_number())
     }
 
@@ -234,7 +233,7 @@ impl<'a> Session<'a> {
         ensures at { result ≡ self.old.messages }
         ensures noted { NotesReply self.old self.new unique flags }
     {
-        self.waiting.swap_remove(&unique);
+        self.waiting.remove(unique);
         self.negotiated = flags.or(self.negotiated);
         self.next_number()
     }

@@ -1,11 +1,12 @@
 -- What a session's fields show.
-use Rattle.std.specs.Prelude.{◌≡◌, ℕ, eqb, List, map, Some}
+use Rattle.std.specs.Prelude.{◌≡◌, ℕ, ◌<◌, ◌≤◌, nat_eq, List, [], ◌∷◌, ◌++◌, map, Option, Some, None}
 use Rattle.std.specs.Map.{lookup}
 use Rattle.std.specs.Ordering.{nat_cmp}
 use Rattle.std.specs.FinMap.{entries, from_entries}
 use Rattle.fa_bodies.specs.Requests.{request_shown}
 use Rattle.fa_session.specs.declared.waiting.Waiting.{Waiting}
 use Rattle.fa_session.specs.declared.session.Session.TheInside.{Inside}
+use Rattle.fa_session.specs.declared.outstanding.Outstanding.TheInside.{Inside as Outstanding}
 use Rattle.fa_session.specs.Plain.{PlainSession, PlainWaiting}
 
 -- what a request in the table shows
@@ -20,11 +21,23 @@ entries_shown es = map (λ e. (e.0, waiting_shown e.1)) es
 abbrev pub by_unique : List (ℕ × Waiting) → List (ℕ × PlainWaiting)
 by_unique es = entries (from_entries {R = nat_cmp} (entries_shown es))
 
--- what the fields show
+-- the request that came last, if it waits, as an entry
+abbrev pub newest_entry : Option Waiting → List (ℕ × Waiting)
+newest_entry None = []
+newest_entry (Some w) = (w.request.unique, w) ∷ []
+
+-- the outstanding requests as entries, the one that came last before those of the table
+abbrev pub outstanding_shown : Outstanding → List (ℕ × Waiting)
+outstanding_shown o = newest_entry o.newest ++ o.earlier.entries
+
+-- In the table each stands under its own unique; the one that came last is not in it; and none is above the highest.
+pub record AreOutstanding (o : Outstanding) : Type 0 where
+  pub own : (unique : ℕ) (w : Waiting) → lookup (nat_eq unique) o.earlier.entries ≡ Some w → w.request.unique ≡ unique
+  pub apart : (w : Waiting) → o.newest ≡ Some w → lookup (nat_eq w.request.unique) o.earlier.entries ≡ None
+  pub within : (unique : ℕ) → o.highest < unique → lookup (nat_eq unique) o.earlier.entries ≡ None
+  pub newest_within : (w : Waiting) → o.newest ≡ Some w → w.request.unique ≤ o.highest
+
+-- what the fields of a session show
 abbrev pub session_shown : Inside → PlainSession
 session_shown s =
-    record { messages = s.messages; negotiated = s.negotiated; waiting = by_unique s.waiting.entries }
-
--- each request stands in the table under its own unique
-abbrev pub AreByUnique : Inside → Type 0
-AreByUnique s = (unique : ℕ) (w : Waiting) → lookup (eqb unique) s.waiting.entries ≡ Some w → w.request.unique ≡ unique
+    record { messages = s.messages; negotiated = s.negotiated; waiting = by_unique s.waiting }

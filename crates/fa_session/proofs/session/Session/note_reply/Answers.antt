@@ -7,4 +7,4 @@ use Rattle.fa_session.proofs.session.Session.note_reply.Goals as goal
 pub returns-clause-noted : goal.returns-clause-noted
 returns-clause-noted c =
     subst (λ (s : PlainSession). NotesReply c.args.self.now s c.args.unique c.args.flags) (sym c.next_number.ensures.counted)
-    (answered_shown c.self.inside c.args.self.now _ c.args.unique c.args.flags c.swap_remove.new.self.entries c.self.view_is refl c.or-self-inside.ensures refl c.swap_remove.ensures.updates.0)
+    (answered_shown c.self.inside c.args.self.now _ c.args.unique c.args.flags c.remove.new.self c.self.view_is refl c.or-self-inside.ensures refl c.remove.ensures)

@@ -1,0 +1,117 @@
+//! The outstanding requests by their uniques.
+
+ghost use Rattle.std.specs.Prelude.{◌≡◌, ℕ, nat_eq, cond, false, [], Some, None, OnOk, OnErr, IfSome, IfErr};
+ghost use Rattle.std.specs.Map.{lookup};
+ghost use Rattle.std.specs.Option.{option_copied, option_map_or};
+ghost use Rattle.fa_session.specs.declared.error.SessionError.TheVariants.{Memory};
+
+use crate::error::SessionError;
+use crate::waiting::Waiting;
+use indexmap::IndexMap;
+use std::alloc::Global;
+use std::marker::Model;
+
+/// The requests that wait for their answers, by their uniques.
+///
+/// The one that came last is kept apart from the table of the others. So the table is empty, and is not asked, where each
+/// request is answered before the next one is sent; and a unique above all before, as the kernel gives them, is not looked for.
+#[derive(Drop)]
+pub(crate) struct Outstanding<'a> {
+    /// The request that came last, if it waits.
+    newest: Option<Waiting<'a>>,
+    /// Those that came before it.
+    earlier: IndexMap<u64, Waiting<'a>>,
+    /// No request had a unique above this one.
+    highest: u64,
+}
+
+impl<'a> Model for Outstanding<'a> {
+    ghost use Rattle.std.specs.Prelude.{ℕ, List};
+    ghost use Rattle.fa_session.specs.declared.waiting.Waiting.{Waiting};
+
+    ghost Value = { List (ℕ × Waiting) };
+
+    ghost use Rattle.fa_session.specs.parts.View.{outstanding_shown, AreOutstanding};
+
+    ghost view = { outstanding_shown };
+
+    ghost invariant = { AreOutstanding };
+}
+
+impl<'a> Outstanding<'a> {
+    /// None. The table takes memory from `alloc` later.
+    ///
+    /// Takes no memory, in constant time.
+    pub fn new(alloc: Global) -> Self
+        ensures { result ≡ [] }
+    {
+        Outstanding {
+            newest: None,
+            earlier: IndexMap::new(alloc),
+            highest: 0,
+        }
+    }
+
+    /// The request with this unique.
+    ///
+    /// Takes no memory, in expected constant time.
+    pub fn get(&self, unique: u64) -> Option<&Waiting<'a>>
+        ensures found { option_copied result ≡ lookup (nat_eq unique) self.now }
+        ensures unique { IfSome result (λ waiting. waiting.now.request.unique ≡ unique) }
+    {
+        if unique > self.highest {
+            return None;
+        }
+        match &self.newest {
+            Some(newest) if newest.request.unique == unique => Some(newest),
+            _ => self.earlier.get(&unique),
+        }
+    }
+
+    /// Takes in a request, in the place of one with its unique if there is one. `Memory` tells that memory was refused; then
+    /// there is none, and nothing is changed.
+    ///
+    /// Expected constant time but for growing.
+    pub fn insert(&mut self, waiting: Waiting<'a>) -> Result<(), SessionError>
+        ensures inserted { OnOk result ((unique : ℕ) → lookup (nat_eq unique) self.new ≡ cond (nat_eq waiting.entry.request.unique unique) (Some waiting.entry) (lookup (nat_eq unique) self.old)) }
+        ensures memory { IfErr result (λ error. (error ≡ Memory) × (lookup (nat_eq waiting.entry.request.unique) self.old ≡ None)) }
+        ensures unchanged { OnErr result (self.new ≡ self.old) }
+    {
+        let unique = waiting.request.unique;
+        if unique > self.highest {
+            if let Some(newest) = self.newest {
+                self.earlier.insert(newest.request.unique, newest)?;
+            }
+            self.newest = Some(waiting);
+            self.highest = unique;
+        } else if has_unique(&self.newest, unique) {
+            self.newest = Some(waiting);
+        } else {
+            self.earlier.insert(unique, waiting)?;
+        }
+        Ok(())
+    }
+
+    /// Takes the request with this unique away, if there is one.
+    ///
+    /// Takes no memory, in expected constant time.
+    pub fn remove(&mut self, unique: u64)
+        ensures { (other : ℕ) → lookup (nat_eq other) self.new ≡ cond (nat_eq unique other) None (lookup (nat_eq other) self.old) }
+    {
+        if has_unique(&self.newest, unique) {
+            self.newest = None;
+        } else {
+            self.earlier.swap_remove(&unique);
+        }
+    }
+}
+
+/// Whether this request is there and has this unique.
+fn has_unique(waiting: &Option<Waiting<'_>>, unique: u64) -> bool
+    ensures { result ≡ option_map_or (λ w. nat_eq w.request.unique unique) waiting.now false }
+{
+    match waiting {
+        Some(waiting) => waiting.request.unique == unique,
+        None => false,
+    }
+}
