@@ -250,13 +250,11 @@ impl Nodes {
         let NodeName::Given { id, .. } = name else {
             return;
         };
-        let lookups = match self.known.get(&id) {
-            Some(lookups) => Lookups {
-                count: lookups.count + 1,
-                ..*lookups
-            },
-            None => Lookups { count: 1, by: at },
-        };
-        self.known.insert(id, lookups).unwrap();
+        match self.known.get_mut(&id) {
+            Some(lookups) => lookups.count += 1,
+            None => {
+                self.known.insert(id, Lookups { count: 1, by: at }).unwrap();
+            }
+        }
     }
 }

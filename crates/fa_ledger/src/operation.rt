@@ -5,6 +5,7 @@ ghost use Rattle.std.specs.Option.{option_map};
 ghost use Rattle.fa_bodies.specs.Listing.{entries_left};
 ghost use Rattle.fa_bodies.specs.Requests.{body_shown};
 ghost use Rattle.fa_bodies.specs.Replies.{reply_shown};
+ghost use Rattle.fa_ledger.specs.Operations.PlainAction.{Lookup, Getattr, Setattr, Readlink, Symlink, Mknod, Mkdir, Unlink, Rmdir, Rename, Rename2, Link, Open, Read, Write, Opendir, Create};
 ghost use Rattle.fa_ledger.specs.Operations.{action_shown, operation_shown, with_success, action_of, operation_of, action_ended, ended, bare, came_to, done_in, entry_in, created_in, attributes_in, handle_in, count_in, bytes_in, dirents_in};
 
 use fa_bodies::{
@@ -252,113 +253,52 @@ impl<T> Outcome<T> {
 
 impl<'a> Action<'a> {
     /// What a request of this body asks for that was answered so, or was not answered, if it is a tree request that does
-    /// not list.
+    /// not list. Each kind has a function of its own, so that a call makes room for what one kind needs, not for that of all.
     fn of(body: &RequestBody<'a>, reply: Option<&Reply<'a>>) -> Option<Action<'a>>
         ensures { option_map action_shown result ≡ action_of (body_shown body.now) (option_map (λ r. reply_shown r.now) reply.entry) }
     {
         match body {
-            RequestBody::Lookup { name } => Some(Action::Lookup {
-                name: *name,
-                outcome: entry_as(reply)?,
-            }),
-            RequestBody::Getattr(_) => Some(Action::Getattr {
-                outcome: attributes_as(reply)?,
-            }),
-            RequestBody::Setattr(setattr) => Some(Action::Setattr {
-                setattr: *setattr,
-                outcome: attributes_as(reply)?,
-            }),
-            RequestBody::Readlink => Some(Action::Readlink {
-                outcome: bytes_as(reply)?,
-            }),
-            RequestBody::Symlink { name, target } => Some(Action::Symlink {
-                name: *name,
-                target: *target,
-                outcome: entry_as(reply)?,
-            }),
+            RequestBody::Lookup { name } => Action::lookup(*name, reply),
+            RequestBody::Getattr(_) => Action::getattr(reply),
+            RequestBody::Setattr(setattr) => Action::setattr(*setattr, reply),
+            RequestBody::Readlink => Action::readlink(reply),
+            RequestBody::Symlink { name, target } => Action::symlink(*name, *target, reply),
             RequestBody::Mknod {
                 mode,
                 umask,
                 name,
                 ..
-            } => Some(Action::Mknod {
-                mode: *mode,
-                umask: *umask,
-                name: *name,
-                outcome: entry_as(reply)?,
-            }),
-            RequestBody::Mkdir { mode, umask, name } => Some(Action::Mkdir {
-                mode: *mode,
-                umask: *umask,
-                name: *name,
-                outcome: entry_as(reply)?,
-            }),
-            RequestBody::Unlink { name } => Some(Action::Unlink {
-                name: *name,
-                outcome: done_as(reply)?,
-            }),
-            RequestBody::Rmdir { name } => Some(Action::Rmdir {
-                name: *name,
-                outcome: done_as(reply)?,
-            }),
+            } => Action::mknod(*mode, *umask, *name, reply),
+            RequestBody::Mkdir { mode, umask, name } => Action::mkdir(*mode, *umask, *name, reply),
+            RequestBody::Unlink { name } => Action::unlink(*name, reply),
+            RequestBody::Rmdir { name } => Action::rmdir(*name, reply),
             RequestBody::Rename {
                 old_name,
                 new_name,
                 ..
-            } => Some(Action::Rename {
-                old_name: *old_name,
-                new_name: *new_name,
-                outcome: done_as(reply)?,
-            }),
+            } => Action::rename(*old_name, *new_name, reply),
             RequestBody::Rename2 {
                 flags,
                 old_name,
                 new_name,
                 ..
-            } => Some(Action::Rename2 {
-                flags: *flags,
-                old_name: *old_name,
-                new_name: *new_name,
-                outcome: done_as(reply)?,
-            }),
-            RequestBody::Link { new_name, .. } => Some(Action::Link {
-                new_name: *new_name,
-                outcome: entry_as(reply)?,
-            }),
-            RequestBody::Open(_) => Some(Action::Open {
-                outcome: opened_as(reply)?,
-            }),
-            RequestBody::Read(read) => Some(Action::Read {
-                offset: read.offset,
-                size: read.size,
-                outcome: bytes_as(reply)?,
-            }),
+            } => Action::rename2(*flags, *old_name, *new_name, reply),
+            RequestBody::Link { new_name, .. } => Action::link(*new_name, reply),
+            RequestBody::Open(_) => Action::open(reply),
+            RequestBody::Read(read) => Action::read(read.offset, read.size, reply),
             RequestBody::Write {
                 offset,
                 size,
                 payload,
                 ..
-            } => Some(Action::Write {
-                offset: *offset,
-                size: *size,
-                payload: *payload,
-                outcome: written_as(reply)?,
-            }),
-            RequestBody::Opendir(_) => Some(Action::Opendir {
-                outcome: opened_as(reply)?,
-            }),
+            } => Action::write(*offset, *size, *payload, reply),
+            RequestBody::Opendir(_) => Action::opendir(reply),
             RequestBody::Create {
                 flags,
                 mode,
                 umask,
                 name,
-            } => Some(Action::Create {
-                flags: *flags,
-                mode: *mode,
-                umask: *umask,
-                name: *name,
-                outcome: created_as(reply)?,
-            }),
+            } => Action::create(*flags, *mode, *umask, *name, reply),
             RequestBody::Forget { .. }
             | RequestBody::Release(_)
             | RequestBody::Flush(_)
@@ -369,6 +309,216 @@ impl<'a> Action<'a> {
             | RequestBody::Readdirplus(_)
             | RequestBody::Passed => None,
         }
+    }
+
+    /// What a LOOKUP asks for that was answered so, or was not answered.
+    fn lookup(name: &'a [u8], reply: Option<&Reply<'a>>) -> Option<Action<'a>>
+        ensures { option_map action_shown result ≡ option_map (λ o. Lookup name.now o) (came_to entry_in (option_map (λ r. reply_shown r.now) reply.entry)) }
+    {
+        Some(Action::Lookup {
+            name,
+            outcome: entry_as(reply)?,
+        })
+    }
+
+    /// What a GETATTR asks for that was answered so, or was not answered.
+    fn getattr(reply: Option<&Reply<'a>>) -> Option<Action<'a>>
+        ensures { option_map action_shown result ≡ option_map (λ o. Getattr o) (came_to attributes_in (option_map (λ r. reply_shown r.now) reply.entry)) }
+    {
+        Some(Action::Getattr {
+            outcome: attributes_as(reply)?,
+        })
+    }
+
+    /// What a SETATTR asks for that was answered so, or was not answered.
+    fn setattr(setattr: SetattrIn, reply: Option<&Reply<'a>>) -> Option<Action<'a>>
+        ensures { option_map action_shown result ≡ option_map (λ o. Setattr setattr o) (came_to attributes_in (option_map (λ r. reply_shown r.now) reply.entry)) }
+    {
+        Some(Action::Setattr {
+            setattr,
+            outcome: attributes_as(reply)?,
+        })
+    }
+
+    /// What a READLINK asks for that was answered so, or was not answered.
+    fn readlink(reply: Option<&Reply<'a>>) -> Option<Action<'a>>
+        ensures { option_map action_shown result ≡ option_map (λ o. Readlink o) (came_to bytes_in (option_map (λ r. reply_shown r.now) reply.entry)) }
+    {
+        Some(Action::Readlink {
+            outcome: bytes_as(reply)?,
+        })
+    }
+
+    /// What a SYMLINK asks for that was answered so, or was not answered.
+    fn symlink(name: &'a [u8], target: &'a [u8], reply: Option<&Reply<'a>>) -> Option<Action<'a>>
+        ensures { option_map action_shown result ≡ option_map (λ o. Symlink name.now target.now o) (came_to entry_in (option_map (λ r. reply_shown r.now) reply.entry)) }
+    {
+        Some(Action::Symlink {
+            name,
+            target,
+            outcome: entry_as(reply)?,
+        })
+    }
+
+    /// What a MKNOD asks for that was answered so, or was not answered.
+    fn mknod(
+        mode: Mode,
+        umask: u32,
+        name: &'a [u8],
+        reply: Option<&Reply<'a>>,
+    ) -> Option<Action<'a>>
+        ensures { option_map action_shown result ≡ option_map (λ o. Mknod mode umask name.now o) (came_to entry_in (option_map (λ r. reply_shown r.now) reply.entry)) }
+    {
+        Some(Action::Mknod {
+            mode,
+            umask,
+            name,
+            outcome: entry_as(reply)?,
+        })
+    }
+
+    /// What a MKDIR asks for that was answered so, or was not answered.
+    fn mkdir(
+        mode: Mode,
+        umask: u32,
+        name: &'a [u8],
+        reply: Option<&Reply<'a>>,
+    ) -> Option<Action<'a>>
+        ensures { option_map action_shown result ≡ option_map (λ o. Mkdir mode umask name.now o) (came_to entry_in (option_map (λ r. reply_shown r.now) reply.entry)) }
+    {
+        Some(Action::Mkdir {
+            mode,
+            umask,
+            name,
+            outcome: entry_as(reply)?,
+        })
+    }
+
+    /// What a UNLINK asks for that was answered so, or was not answered.
+    fn unlink(name: &'a [u8], reply: Option<&Reply<'a>>) -> Option<Action<'a>>
+        ensures { option_map action_shown result ≡ option_map (λ o. Unlink name.now o) (came_to done_in (option_map (λ r. reply_shown r.now) reply.entry)) }
+    {
+        Some(Action::Unlink {
+            name,
+            outcome: done_as(reply)?,
+        })
+    }
+
+    /// What a RMDIR asks for that was answered so, or was not answered.
+    fn rmdir(name: &'a [u8], reply: Option<&Reply<'a>>) -> Option<Action<'a>>
+        ensures { option_map action_shown result ≡ option_map (λ o. Rmdir name.now o) (came_to done_in (option_map (λ r. reply_shown r.now) reply.entry)) }
+    {
+        Some(Action::Rmdir {
+            name,
+            outcome: done_as(reply)?,
+        })
+    }
+
+    /// What a RENAME asks for that was answered so, or was not answered.
+    fn rename(
+        old_name: &'a [u8],
+        new_name: &'a [u8],
+        reply: Option<&Reply<'a>>,
+    ) -> Option<Action<'a>>
+        ensures { option_map action_shown result ≡ option_map (λ o. Rename old_name.now new_name.now o) (came_to done_in (option_map (λ r. reply_shown r.now) reply.entry)) }
+    {
+        Some(Action::Rename {
+            old_name,
+            new_name,
+            outcome: done_as(reply)?,
+        })
+    }
+
+    /// What a RENAME2 asks for that was answered so, or was not answered.
+    fn rename2(
+        flags: RenameFlags,
+        old_name: &'a [u8],
+        new_name: &'a [u8],
+        reply: Option<&Reply<'a>>,
+    ) -> Option<Action<'a>>
+        ensures { option_map action_shown result ≡ option_map (λ o. Rename2 flags old_name.now new_name.now o) (came_to done_in (option_map (λ r. reply_shown r.now) reply.entry)) }
+    {
+        Some(Action::Rename2 {
+            flags,
+            old_name,
+            new_name,
+            outcome: done_as(reply)?,
+        })
+    }
+
+    /// What a LINK asks for that was answered so, or was not answered.
+    fn link(new_name: &'a [u8], reply: Option<&Reply<'a>>) -> Option<Action<'a>>
+        ensures { option_map action_shown result ≡ option_map (λ o. Link new_name.now o) (came_to entry_in (option_map (λ r. reply_shown r.now) reply.entry)) }
+    {
+        Some(Action::Link {
+            new_name,
+            outcome: entry_as(reply)?,
+        })
+    }
+
+    /// What a OPEN asks for that was answered so, or was not answered.
+    fn open(reply: Option<&Reply<'a>>) -> Option<Action<'a>>
+        ensures { option_map action_shown result ≡ option_map (λ o. Open o) (came_to handle_in (option_map (λ r. reply_shown r.now) reply.entry)) }
+    {
+        Some(Action::Open {
+            outcome: opened_as(reply)?,
+        })
+    }
+
+    /// What a READ asks for that was answered so, or was not answered.
+    fn read(offset: u64, size: u32, reply: Option<&Reply<'a>>) -> Option<Action<'a>>
+        ensures { option_map action_shown result ≡ option_map (λ o. Read offset size o) (came_to bytes_in (option_map (λ r. reply_shown r.now) reply.entry)) }
+    {
+        Some(Action::Read {
+            offset,
+            size,
+            outcome: bytes_as(reply)?,
+        })
+    }
+
+    /// What a WRITE asks for that was answered so, or was not answered.
+    fn write(
+        offset: u64,
+        size: u32,
+        payload: &'a [u8],
+        reply: Option<&Reply<'a>>,
+    ) -> Option<Action<'a>>
+        ensures { option_map action_shown result ≡ option_map (λ o. Write offset size payload.now o) (came_to count_in (option_map (λ r. reply_shown r.now) reply.entry)) }
+    {
+        Some(Action::Write {
+            offset,
+            size,
+            payload,
+            outcome: written_as(reply)?,
+        })
+    }
+
+    /// What a OPENDIR asks for that was answered so, or was not answered.
+    fn opendir(reply: Option<&Reply<'a>>) -> Option<Action<'a>>
+        ensures { option_map action_shown result ≡ option_map (λ o. Opendir o) (came_to handle_in (option_map (λ r. reply_shown r.now) reply.entry)) }
+    {
+        Some(Action::Opendir {
+            outcome: opened_as(reply)?,
+        })
+    }
+
+    /// What a CREATE asks for that was answered so, or was not answered.
+    fn create(
+        flags: OpenFlags,
+        mode: Mode,
+        umask: u32,
+        name: &'a [u8],
+        reply: Option<&Reply<'a>>,
+    ) -> Option<Action<'a>>
+        ensures { option_map action_shown result ≡ option_map (λ o. Create flags mode umask name.now o) (came_to created_in (option_map (λ r. reply_shown r.now) reply.entry)) }
+    {
+        Some(Action::Create {
+            flags,
+            mode,
+            umask,
+            name,
+            outcome: created_as(reply)?,
+        })
     }
 
     /// What came of it, but for what its success says.
