@@ -25,6 +25,7 @@ pub mod PartLemmas
 pub mod PlaceOrderLemmas
 pub mod QueryLemmas
 pub mod RenameLemmas
+pub mod ReplayLemmas
 pub mod ScanLemmas
 pub mod ShapeLemmas
 pub mod SlotLemmas

@@ -22,7 +22,7 @@ use Rattle.fa_tree.specs.parts.TallyParts.{going_on_from}
 -- ---- the call of a number
 
 -- the numbers of calls
-abbrev numbers : List PlainCall → List ℕ
+abbrev pub numbers : List PlainCall → List ℕ
 numbers calls = map (λ call. call.asked) calls
 
 -- calls of good messages stand by rising numbers
@@ -30,14 +30,14 @@ pub rising : (calls : List PlainCall) (messages : ℕ) → ∥ ((c : List Messag
 rising calls messages good = ∥∥₁_elim good (hlevel le_prop) (λ some. some.3.exact.rising)
 
 -- a later place has a greater number
-abbrev Rise : List PlainCall → Type 0
+abbrev pub Rise : List PlainCall → Type 0
 Rise calls = (i j : ℕ) (earlier later : PlainCall) → i < j → slice_get calls i ≡ Some earlier → slice_get calls j ≡ Some later → earlier.asked < later.asked
 
 number_at : (calls : List PlainCall) (k : ℕ) (call : PlainCall) → slice_get calls k ≡ Some call → get_or (numbers calls) k 0 ≡ call.asked
 number_at calls k call there =
     get_or_from_slice_get (numbers calls) k call.asked 0 (slice_get-map (λ x. x.asked) calls k ∙ ap (option_map (λ x. x.asked)) there)
 
-rise : (calls : List PlainCall) → IsStrictlyIncreasing (numbers calls) → Rise calls
+pub rise : (calls : List PlainCall) → IsStrictlyIncreasing (numbers calls) → Rise calls
 rise calls increase i j earlier later before here there =
     let within : j < length (numbers calls) = omega (arith, slice_get_within calls j later there, length-map calls (λ x. x.asked)) in
     let rises = AllPairs-from_increasing (numbers calls) increase i j 0 before within in
@@ -105,12 +105,12 @@ unrolled n calls call =
       | Some b ↦ found_on n calls b.1 (call_asked calls b.0)
     ]
 
-listed_more : (n : ℕ) (calls : List PlainCall) (call earlier : PlainCall) (count : ℕ) → going_on_from calls call ≡ Some (earlier, count)
+pub listed_more : (n : ℕ) (calls : List PlainCall) (call earlier : PlainCall) (count : ℕ) → going_on_from calls call ≡ Some (earlier, count)
     → listed_within (suc n) calls call ≡ listed_within n calls earlier ++ take count (entries_answered earlier.operation)
 listed_more n calls call earlier count goes =
     unrolled n calls call ∙ ap (listed_on n calls) goes
 
-listed_none : (n : ℕ) (calls : List PlainCall) (call : PlainCall) → going_on_from calls call ≡ None → listed_within n calls call ≡ []
+pub listed_none : (n : ℕ) (calls : List PlainCall) (call : PlainCall) → going_on_from calls call ≡ None → listed_within n calls call ≡ []
 listed_none zero calls call goes = refl
 listed_none (suc n) calls call goes =
     unrolled n calls call ∙ ap (listed_on n calls) goes
@@ -119,7 +119,7 @@ listed_none (suc n) calls call goes =
 abbrev pub left_so_far : ℕ → List PlainCall → (place : ℕ) → List PlainDirent
 left_so_far n calls place = option_map_or (λ call. listed_within n calls call) (slice_get calls place) []
 
-left_at : (n : ℕ) (calls : List PlainCall) (place : ℕ) (call : PlainCall) → slice_get calls place ≡ Some call → left_so_far n calls place ≡ listed_within n calls call
+pub left_at : (n : ℕ) (calls : List PlainCall) (place : ℕ) (call : PlainCall) → slice_get calls place ≡ Some call → left_so_far n calls place ≡ listed_within n calls call
 left_at n calls place call there = ap (λ o. option_map_or (λ (x : PlainCall). listed_within n calls x) o []) there
 
 -- all of it is left before the first round

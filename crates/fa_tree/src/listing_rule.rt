@@ -1,6 +1,6 @@
 //! The rule of listings.
 
-ghost use Rattle.std.specs.Prelude.{◌↔◌, ◌<◌, length, map, All, IsTrue, IfOk};
+ghost use Rattle.std.specs.Prelude.{◌≡◌, ◌↔◌, ◌<◌, length, map, All, IsTrue, IfOk};
 ghost use Rattle.fa_bodies.specs.Dirents.{dirent_shown};
 ghost use Rattle.fa_bodies.specs.Listing.{entries_left};
 ghost use Rattle.fa_ledger.specs.Calls.{call_shown};
@@ -13,9 +13,10 @@ use crate::entries::is_judged;
 use crate::id::FileId;
 use crate::open::OpenNames;
 use crate::orderly::is_orderly;
+use crate::replay::Replay;
 use crate::stored::Stored;
 use fa_bodies::{Dirent, Entries};
-use fa_ledger::{Calls, Listing};
+use fa_ledger::Listing;
 use std::alloc::AllocError;
 
 impl Stored {
@@ -48,20 +49,20 @@ impl Stored {
     /// Whether the entries are what the rule of listings allows, for the call at this place. An error says that memory was
     /// refused.
     ///
-    /// Expected time in the entries; for a listing that began at the start, without gaps, on a handle of its own, also in the
-    /// calls that it goes on from, the names that they list, and at the end of the listing in the places that the directory
-    /// ever had.
-    pub(crate) fn is_listed<'a>(
+    /// Expected time in the entries; for a listing that began at the start, without gaps, on a handle of its own, also as
+    /// [`is_orderly`].
+    pub(crate) fn is_listed(
         &self,
         names: &OpenNames<'_>,
-        calls: &Calls<'a>,
+        replay: &mut Replay<'_>,
         k: usize,
         listing: &Listing,
-        entries: Entries<'a>,
+        entries: Entries<'_>,
         size: u32,
     ) -> Result<bool, AllocError>
-        requires { k < length calls.now.list.items }
-        ensures { IfOk result (λ is. IsTrue is ↔ IsListed self.now.store (open_of names.now) listing.now size (listing_so_far (map call_shown calls.now.list.items) k) (entries_left entries.entry)) }
+        requires { k < length replay.old.list.items }
+        ensures listed { IfOk result (λ is. IsTrue is ↔ IsListed self.now.store (open_of names.now) listing.now size (listing_so_far (map call_shown replay.old.list.items) k) (entries_left entries.entry)) }
+        ensures same { replay.new ≡ replay.old }
     {
         if !self.all_allowed(names, entries) {
             return Ok(false);
@@ -69,6 +70,6 @@ impl Stored {
         if listing.adrift || listing.shared {
             return Ok(true);
         }
-        is_orderly(self.alloc, names, calls, k, entries, size)
+        is_orderly(self.alloc, names, replay, k, entries, size)
     }
 }

@@ -25,11 +25,12 @@ ghost use Rattle.fa_tree.specs.parts.ListingParts.{entries_checks, settled, Tell
 use crate::error::StepError;
 use crate::id::FileId;
 use crate::named::{Named, NamedDirectory};
+use crate::replay::Replay;
 use crate::step::names_given;
 use crate::tree::Tree;
 use fa_bodies::Entries;
 use fa_capture::codes;
-use fa_ledger::{Call, Calls, List, NodeName, Outcome};
+use fa_ledger::{Call, List, NodeName, Outcome};
 use std::alloc::AllocError;
 
 impl Tree {
@@ -56,22 +57,23 @@ impl Tree {
     }
 
     /// Whether entries are what the rule of listings allows for a call.
-    fn entries_are<'a>(
+    fn entries_are(
         &self,
         at: &NamedDirectory<'_>,
-        calls: &Calls<'a>,
+        replay: &mut Replay<'_>,
         k: usize,
-        call: &Call<'a>,
+        call: &Call<'_>,
         size: u32,
-        entries: Entries<'a>,
+        entries: Entries<'_>,
     ) -> Result<bool, AllocError>
-        requires { k < length calls.now.list.items }
-        ensures { IfOk result (λ are. IsTrue are ↔ EntriesAre self.now.store size (Some (open_of at.now.names)) call.now.listing (listing_so_far (map call_shown calls.now.list.items) k) (entries_left entries.entry)) }
+        requires { k < length replay.old.list.items }
+        ensures are { IfOk result (λ are. IsTrue are ↔ EntriesAre self.now.store size (Some (open_of at.now.names)) call.now.listing (listing_so_far (map call_shown replay.old.list.items) k) (entries_left entries.entry)) }
+        ensures same { replay.new ≡ replay.old }
     {
         match &call.listing {
             Some(listing) => self
                 .stored
-                .is_listed(&at.names, calls, k, listing, entries, size),
+                .is_listed(&at.names, replay, k, listing, entries, size),
             None => Ok(false),
         }
     }
@@ -118,18 +120,19 @@ impl Tree {
     }
 
     /// Judges entries that answer a call which lists: the names of nodes that they give, each with its file.
-    fn judge_entries<'a>(
+    fn judge_entries(
         &self,
         at: &NamedDirectory<'_>,
-        calls: &Calls<'a>,
+        replay: &mut Replay<'_>,
         k: usize,
-        call: &Call<'a>,
+        call: &Call<'_>,
         size: u32,
-        entries: Entries<'a>,
+        entries: Entries<'_>,
     ) -> Result<Vec<(NodeName, FileId)>, StepError>
-        requires { k < length calls.now.list.items }
-        ensures ok { IfOk result (λ nodes. AllHold (entries_checks self.now.nodes self.now.store (directory_shown at.now) call.now.listing size (listing_so_far (map call_shown calls.now.list.items) k) (names_given (call_shown call.now)) (entries_left entries.entry)) × (nodes.items ≡ bound (names_given (call_shown call.now)) (files_listed self.now.store (open_of at.now.names).directory (entries_left entries.entry)))) }
-        ensures refused { IfErr result (λ e. TellsSuch e (FirstFailure (entries_checks self.now.nodes self.now.store (directory_shown at.now) call.now.listing size (listing_so_far (map call_shown calls.now.list.items) k) (names_given (call_shown call.now)) (entries_left entries.entry))) (Unit {0})) }
+        requires { k < length replay.old.list.items }
+        ensures ok { IfOk result (λ nodes. AllHold (entries_checks self.now.nodes self.now.store (directory_shown at.now) call.now.listing size (listing_so_far (map call_shown replay.old.list.items) k) (names_given (call_shown call.now)) (entries_left entries.entry)) × (nodes.items ≡ bound (names_given (call_shown call.now)) (files_listed self.now.store (open_of at.now.names).directory (entries_left entries.entry)))) }
+        ensures refused { IfErr result (λ e. TellsSuch e (FirstFailure (entries_checks self.now.nodes self.now.store (directory_shown at.now) call.now.listing size (listing_so_far (map call_shown replay.old.list.items) k) (names_given (call_shown call.now)) (entries_left entries.entry))) (Unit {0})) }
+        ensures same { replay.new ≡ replay.old }
     {
         if !self.may_list(at) {
             return Err(StepError::Refused(codes::SUCCESS_NOT_ALLOWED));
@@ -141,7 +144,7 @@ impl Tree {
         if !self.may_bind_all(&nodes)? {
             return Err(StepError::Refused(codes::NODE_ID_OF_ANOTHER));
         }
-        if !self.entries_are(at, calls, k, call, size, entries)? {
+        if !self.entries_are(at, replay, k, call, size, entries)? {
             return Err(StepError::Refused(codes::LISTING));
         }
         Ok(nodes)
@@ -160,24 +163,25 @@ impl Tree {
     }
 
     /// Judges what came of a call that lists: the names of nodes that come with it, each with its file.
-    fn judge_listing<'a>(
+    fn judge_listing(
         &self,
         at: &NamedDirectory<'_>,
-        calls: &Calls<'a>,
+        replay: &mut Replay<'_>,
         k: usize,
-        call: &Call<'a>,
-        list: &List<'a>,
+        call: &Call<'_>,
+        list: &List<'_>,
     ) -> Result<Vec<(NodeName, FileId)>, StepError>
-        requires { k < length calls.now.list.items }
-        ensures ok { IfOk result (λ nodes. AllHold (operation_checks self.now.nodes (settled self.now.store (directory_shown at.now) call.now.listing (listing_so_far (map call_shown calls.now.list.items) k)) (call_shown call.now) (Lists (list_shown list.now))) × (nodes.items ≡ given_in (settled self.now.store (directory_shown at.now) call.now.listing (listing_so_far (map call_shown calls.now.list.items) k)) (call_shown call.now) (Lists (list_shown list.now)))) }
-        ensures refused { IfErr result (λ e. TellsSuch e (FirstFailure (operation_checks self.now.nodes (settled self.now.store (directory_shown at.now) call.now.listing (listing_so_far (map call_shown calls.now.list.items) k)) (call_shown call.now) (Lists (list_shown list.now)))) (DoneAnd (bare (list_shown list.now).outcome) (Unit {0}))) }
+        requires { k < length replay.old.list.items }
+        ensures ok { IfOk result (λ nodes. AllHold (operation_checks self.now.nodes (settled self.now.store (directory_shown at.now) call.now.listing (listing_so_far (map call_shown replay.old.list.items) k)) (call_shown call.now) (Lists (list_shown list.now))) × (nodes.items ≡ given_in (settled self.now.store (directory_shown at.now) call.now.listing (listing_so_far (map call_shown replay.old.list.items) k)) (call_shown call.now) (Lists (list_shown list.now)))) }
+        ensures refused { IfErr result (λ e. TellsSuch e (FirstFailure (operation_checks self.now.nodes (settled self.now.store (directory_shown at.now) call.now.listing (listing_so_far (map call_shown replay.old.list.items) k)) (call_shown call.now) (Lists (list_shown list.now)))) (DoneAnd (bare (list_shown list.now).outcome) (Unit {0}))) }
+        ensures same { replay.new ≡ replay.old }
     {
         match list.outcome {
             Outcome::Fails(error) => {
                 self.nothing_given(self.may_refuse(at, error), codes::ERROR_WITHOUT_CAUSE)
             }
             Outcome::Succeeds(entries) => {
-                self.judge_entries(at, calls, k, call, list.size, entries)
+                self.judge_entries(at, replay, k, call, list.size, entries)
             }
             Outcome::Unanswered => {
                 self.nothing_given(self.may_list(at), codes::SUCCESS_NOT_ALLOWED)
@@ -186,41 +190,43 @@ impl Tree {
     }
 
     /// Judges a call that lists, whether the tree knows what it names too: the names of nodes that come with it, each with its file.
-    fn judge_named<'a>(
+    fn judge_named(
         &self,
-        calls: &Calls<'a>,
+        replay: &mut Replay<'_>,
         k: usize,
-        call: &Call<'a>,
-        list: &List<'a>,
+        call: &Call<'_>,
+        list: &List<'_>,
     ) -> Result<Vec<(NodeName, FileId)>, StepError>
-        requires there { k < length calls.now.list.items }
+        requires there { k < length replay.old.list.items }
         requires asks { (call_shown call.now).operation ≡ Lists (list_shown list.now) }
         requires listing { call.now.listing ≢ None }
-        ensures ok { IfOk result (λ nodes. (x : Resolved) × (resolved self.now (call_shown call.now) ≡ Some x) × AllHold (operation_checks self.now.nodes (settled self.now.store x call.now.listing (listing_so_far (map call_shown calls.now.list.items) k)) (call_shown call.now) (Lists (list_shown list.now))) × (nodes.items ≡ given_in (settled self.now.store x call.now.listing (listing_so_far (map call_shown calls.now.list.items) k)) (call_shown call.now) (Lists (list_shown list.now)))) }
-        ensures refused { IfErr result (λ e. (wrote : Option ℕ) → TellsOf e (call_shown call.now) (step_checks self.now (call_shown call.now) wrote (listing_so_far (map call_shown calls.now.list.items) k))) }
+        ensures ok { IfOk result (λ nodes. (x : Resolved) × (resolved self.now (call_shown call.now) ≡ Some x) × AllHold (operation_checks self.now.nodes (settled self.now.store x call.now.listing (listing_so_far (map call_shown replay.old.list.items) k)) (call_shown call.now) (Lists (list_shown list.now))) × (nodes.items ≡ given_in (settled self.now.store x call.now.listing (listing_so_far (map call_shown replay.old.list.items) k)) (call_shown call.now) (Lists (list_shown list.now)))) }
+        ensures refused { IfErr result (λ e. (wrote : Option ℕ) → TellsOf e (call_shown call.now) (step_checks self.now (call_shown call.now) wrote (listing_so_far (map call_shown replay.old.list.items) k))) }
+        ensures same { replay.new ≡ replay.old }
     {
         match self.directory_named(call) {
             None => Err(StepError::Refused(codes::UNKNOWN_HERE)),
-            Some(at) => self.judge_listing(&at, calls, k, call, list),
+            Some(at) => self.judge_listing(&at, replay, k, call, list),
         }
     }
 
     /// One step, of a call that lists.
-    pub(crate) fn list<'a>(
+    pub(crate) fn list(
         &mut self,
-        calls: &Calls<'a>,
+        replay: &mut Replay<'_>,
         k: usize,
-        call: &Call<'a>,
-        list: &List<'a>,
+        call: &Call<'_>,
+        list: &List<'_>,
     ) -> Result<(), StepError>
-        requires there { k < length calls.now.list.items }
+        requires there { k < length replay.old.list.items }
         requires asks { (call_shown call.now).operation ≡ Lists (list_shown list.now) }
         requires listing { call.now.listing ≢ None }
-        ensures steps { OnOk result ((wrote : Option ℕ) → Steps self.old self.new (call_shown call.now) wrote (listing_so_far (map call_shown calls.now.list.items) k)) }
-        ensures refused { IfErr result (λ e. (wrote : Option ℕ) → TellsOf e (call_shown call.now) (step_checks self.old (call_shown call.now) wrote (listing_so_far (map call_shown calls.now.list.items) k))) }
+        ensures steps { OnOk result ((wrote : Option ℕ) → Steps self.old self.new (call_shown call.now) wrote (listing_so_far (map call_shown replay.old.list.items) k)) }
+        ensures refused { IfErr result (λ e. (wrote : Option ℕ) → TellsOf e (call_shown call.now) (step_checks self.old (call_shown call.now) wrote (listing_so_far (map call_shown replay.old.list.items) k))) }
+        ensures same { replay.new ≡ replay.old }
         ensures unchanged { OnErr result (self.new ≡ self.old) }
     {
-        let nodes = self.judge_named(calls, k, call, list)?;
+        let nodes = self.judge_named(replay, k, call, list)?;
         if !nodes.is_empty() {
             self.nodes.reserve_for(nodes.len())?;
             self.nodes.bind_all(&nodes);

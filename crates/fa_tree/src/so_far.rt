@@ -38,7 +38,11 @@ pub(crate) fn note_all<'a>(tally: &mut Tally<'a>, entries: Entries<'a>) -> Resul
 }
 
 /// Notes the first so many entries of what the answer to a call lists.
-fn note_answered<'a>(tally: &mut Tally<'a>, call: &Call<'a>, count: u32) -> Result<(), AllocError>
+pub(crate) fn note_answered<'a>(
+    tally: &mut Tally<'a>,
+    call: &Call<'a>,
+    count: u32,
+) -> Result<(), AllocError>
     ensures noted { OnOk result (Notes tally.old tally.new (take count (entries_answered (call_shown call.now).operation))) }
 {
     match &call.operation {
@@ -53,7 +57,7 @@ fn note_answered<'a>(tally: &mut Tally<'a>, call: &Call<'a>, count: u32) -> Resu
 }
 
 /// The place of the call that a call goes on from, if it goes on from one, and how many entries of that one's answer count.
-fn before(calls: &Calls<'_>, call: &Call<'_>) -> Option<(usize, u32)>
+pub(crate) fn before(calls: &Calls<'_>, call: &Call<'_>) -> Option<(usize, u32)>
     ensures found { IfSome result (λ before. (earlier : PlainCall) × (slice_get (map call_shown calls.now.list.items) before.0 ≡ Some earlier) × (going_on_from (map call_shown calls.now.list.items) (call_shown call.now) ≡ Some (earlier, before.1))) }
     ensures none { IfNone result (going_on_from (map call_shown calls.now.list.items) (call_shown call.now) ≡ None) }
 {

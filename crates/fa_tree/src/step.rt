@@ -23,6 +23,7 @@ ghost use Rattle.fa_tree.specs.parts.StepParts.{done_checks};
 use crate::error::StepError;
 use crate::id::FileId;
 use crate::named::Named;
+use crate::replay::Replay;
 use crate::tree::Tree;
 use fa_capture::codes;
 use fa_ledger::{Action, Call, Calls, NodeName, Operation, Outcome};
@@ -89,9 +90,37 @@ impl Tree {
         ensures refused { IfErr result (λ e. OfCallAt (map call_shown calls.now.list.items) k (λ call. TellsOf e call (step_checks self.old call wrote (listing_so_far (map call_shown calls.now.list.items) k)))) }
         ensures unchanged { OnErr result (self.new ≡ self.old) }
     {
-        let call = &calls.list[k];
+        let mut replay = Replay::new(self.stored.alloc, calls);
+        self.step_in(&mut replay, k, wrote)
+    }
+
+    /// The same step, for whoever takes several steps along one list of calls: it answers what [`step`](Tree::step) does of the
+    /// calls of the replay, which stay the same, and leaves the same tree.
+    ///
+    /// `Refused` tells the code that `step` tells; `Memory` that memory was refused. The tree is then as it was, and the next
+    /// step may be taken along the same replay.
+    ///
+    /// Time and memory as `step`, but for READDIR and READDIRPLUS. These take time and memory in the names that they answer, and
+    /// in those of the answer that they go on from, where the step before on the handle was that of this answer or of the same
+    /// request again; elsewhere in all names that were listed so far. The replay keeps these until the step that ends the
+    /// listing. Time in the names that were listed more than once comes on top, and at the end of a listing in the places that
+    /// the directory ever had.
+    pub fn step_in(
+        &mut self,
+        replay: &mut Replay<'_>,
+        k: usize,
+        wrote: Option<u32>,
+    ) -> Result<(), StepError>
+        requires there { k < length replay.old.list.items }
+        requires allowed { OfCallAt (map call_shown replay.old.list.items) k (λ call. Allows call wrote) }
+        ensures steps { OnOk result (OfCallAt (map call_shown replay.old.list.items) k (λ call. Steps self.old self.new call wrote (listing_so_far (map call_shown replay.old.list.items) k))) }
+        ensures refused { IfErr result (λ e. OfCallAt (map call_shown replay.old.list.items) k (λ call. TellsOf e call (step_checks self.old call wrote (listing_so_far (map call_shown replay.old.list.items) k)))) }
+        ensures unchanged { OnErr result (self.new ≡ self.old) }
+        ensures same { replay.new ≡ replay.old }
+    {
+        let call = &replay.calls().list[k];
         match &call.operation {
-            Operation::List(list) => self.list(calls, k, call, list),
+            Operation::List(list) => self.list(replay, k, call, list),
             Operation::Act(action) => self.act(call, action, wrote),
         }
     }

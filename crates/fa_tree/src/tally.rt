@@ -1,10 +1,10 @@
 //! How often names were listed.
 
-ghost use Rattle.std.specs.Prelude.{◌≡◌, ◌↔◌, ◌≤◌, ◌<◌, ◌+◌, [], ◌∷◌, cond, ℕ, true, false, List, IsTrue, OnOk, OnErr};
+ghost use Rattle.std.specs.Prelude.{◌≡◌, ◌↔◌, ◌≤◌, ◌<◌, ◌+◌, [], ◌∷◌, cond, ℕ, true, false, List, None, is_some, IsTrue, OnOk, OnErr};
 ghost use Rattle.std.specs.Bool.{MatchBool};
 ghost use Rattle.std.specs.Fn.{FnReturnsAt};
 ghost use Rattle.std.specs.Str.{bytes_eq};
-ghost use Rattle.fa_tree.specs.parts.TallyParts.{Tallies};
+ghost use Rattle.fa_tree.specs.parts.TallyParts.{Tallies, tally_of};
 
 use indexmap::IndexMap;
 use std::alloc::{AllocError, Global};
@@ -29,20 +29,31 @@ impl Hash for Listed<'_> {
     }
 }
 
-/// Names that were listed, each with whether that was more than once.
+/// Names that were listed.
 #[derive(Drop)]
 pub(crate) struct Tally<'a> {
+    /// Each, with whether that was more than once.
     pub names: IndexMap<Listed<'a>, bool>,
+    /// Those that were listed more than once.
+    pub again: Vec<Listed<'a>>,
 }
 
 impl<'a> Tally<'a> {
-    /// No name was listed. The table takes memory from `alloc` later.
+    /// No name was listed. What is noted later takes memory from `alloc`.
     pub fn new(alloc: Global) -> Self
         ensures { Tallies result (λ name. 0) }
     {
         Tally {
             names: IndexMap::new(alloc),
+            again: Vec::new(alloc),
         }
+    }
+
+    /// Whether no name was listed.
+    pub fn is_empty(&self) -> bool
+        ensures { IsTrue result → (name : List ℕ) → tally_of self.now name ≡ None }
+    {
+        self.names.is_empty()
     }
 
     /// Notes that the name was listed once more. An error says that memory was refused, and nothing is changed.
@@ -50,11 +61,14 @@ impl<'a> Tally<'a> {
     /// Expected time in the bytes of the name, but for what growing costs.
     pub fn note(&mut self, name: &'a [u8]) -> Result<(), AllocError>
         ensures noted { OnOk result ((times : List ℕ → ℕ) → Tallies self.old times → Tallies self.new (λ other. times other + cond (bytes_eq name.now other) 1 0)) }
-        ensures unchanged { OnErr result (self.new.names.entries ≡ self.old.names.entries) }
+        ensures unchanged { OnErr result ((times : List ℕ → ℕ) → Tallies self.old times → Tallies self.new times) }
     {
         match self.names.get_mut(&Listed { name }) {
             Some(more) => {
-                *more = true;
+                if !*more {
+                    self.again.push(Listed { name })?;
+                    *more = true;
+                }
                 Ok(())
             }
             None => {
@@ -66,18 +80,17 @@ impl<'a> Tally<'a> {
 
     /// Whether the name was listed. Takes no memory, in expected time of the bytes of the name.
     pub fn has(&self, name: &[u8]) -> bool
-        ensures { (times : List ℕ → ℕ) → Tallies self.now times → IsTrue result ↔ (1 ≤ times name.now) }
+        ensures listed { (times : List ℕ → ℕ) → Tallies self.now times → IsTrue result ↔ (1 ≤ times name.now) }
+        ensures told { result ≡ is_some (tally_of self.now name.now) }
     {
         self.names.contains_key(&Listed { name })
     }
 
-    /// Whether this holds of each name that was listed more than once. Takes no memory, in time of the names and of what it asks.
+    /// Whether this holds of each name that was listed more than once. Takes no memory, in time of those names and of what it asks.
     pub fn all_repeated<F: Fn(&[u8]) -> bool + Drop>(&self, holds: F) -> bool
         requires { F.IsAlwaysCallable holds }
         ensures { (times : List ℕ → ℕ) → Tallies self.now times → MatchBool result ((name : List ℕ) → 1 < times name → FnReturnsAt F.Fn holds name true) ((name : List ℕ) × (1 < times name) × FnReturnsAt F.Fn holds name false) }
     {
-        self.names
-            .iter()
-            .all(|(listed, more)| !*more || holds(listed.name))
+        self.again.iter().all(|listed| holds(listed.name))
     }
 }

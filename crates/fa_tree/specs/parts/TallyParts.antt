@@ -1,5 +1,5 @@
 -- How often names were listed, as a tally of them tells it.
-use Rattle.std.specs.Prelude.{◌≡◌, ◌+◌, ℕ, zero, suc, Bool, true, false, IsTrue, List, [], ◌∷◌, Option, None, Some, option_map, option_and_then}
+use Rattle.std.specs.Prelude.{◌≡◌, ◌+◌, ◌<◌, slice_get, ℕ, zero, suc, Bool, true, false, IsTrue, List, [], ◌∷◌, Option, None, Some, option_map, option_and_then}
 use Rattle.std.proofs.Common.{ap}
 use Rattle.std.specs.Cmp.Lexicographic.{bytes_decides}
 use Rattle.std.specs.Map.{lookup}
@@ -7,6 +7,7 @@ use Rattle.std.specs.Str.{bytes_eq}
 use Rattle.fa_bodies.specs.Dirents.{PlainDirent}
 use Rattle.fa_ledger.specs.Calls.{PlainCall}
 use Rattle.fa_ledger.specs.SoFar.{call_asked, before_of}
+use Rattle.fa_tree.specs.declared.tally.Listed.{Listed}
 use Rattle.fa_tree.specs.declared.tally.Tally.{Tally}
 use Rattle.fa_tree.specs.Directories.{times_listed}
 
@@ -24,9 +25,15 @@ tallied (suc (suc more)) = Some true
 abbrev pub tally_of : Tally → List ℕ → Option Bool
 tally_of tally name = lookup (λ listed. bytes_eq name listed.name.now) tally.names.entries
 
--- the tally tells how many times each name was listed
-abbrev pub Tallies : Tally → (times : List ℕ → ℕ) → Type 0
-Tallies tally times = (name : List ℕ) → tally_of tally name ≡ tallied (times name)
+-- the name stands among these
+abbrev pub IsAmong : List Listed → List ℕ → Type 0
+IsAmong names name = (k : ℕ) × (listed : Listed) × (slice_get names k ≡ Some listed) × (listed.name.now ≡ name)
+
+-- The tally tells how many times each name was listed, and which of them more than once.
+pub record Tallies (tally : Tally) (times : List ℕ → ℕ) : Type 0 where
+  pub told : (name : List ℕ) → tally_of tally name ≡ tallied (times name)
+  pub again : (name : List ℕ) → 1 < times name → IsAmong tally.again.items name
+  pub only : (k : ℕ) (listed : Listed) → slice_get tally.again.items k ≡ Some listed → 1 < times listed.name.now
 
 -- these entries were noted in between
 abbrev pub Notes : (old new : Tally) → List PlainDirent → Type 0

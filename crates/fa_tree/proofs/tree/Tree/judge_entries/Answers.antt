@@ -13,7 +13,7 @@ returns-then-not-branch-2-clause-refused c = inr (
     inr (
       subst (AreBound c.args.self.now.nodes) (c.deref.ensures.value ∙ c.in_ok-nodes.ensures
           ∙ ap (λ names. bound names (files_listed c.args.self.now.store (open_of c.args.at.now.names).directory (entries_left c.args.entries))) c.names_given.ensures) (c.in_ok-may_bind_all.ensures.0 c.if-not-branch.false),
-      inl (λ are. (let clash : false ≡ true = sym c.if-not-branch-2.true ∙ c.in_ok-entries_are.ensures.1 are in absurd cc), refl),
+      inl (λ are. (let clash : false ≡ true = sym c.if-not-branch-2.true ∙ c.in_ok-entries_are.ensures.are.1 are in absurd cc), refl),
     ),
   ),
 )

@@ -1,4 +1,4 @@
-use Rattle.std.proofs.Common.{rules, ◌≡◌, ℤ, ap, sym, subst, ◌∙◌}
+use Rattle.std.proofs.Common.{rules, ◌≡◌, ℤ, refl, ap, sym, subst, ◌∙◌}
 use Rattle.std.specs.Prelude.{map}
 use Rattle.std.specs.Int.{w32}
 use Rattle.std.proofs.lemmas.Int.{to_z-of_z}
@@ -22,7 +22,7 @@ returns-in-Fails c =
     let x = directory_shown c.args.at.now in
     let call = call_shown c.args.call.now in
     let l = list_shown c.args.list.now in
-    let so_far = listing_so_far (map call_shown c.args.calls.now.list.items) c.args.k in
+    let so_far = listing_so_far (map call_shown c.args.replay.now.list.items) c.args.k in
     let fits : SFits w32 c.in-Fails.error = search rules in
     let same = to_z-of_z w32 c.in-Fails.error fits in
     let is : l.outcome ≡ Fails c.in-Fails.error = ap (with_success entries_left) c.in-Fails.is in
@@ -36,6 +36,7 @@ returns-in-Fails c =
           tells e ERROR_WITHOUT_CAUSE _ _ refused.0
           (error_fails c.args.self.now.nodes c.args.self.now.store x call so_far l.size l.outcome c.in-Fails.error is (λ caused. untrue c.may_refuse.result refused.1 (c.may_refuse.ensures.1 (subst Caused (sym same) caused)))))
           c.nothing_given.ensures.refused;
+      same = refl;
     }
 
 pub returns-in-Succeeds : goal.returns-in-Succeeds
@@ -43,7 +44,7 @@ returns-in-Succeeds c =
     let x = directory_shown c.args.at.now in
     let call = call_shown c.args.call.now in
     let l = list_shown c.args.list.now in
-    let so_far = listing_so_far (map call_shown c.args.calls.now.list.items) c.args.k in
+    let so_far = listing_so_far (map call_shown c.args.replay.now.list.items) c.args.k in
     let entries = entries_left c.in-Succeeds.entries in
     let is : l.outcome ≡ Succeeds entries = ap (with_success entries_left) c.in-Succeeds.is in
     record {
@@ -54,6 +55,7 @@ returns-in-Succeeds c =
       refused = err_also c.judge_entries.result _ _ (λ e refused.
           such_also e _ _ _ _ (λ code failure. entries_fail c.args.self.now.nodes c.args.self.now.store x call so_far l.size l.outcome entries is code failure)
           (λ may. entries_grow c.args.self.now.nodes c.args.self.now.store x call so_far l.size l.outcome entries is) refused) c.judge_entries.ensures.refused;
+      same = c.judge_entries.ensures.same;
     }
 
 pub returns-in-Unanswered : goal.returns-in-Unanswered
@@ -61,7 +63,7 @@ returns-in-Unanswered c =
     let x = directory_shown c.args.at.now in
     let call = call_shown c.args.call.now in
     let l = list_shown c.args.list.now in
-    let so_far = listing_so_far (map call_shown c.args.calls.now.list.items) c.args.k in
+    let so_far = listing_so_far (map call_shown c.args.replay.now.list.items) c.args.k in
     let is : l.outcome ≡ Unanswered = ap (with_success entries_left) c.in-Unanswered.is in
     record {
       ok = each_ok c.nothing_given-in-Unanswered.result _ _ (λ nodes told. (
@@ -72,4 +74,5 @@ returns-in-Unanswered c =
           tells e SUCCESS_NOT_ALLOWED _ _ refused.0
           (unanswered_fails c.args.self.now.nodes c.args.self.now.store x call so_far l.size l.outcome is (λ may. untrue c.may_list.result refused.1 (c.may_list.ensures.1 may))))
           c.nothing_given-in-Unanswered.ensures.refused;
+      same = refl;
     }

@@ -1,0 +1,180 @@
+//! The calls of a capture while steps are taken along them, with what was listed so far.
+
+ghost use Rattle.std.specs.Prelude.{◌≡◌, ◌<◌, length, take, IfOk, IfSome, IsTrue};
+ghost use Rattle.fa_ledger.specs.Calls.{call_shown};
+ghost use Rattle.fa_ledger.specs.SoFar.{before_of, entries_answered};
+ghost use Rattle.fa_tree.specs.parts.ReplayParts.{IsTallyAt, IsTold};
+ghost use Rattle.fa_tree.specs.parts.TallyParts.{Notes};
+
+use crate::so_far::{before, note_answered, note_so_far};
+use crate::tally::Tally;
+use fa_ledger::{Call, Calls};
+use indexmap::IndexMap;
+use std::alloc::{AllocError, Global};
+use std::marker::Model;
+
+/// What was listed so far for a call, without its own answer.
+#[derive(Drop)]
+pub(crate) struct ListedSoFar<'c> {
+    /// The place of the call.
+    pub at: usize,
+    pub tally: Tally<'c>,
+}
+
+/// The calls of a capture, for steps that are taken along them, one after the other ([`Tree::step_in`](crate::Tree::step_in)).
+/// What was listed so far is kept from one step to the next, so that each answer of a listing that goes straight on is gone
+/// through once. Nothing that is kept shows in what a step answers: to its callers a `Replay` is its calls.
+///
+/// It takes memory for the names of listings that are not at their end, at most for those that the answers of its calls list.
+#[derive(Drop)]
+pub struct Replay<'c> {
+    calls: &'c Calls<'c>,
+    /// For handles of directories, by the numbers of the requests that opened them, what was listed so far for a call on them.
+    so_far: IndexMap<u32, ListedSoFar<'c>>,
+    alloc: Global,
+}
+
+impl<'c> Model for Replay<'c> {
+    ghost use Rattle.fa_ledger.specs.declared.calls.Calls.{Calls};
+
+    ghost Value = { Calls };
+
+    ghost use Rattle.fa_tree.specs.parts.ReplayParts.{calls_of, AreTold};
+
+    ghost view = { calls_of };
+
+    ghost invariant = { AreTold };
+}
+
+impl<'c> Replay<'c> {
+    /// The calls, before any step. What is kept later takes memory from `alloc`.
+    ///
+    /// Takes no memory, in constant time.
+    pub fn new(alloc: Global, calls: &'c Calls<'c>) -> Self
+        ensures { result ≡ calls.now }
+    {
+        Replay {
+            calls,
+            so_far: IndexMap::new(alloc),
+            alloc,
+        }
+    }
+
+    /// The calls.
+    ///
+    /// Takes no memory, in constant time.
+    pub fn calls(&self) -> &'c Calls<'c>
+        ensures { result.now ≡ self.now }
+    {
+        self.calls
+    }
+
+    /// What was listed so far for the call at this place. What is kept for its handle is taken away for it; `keep` puts it back.
+    /// An error says that memory was refused, and nothing is kept for the handle then.
+    ///
+    /// Where what is kept is that of the call that it goes on from, or of one that goes on from the same, expected time and
+    /// memory in the names of that one call's answer, and time logarithmic in the calls. Elsewhere as
+    /// [`note_so_far`](crate::so_far::note_so_far).
+    pub(crate) fn take(&mut self, k: usize) -> Result<Tally<'c>, AllocError>
+        requires { k < length self.old.list.items }
+        ensures told { IfOk result (IsTallyAt self.old k) }
+        ensures same { self.new ≡ self.old }
+    {
+        let alloc = self.alloc;
+        let calls = self.calls;
+        match self.take_kept(&calls.list[k]) {
+            Some(kept) => go_on(alloc, calls, kept, k),
+            None => tally_anew(alloc, calls, k),
+        }
+    }
+
+    /// Keeps what was listed so far for the call at this place, if calls may come that need it. Where memory is refused it is
+    /// not kept.
+    pub(crate) fn keep(&mut self, k: usize, tally: Tally<'c>)
+        requires there { k < length self.old.list.items }
+        requires told { IsTallyAt self.old k tally }
+        ensures same { self.new ≡ self.old }
+    {
+        let calls = self.calls;
+        if let Some(handle) = handle_gone_on(&calls.list[k]) {
+            let _ = self.so_far.insert(handle, ListedSoFar { at: k, tally });
+        }
+    }
+
+    /// Takes away what is kept for the handle of a call, if the call goes on from another.
+    fn take_kept(&mut self, call: &Call<'_>) -> Option<ListedSoFar<'c>>
+        ensures told { IfSome result (IsTold self.old) }
+        ensures same { self.new ≡ self.old }
+    {
+        let handle = handle_gone_on(call)?;
+        self.so_far.swap_remove(&handle)
+    }
+}
+
+/// The handle of a call that goes on from another. One that begins a listing needs nothing that is kept.
+fn handle_gone_on(call: &Call<'_>) -> Option<u32> {
+    call.listing?.before?;
+    call.handle
+}
+
+/// What a call goes on from: the number of a request, and how many entries of its answer count.
+fn asked_before(call: &Call<'_>) -> Option<(u32, u32)>
+    ensures { result ≡ before_of (call_shown call.now) }
+{
+    call.listing?.before
+}
+
+/// Whether two calls go on from the same.
+fn go_on_alike(call: &Call<'_>, other: &Call<'_>) -> bool
+    ensures { IsTrue result → before_of (call_shown call.now) ≡ before_of (call_shown other.now) }
+{
+    asked_before(call) == asked_before(other)
+}
+
+/// What was listed so far for the call at this place, gone through from the call back.
+fn tally_anew<'c>(alloc: Global, calls: &Calls<'c>, k: usize) -> Result<Tally<'c>, AllocError>
+    requires { k < length calls.now.list.items }
+    ensures { IfOk result (IsTallyAt calls.now k) }
+{
+    let mut tally = Tally::new(alloc);
+    note_so_far(&mut tally, calls, k)?;
+    Ok(tally)
+}
+
+/// What was listed so far for a call that goes on from this one: what was for this one, and so many entries of its answer.
+fn note_after<'c>(so_far: Tally<'c>, call: &Call<'c>, count: u32) -> Result<Tally<'c>, AllocError>
+    ensures { IfOk result (λ after. Notes so_far.entry after (take count (entries_answered (call_shown call.now).operation))) }
+{
+    let mut tally = so_far;
+    note_answered(&mut tally, call, count)?;
+    Ok(tally)
+}
+
+/// What was listed so far for the call at this place, after what was for another one.
+fn go_on<'c>(
+    alloc: Global,
+    calls: &Calls<'c>,
+    kept: ListedSoFar<'c>,
+    k: usize,
+) -> Result<Tally<'c>, AllocError>
+    requires there { k < length calls.now.list.items }
+    requires told { IsTold calls.now kept }
+    ensures { IfOk result (IsTallyAt calls.now k) }
+{
+    let ListedSoFar { at, tally } = kept;
+    let call = &calls.list[k];
+    let last = &calls.list[at];
+    if go_on_alike(call, last) {
+        return Ok(tally);
+    }
+    match before(calls, call) {
+        Some((earlier, count)) => {
+            if earlier == at {
+                note_after(tally, last, count)
+            } else {
+                tally_anew(alloc, calls, k)
+            }
+        }
+        None => tally_anew(alloc, calls, k),
+    }
+}
