@@ -89,17 +89,28 @@ none_replayed calls first s shape none = record {
 }
 
 -- one more entry
-pub replayed_next : (calls : Calls) (first new : TreeState) (order : List Entry) (i : ℕ) (d : Entry) (t : Placing) → i < length order
+replayed_next : (calls : Calls) (first new : TreeState) (order : List Entry) (i : ℕ) (d : Entry) (t : Placing) → i < length order
     → IsReplayed calls first new (take i order ++ get_or order i d ∷ []) t → IsReplayed calls first new (take (i + 1) order) t
 replayed_next calls first new order i d t within so_far =
     subst (λ es. IsReplayed calls first new es t) (sym (take_one_more order i (get_or order i d) (slice_get-get_or order i d within))) so_far
+
+-- one more entry, along calls that stay the same
+pub along_next : (along after calls : Calls) (first tree new : TreeState) (order : List Entry) (i : ℕ) (d : Entry) (s t : Placing) → i < length order → along ≡ calls → after ≡ along
+    → ((first : TreeState) (es : List Entry) → IsReplayed along first tree es s → IsReplayed along first new (es ++ get_or order i d ∷ []) t)
+    → IsReplayed calls first tree (take i order) s → (after ≡ calls) × IsReplayed calls first new (take (i + 1) order) t
+along_next along after calls first tree new order i d s t within is same placed so_far = (
+  same ∙ is,
+  replayed_next calls first new order i d t within
+      (subst (λ (x : Calls). IsReplayed x first new (take i order ++ get_or order i d ∷ []) t) is
+      (placed first (take i order) (subst (λ (x : Calls). IsReplayed x first tree (take i order) s) (sym is) so_far))),
+)
 
 -- all entries
 pub all_replayed : (calls : Calls) (first last : TreeState) (order : List Entry) (i : ℕ) (s : Placing) → length order ≤ i → IsReplayed calls first last (take i order) s → IsReplayed calls first last order s
 all_replayed calls first last order i s end so_far = subst (λ es. IsReplayed calls first last es s) (take_all i order end) so_far
 
 -- the entry at this place fails
-pub failed_at : (calls : Calls) (first tree : TreeState) (order : List Entry) (i : ℕ) (d : Entry) (s : Placing) (count : ℕ) (error : StepError) → i < length order
+failed_at : (calls : Calls) (first tree : TreeState) (order : List Entry) (i : ℕ) (d : Entry) (s : Placing) (count : ℕ) (error : StepError) → i < length order
     → IsReplayed calls first tree (take i order) s → NextFails calls tree (get_or order i d) s error → count ≡ s.count
     → (c : List Message) → AreMessagesOf calls c → IfOk (answer_to count (get_or order i d).at error) (IsVerdict c first order)
 failed_at calls first tree order i d s count Memory within so_far fails counted c is = tt
@@ -117,3 +128,10 @@ failed_at calls first tree order i d s count (Refused code) within so_far fails 
       run = before.1;
       fails = fails first (take i order) so_far c is;
     })
+
+-- along calls that stay the same
+pub failed_along : (along calls : Calls) (first tree : TreeState) (order : List Entry) (i : ℕ) (d : Entry) (s : Placing) (count : ℕ) (error : StepError) → i < length order → along ≡ calls
+    → IsReplayed calls first tree (take i order) s → NextFails along tree (get_or order i d) s error → count ≡ s.count
+    → (c : List Message) → AreMessagesOf calls c → IfOk (answer_to count (get_or order i d).at error) (IsVerdict c first order)
+failed_along along calls first tree order i d s count error within is so_far fails =
+    failed_at calls first tree order i d s count error within so_far (subst (λ (x : Calls). NextFails x tree (get_or order i d) s error) is fails)

@@ -12,7 +12,7 @@ use crate::placing::Placing;
 use crate::verdict::Verdict;
 use fa_ledger::Calls;
 use fa_order::Entry;
-use fa_tree::{StepError, Tree};
+use fa_tree::{Replay, StepError, Tree};
 use std::alloc::{AllocError, Global};
 
 /// Whether an order of the tree requests of a capture is legal: it is valid, and its entries are a run of the tree machine from
@@ -37,8 +37,8 @@ use std::alloc::{AllocError, Global};
 ///
 /// # Cost
 ///
-/// A byte of memory for each message and each call, and what the steps take. Time linear in the messages, the calls and the
-/// entries, with a logarithm of the calls for each entry, beside the steps.
+/// A byte of memory for each message and each call, and what the steps take, along one [`Replay`](fa_tree::Replay). Time linear
+/// in the messages, the calls and the entries, with a logarithm of the calls for each entry, beside the steps.
 pub fn check(
     alloc: Global,
     calls: &Calls<'_>,
@@ -52,8 +52,9 @@ pub fn check(
 {
     let mut tree = tree;
     let mut placing = Placing::new(alloc, calls)?;
+    let mut replay = Replay::new(alloc, calls);
     for entry in order {
-        if let Err(error) = placing.place(calls, &mut tree, *entry) {
+        if let Err(error) = placing.place_in(&mut replay, &mut tree, *entry) {
             return told(placing.count, entry.at, error);
         }
     }

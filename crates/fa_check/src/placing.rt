@@ -17,7 +17,7 @@ use crate::verdict::Verdict;
 use fa_capture::codes;
 use fa_ledger::Calls;
 use fa_order::Entry;
-use fa_tree::{StepError, Tree};
+use fa_tree::{Replay, StepError, Tree};
 use std::alloc::{AllocError, Global};
 
 /// Which calls are placed by the entries of an order so far, one entry after the other.
@@ -134,8 +134,35 @@ impl Placing {
         ensures refused { IfErr result (NextFails calls.now tree.old entry self.old) }
         ensures unchanged { OnErr result ((self.new ≡ self.old) × (tree.new ≡ tree.old)) }
     {
+        let mut replay = Replay::new(*self.marks.allocator(), calls);
+        self.place_in(&mut replay, tree, entry)
+    }
+
+    /// The same, for whoever places several entries of an order: the calls are those of the replay, which stay the same.
+    ///
+    /// # Errors
+    ///
+    /// Those of [`place`](Placing::place). Nothing is placed then, the tree is as it was, and the next entry may be placed along
+    /// the same replay.
+    ///
+    /// # Cost
+    ///
+    /// That of `place`, with the step's as [`Tree::step_in`](fa_tree::Tree::step_in) has it.
+    pub fn place_in(
+        &mut self,
+        replay: &mut Replay<'_>,
+        tree: &mut Tree,
+        entry: Entry,
+    ) -> Result<(), StepError>
+        requires { IsPlacing (map call_shown replay.old.list.items) replay.old.messages self.old }
+        ensures placed { OnOk result ((first : TreeState) (es : List TheEntry) → IsReplayed replay.old first tree.old es self.old → IsReplayed replay.old first tree.new (es ++ entry ∷ []) self.new) }
+        ensures refused { IfErr result (NextFails replay.old tree.old entry self.old) }
+        ensures unchanged { OnErr result ((self.new ≡ self.old) × (tree.new ≡ tree.old)) }
+        ensures same { replay.new ≡ replay.old }
+    {
+        let calls = replay.calls();
         let place = self.check(calls, entry)?;
-        tree.step(calls, place, entry.wrote)?;
+        tree.step_in(replay, place, entry.wrote)?;
         self.note(calls, place);
         Ok(())
     }

@@ -2,7 +2,7 @@ use Rattle.std.proofs.Common.{◌≡◌, take, Result, Ok, Err, refl, sym, ap, s
 use Rattle.std.specs.Prelude.{OnOk, IfOk}
 use Rattle.fa_check.specs.declared.placing.Placing.{Placing}
 use Rattle.fa_check.specs.Verdicts.{IsVerdict}
-use Rattle.fa_check.proofs.VerdictLemmas.{legal_exactly, not_shown_exactly, never_fault, replayed_next, all_replayed, failed_at}
+use Rattle.fa_check.proofs.VerdictLemmas.{legal_exactly, not_shown_exactly, never_fault, along_next, all_replayed, failed_along}
 use Rattle.fa_check.proofs.UnknownLemmas.{never_unknown}
 use Rattle.fa_check.proofs.checking.check.Goals as goal
 
@@ -12,61 +12,61 @@ on_ok (Ok a) P holds other = holds
 on_ok (Err e) P holds other = absurd (other e refl)
 
 pub loop-entry-init : goal.loop-entry-init
-loop-entry-init c = c.in_ok-placing.ensures c.args.tree
+loop-entry-init c = (c.new-replay.ensures, c.in_ok-placing.ensures c.args.tree)
 
 pub returns-in-Err-clause-legal : goal.returns-in-Err-clause-legal
 returns-in-Err-clause-legal c = λ messages is.
     legal_exactly messages c.args.tree c.args.order.now c.told.result
     (subst (λ r. IfOk r (IsVerdict messages c.args.tree c.args.order.now)) (sym c.told.ensures)
-    (failed_at c.args.calls.now c.args.tree c.loop-entry.tree c.args.order.now c.loop-entry.entry-index _ c.loop-entry.placing c.place.new.self.count c.in-Err.error c.loop-entry-test.true c.loop-entry.invariant
+    (failed_along c.loop-entry.replay c.args.calls.now c.args.tree c.loop-entry.tree c.args.order.now c.loop-entry.entry-index _ c.loop-entry.placing c.place_in.new.self.count c.in-Err.error c.loop-entry-test.true c.loop-entry.invariant.0 c.loop-entry.invariant.1
     c.in-Err.ensures.refused (ap (λ (s : Placing). s.count) c.in-Err.ensures.unchanged.0) messages is))
 
 pub returns-in-Err-clause-not_shown : goal.returns-in-Err-clause-not_shown
 returns-in-Err-clause-not_shown c = λ messages is.
     not_shown_exactly messages c.args.tree c.args.order.now c.told.result
     (subst (λ r. IfOk r (IsVerdict messages c.args.tree c.args.order.now)) (sym c.told.ensures)
-    (failed_at c.args.calls.now c.args.tree c.loop-entry.tree c.args.order.now c.loop-entry.entry-index _ c.loop-entry.placing c.place.new.self.count c.in-Err.error c.loop-entry-test.true c.loop-entry.invariant
+    (failed_along c.loop-entry.replay c.args.calls.now c.args.tree c.loop-entry.tree c.args.order.now c.loop-entry.entry-index _ c.loop-entry.placing c.place_in.new.self.count c.in-Err.error c.loop-entry-test.true c.loop-entry.invariant.0 c.loop-entry.invariant.1
     c.in-Err.ensures.refused (ap (λ (s : Placing). s.count) c.in-Err.ensures.unchanged.0) messages is))
 
 pub returns-in-Err-clause-never_fault : goal.returns-in-Err-clause-never_fault
 returns-in-Err-clause-never_fault c =
     never_fault c.args.calls.now c.args.tree c.args.order.now c.told.result (λ messages is.
     subst (λ r. IfOk r (IsVerdict messages c.args.tree c.args.order.now)) (sym c.told.ensures)
-    (failed_at c.args.calls.now c.args.tree c.loop-entry.tree c.args.order.now c.loop-entry.entry-index _ c.loop-entry.placing c.place.new.self.count c.in-Err.error c.loop-entry-test.true c.loop-entry.invariant
+    (failed_along c.loop-entry.replay c.args.calls.now c.args.tree c.loop-entry.tree c.args.order.now c.loop-entry.entry-index _ c.loop-entry.placing c.place_in.new.self.count c.in-Err.error c.loop-entry-test.true c.loop-entry.invariant.0 c.loop-entry.invariant.1
     c.in-Err.ensures.refused (ap (λ (s : Placing). s.count) c.in-Err.ensures.unchanged.0) messages is))
 
 pub returns-in-Err-clause-never_unknown : goal.returns-in-Err-clause-never_unknown
 returns-in-Err-clause-never_unknown c =
     never_unknown c.args.calls.now c.args.tree c.args.order.now c.told.result (λ messages is.
     subst (λ r. IfOk r (IsVerdict messages c.args.tree c.args.order.now)) (sym c.told.ensures)
-    (failed_at c.args.calls.now c.args.tree c.loop-entry.tree c.args.order.now c.loop-entry.entry-index _ c.loop-entry.placing c.place.new.self.count c.in-Err.error c.loop-entry-test.true c.loop-entry.invariant
+    (failed_along c.loop-entry.replay c.args.calls.now c.args.tree c.loop-entry.tree c.args.order.now c.loop-entry.entry-index _ c.loop-entry.placing c.place_in.new.self.count c.in-Err.error c.loop-entry-test.true c.loop-entry.invariant.0 c.loop-entry.invariant.1
     c.in-Err.ensures.refused (ap (λ (s : Placing). s.count) c.in-Err.ensures.unchanged.0) messages is))
 
 pub loop-entry-preserved : goal.loop-entry-preserved
 loop-entry-preserved c =
-    replayed_next c.args.calls.now c.args.tree c.place.new.tree c.args.order.now c.loop-entry.entry-index _ c.place.new.self c.loop-entry-test.true
-    (on_ok c.place.result _ c.place.ensures.placed c.in_default.not-Err c.args.tree (take c.loop-entry.entry-index c.args.order.now) c.loop-entry.invariant)
+    along_next c.loop-entry.replay c.place_in.new.replay c.args.calls.now c.args.tree c.loop-entry.tree c.place_in.new.tree c.args.order.now c.loop-entry.entry-index _ c.loop-entry.placing c.place_in.new.self
+    c.loop-entry-test.true c.loop-entry.invariant.0 c.place_in.ensures.same (on_ok c.place_in.result _ c.place_in.ensures.placed c.in_default.not-Err) c.loop-entry.invariant.1
 
 pub returns-clause-legal : goal.returns-clause-legal
 returns-clause-legal c = λ messages is.
     legal_exactly messages c.args.tree c.args.order.now (Ok c.verdict.result)
     (c.verdict.ensures c.args.tree c.loop-entry.tree c.args.order.now
-    (all_replayed c.args.calls.now c.args.tree c.loop-entry.tree c.args.order.now c.loop-entry.entry-index c.loop-entry.placing c.loop-entry-test.false c.loop-entry.invariant) messages is)
+    (all_replayed c.args.calls.now c.args.tree c.loop-entry.tree c.args.order.now c.loop-entry.entry-index c.loop-entry.placing c.loop-entry-test.false c.loop-entry.invariant.1) messages is)
 
 pub returns-clause-not_shown : goal.returns-clause-not_shown
 returns-clause-not_shown c = λ messages is.
     not_shown_exactly messages c.args.tree c.args.order.now (Ok c.verdict.result)
     (c.verdict.ensures c.args.tree c.loop-entry.tree c.args.order.now
-    (all_replayed c.args.calls.now c.args.tree c.loop-entry.tree c.args.order.now c.loop-entry.entry-index c.loop-entry.placing c.loop-entry-test.false c.loop-entry.invariant) messages is)
+    (all_replayed c.args.calls.now c.args.tree c.loop-entry.tree c.args.order.now c.loop-entry.entry-index c.loop-entry.placing c.loop-entry-test.false c.loop-entry.invariant.1) messages is)
 
 pub returns-clause-never_fault : goal.returns-clause-never_fault
 returns-clause-never_fault c =
     never_fault c.args.calls.now c.args.tree c.args.order.now (Ok c.verdict.result) (λ messages is.
     c.verdict.ensures c.args.tree c.loop-entry.tree c.args.order.now
-    (all_replayed c.args.calls.now c.args.tree c.loop-entry.tree c.args.order.now c.loop-entry.entry-index c.loop-entry.placing c.loop-entry-test.false c.loop-entry.invariant) messages is)
+    (all_replayed c.args.calls.now c.args.tree c.loop-entry.tree c.args.order.now c.loop-entry.entry-index c.loop-entry.placing c.loop-entry-test.false c.loop-entry.invariant.1) messages is)
 
 pub returns-clause-never_unknown : goal.returns-clause-never_unknown
 returns-clause-never_unknown c =
     never_unknown c.args.calls.now c.args.tree c.args.order.now (Ok c.verdict.result) (λ messages is.
     c.verdict.ensures c.args.tree c.loop-entry.tree c.args.order.now
-    (all_replayed c.args.calls.now c.args.tree c.loop-entry.tree c.args.order.now c.loop-entry.entry-index c.loop-entry.placing c.loop-entry-test.false c.loop-entry.invariant) messages is)
+    (all_replayed c.args.calls.now c.args.tree c.loop-entry.tree c.args.order.now c.loop-entry.entry-index c.loop-entry.placing c.loop-entry-test.false c.loop-entry.invariant.1) messages is)
