@@ -39,10 +39,26 @@ none_left (suc n) xs empty = ap (take (suc n)) (empty (omega arith))
 -- ---- what was tried
 
 -- what is replayed up to the same tree and placing
-pub from_here : (calls : Calls) (tree now : TreeState) (placing s : Placing) → now ≡ tree → s ≡ placing → (first : TreeState) (es : List Entry)
+from_here : (calls : Calls) (tree now : TreeState) (placing s : Placing) → now ≡ tree → s ≡ placing → (first : TreeState) (es : List Entry)
     → IsReplayed calls first tree es placing → IsReplayed calls first now es s
 from_here calls tree now placing s same_tree same_placing first es so_far =
     subst (λ (p : Placing). IsReplayed calls first now es p) (sym same_placing) (subst (λ (t : TreeState). IsReplayed calls first t es placing) (sym same_tree) so_far)
+
+-- what is placed along calls that stay the same
+pub placed_along : (along calls : Calls) (tree now new : TreeState) (placing s t : Placing) (e : Entry) → along ≡ calls → now ≡ tree → s ≡ placing
+    → ((first : TreeState) (es : List Entry) → IsReplayed along first now es s → IsReplayed along first new (es ++ e ∷ []) t)
+    → (first : TreeState) (es : List Entry) → IsReplayed calls first tree es placing → IsReplayed calls first new (es ++ e ∷ []) t
+placed_along along calls tree now new placing s t e is same_tree same_placing placed first es so_far =
+    subst (λ (x : Calls). IsReplayed x first new (es ++ e ∷ []) t) is
+    (placed first es (subst (λ (x : Calls). IsReplayed x first now es s) (sym is) (from_here calls tree now placing s same_tree same_placing first es so_far)))
+
+-- what fails along them
+pub fails_along : (along calls : Calls) (tree now : TreeState) (placing s : Placing) (e : Entry) (code : ℕ) → along ≡ calls → now ≡ tree → s ≡ placing
+    → NextFails along now e s (Refused code) → NextFails calls tree e placing (Refused code)
+fails_along along calls tree now placing s e code is same_tree same_placing fails =
+    subst (λ (x : Calls). NextFails x tree e placing (Refused code)) is
+    (subst (λ (t : TreeState). NextFails along t e placing (Refused code)) same_tree
+    (subst (λ (p : Placing). NextFails along now e p (Refused code)) same_placing fails))
 
 module _ (calls : Calls) (tree : TreeState) (placing : Placing) (ready : List (Rank × Entry)) where
   -- before the first

@@ -9,7 +9,7 @@ use crate::ready::Ready;
 use fa_check::Placing;
 use fa_ledger::Calls;
 use fa_order::Entry;
-use fa_tree::Tree;
+use fa_tree::{Replay, Tree};
 use std::alloc::{AllocError, Global};
 
 /// How many candidates are tried at a place, at most.
@@ -34,19 +34,21 @@ pub const MAX_TRIED: usize = 64;
 ///
 /// # Cost
 ///
-/// Memory for a byte a message, for a byte, a rank and an entry a call, and for what the steps take. Time linear in the messages,
-/// with a logarithm of the calls for each call and each try, beside the steps that are tried: at most [`MAX_TRIED`] at a place.
+/// Memory for a byte a message, for a byte, a rank and an entry a call, and for what the steps take, along one
+/// [`Replay`](fa_tree::Replay). Time linear in the messages, with a logarithm of the calls for each call and each try, beside the
+/// steps that are tried: at most [`MAX_TRIED`] at a place.
 /// Those that are refused are tried again at the next.
 pub fn propose(alloc: Global, calls: &Calls<'_>, tree: Tree) -> Result<Vec<Entry>, AllocError>
     ensures { IfOk result (λ order. (c : List Message) → AreMessagesOf calls.now c → IsProposal c tree order.items) }
 {
     let mut tree = tree;
     let mut placing = Placing::new(alloc, calls)?;
+    let mut replay = Replay::new(alloc, calls);
     let mut ready = Ready::new(alloc);
     let mut order = Vec::new(alloc);
     while placing.front() < calls.messages as usize {
         ready.admit(calls, placing.front())?;
-        let Some(entry) = ready.place_next(calls, &mut tree, &mut placing)? else {
+        let Some(entry) = ready.place_next(&mut replay, &mut tree, &mut placing)? else {
             break;
         };
         order.push(entry)?;

@@ -17,7 +17,7 @@ use crate::rank::Rank;
 use fa_check::Placing;
 use fa_ledger::{Action, Call, Calls, Operation, Outcome};
 use fa_order::Entry;
-use fa_tree::{StepError, Tree};
+use fa_tree::{Replay, StepError, Tree};
 use std::alloc::{AllocError, Global};
 use std::collections::BTreeMap;
 
@@ -73,20 +73,21 @@ impl Ready {
     /// Places the first entry that has a step, of those that are tried: the entry, or none where none has one.
     pub fn place_next(
         &mut self,
-        calls: &Calls<'_>,
+        replay: &mut Replay<'_>,
         tree: &mut Tree,
         placing: &mut Placing,
     ) -> Result<Option<Entry>, AllocError>
-        requires { IsPlacing (map call_shown calls.now.list.items) calls.now.messages placing.old }
-        ensures replayed { IfOk result (λ next. (first : TreeState) (es : List TheEntry) → IsReplayed calls.now first tree.old es placing.old
-            → IfSome next (λ entry. IsReplayed calls.now first tree.new (es ++ entry ∷ []) placing.new)) }
-        ensures next { IfOk result (λ next. (c : List Message) (first : TreeState) (es : List TheEntry) → AreMessagesOf calls.now c
-            → IsReplayed calls.now first tree.old es placing.old
-            → IsReady c (map call_shown calls.now.list.items) es self.old.seen self.old.entries.entries
-            → AreAllSeen c (map call_shown calls.now.list.items) es self.old.seen
-            → IsGoneOnSo c (map call_shown calls.now.list.items) tree.old tree.new es self.new.seen self.new.entries.entries next) }
+        requires { IsPlacing (map call_shown replay.old.list.items) replay.old.messages placing.old }
+        ensures replayed { IfOk result (λ next. (first : TreeState) (es : List TheEntry) → IsReplayed replay.old first tree.old es placing.old
+            → IfSome next (λ entry. IsReplayed replay.old first tree.new (es ++ entry ∷ []) placing.new)) }
+        ensures next { IfOk result (λ next. (c : List Message) (first : TreeState) (es : List TheEntry) → AreMessagesOf replay.old c
+            → IsReplayed replay.old first tree.old es placing.old
+            → IsReady c (map call_shown replay.old.list.items) es self.old.seen self.old.entries.entries
+            → AreAllSeen c (map call_shown replay.old.list.items) es self.old.seen
+            → IsGoneOnSo c (map call_shown replay.old.list.items) tree.old tree.new es self.new.seen self.new.entries.entries next) }
+        ensures same { replay.new ≡ replay.old }
     {
-        let Some((rank, entry)) = place_first(&self.entries, calls, tree, placing)? else {
+        let Some((rank, entry)) = place_first(&self.entries, replay, tree, placing)? else {
             return Ok(None);
         };
         self.entries.remove(&rank);
@@ -97,20 +98,21 @@ impl Ready {
 /// Places the first of these entries that has a step, of as many as are tried, with its rank.
 fn place_first(
     entries: &BTreeMap<Rank, Entry>,
-    calls: &Calls<'_>,
+    replay: &mut Replay<'_>,
     tree: &mut Tree,
     placing: &mut Placing,
 ) -> Result<Option<(Rank, Entry)>, AllocError>
-    requires { IsPlacing (map call_shown calls.now.list.items) calls.now.messages placing.old }
-    ensures replayed { IfOk result (λ found. (first : TreeState) (es : List TheEntry) → IsReplayed calls.now first tree.old es placing.old
-        → IfSome found (λ found. IsReplayed calls.now first tree.new (es ++ found.1 ∷ []) placing.new)) }
-    ensures tried { IfOk result (λ found. (c : List Message) (first : TreeState) (es : List TheEntry) → AreMessagesOf calls.now c
-        → IsReplayed calls.now first tree.old es placing.old → MayEachComeNext c es entries.now.entries
+    requires { IsPlacing (map call_shown replay.old.list.items) replay.old.messages placing.old }
+    ensures replayed { IfOk result (λ found. (first : TreeState) (es : List TheEntry) → IsReplayed replay.old first tree.old es placing.old
+        → IfSome found (λ found. IsReplayed replay.old first tree.new (es ++ found.1 ∷ []) placing.new)) }
+    ensures tried { IfOk result (λ found. (c : List Message) (first : TreeState) (es : List TheEntry) → AreMessagesOf replay.old c
+        → IsReplayed replay.old first tree.old es placing.old → MayEachComeNext c es entries.now.entries
         → IsTriedSo c tree.old tree.new entries.now.entries found) }
     ensures ordered { AllPairs IsRankedBefore entries.now.entries }
+    ensures same { replay.new ≡ replay.old }
 {
     for (rank, entry) in entries.iter().take(MAX_TRIED) {
-        match placing.place(calls, tree, *entry) {
+        match placing.place_in(replay, tree, *entry) {
             Ok(()) => return Ok(Some((*rank, *entry))),
             Err(StepError::Refused(_)) => {}
             Err(StepError::Memory) => return Err(AllocError),

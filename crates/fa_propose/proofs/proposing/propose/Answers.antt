@@ -1,64 +1,69 @@
-use Rattle.std.proofs.Common.{List, [], ◌∷◌, ◌++◌, map, sym, subst, arith}
+use Rattle.std.proofs.Common.{◌∙◌, List, [], ◌∷◌, ◌++◌, map, sym, subst, arith}
 use Rattle.std.specs.Prelude.{IfSome}
 use Rattle.fa_capture.specs.Message.{Message}
+use Rattle.fa_ledger.specs.declared.calls.Calls.{Calls}
 use Rattle.fa_ledger.specs.Calls.{call_shown}
 use Rattle.fa_order.specs.declared.entry.Entry.{Entry}
 use Rattle.fa_check.specs.Verdicts.{AreMessagesOf}
-use Rattle.fa_check.specs.Replays.{IsReplayed}
+use Rattle.fa_check.specs.Replays.{IsPlacing, IsReplayed}
 use Rattle.fa_propose.specs.parts.Ready.{IsPlacedNext, IsGoneOnSo}
 use Rattle.fa_propose.proofs.ProposeLemmas.{IsProposing, none_proposed, all_proposed, stuck_proposed, one_proposed, one_less}
 use Rattle.fa_propose.proofs.proposing.propose.Goals as goal
-use Rattle.fa_propose.proofs.proposing.propose.Goals.{else-loop-ready-test, then-loop-ready-test+in_ok-admit+in_ok-entry+in_default}
+use Rattle.fa_propose.proofs.proposing.propose.Goals.{else-loop-calls-test, then-loop-calls-test+in_ok-admit+in_ok-entry+in_default}
 
-pub loop-ready-init : goal.loop-ready-init
-loop-ready-init c =
-    none_proposed c.args.calls.now c.args.tree c.new-order.result.items c.in_ok-placing.placing c.new-ready.result.seen c.new-ready.result.entries.entries c.new-order.ensures.items
-    (c.in_ok-placing.ensures c.args.tree) (λ messages. c.new-ready.ensures messages c.args.calls.now)
+pub loop-calls-init : goal.loop-calls-init
+loop-calls-init c = (
+  c.new-replay.ensures,
+  none_proposed c.args.calls.now c.args.tree c.new-order.result.items c.in_ok-placing.placing c.new-ready.result.seen c.new-ready.result.entries.entries c.new-order.ensures.items
+      (c.in_ok-placing.ensures c.args.tree) (λ messages. c.new-ready.ensures messages c.args.calls.now),
+)
 
 pub place_next-requires : goal.place_next-requires
-place_next-requires c = c.loop-ready.invariant.replayed.shape
+place_next-requires c = subst (λ (x : Calls). IsPlacing (map call_shown x.list.items) x.messages c.loop-calls.placing) (sym c.loop-calls.invariant.0) c.loop-calls.invariant.1.replayed.shape
 
-pub loop-ready-smaller : goal.loop-ready-smaller
-loop-ready-smaller c =
-    let es = c.loop-ready.order.items in
+pub loop-calls-smaller : goal.loop-calls-smaller
+loop-calls-smaller c =
+    let es = c.loop-calls.order.items in
     let replayed : IsReplayed c.args.calls.now c.args.tree c.place_next.new.tree (es ++ c.in-Some.entry ∷ []) c.place_next.new.placing =
     subst (λ next. IfSome next (λ (e : Entry). IsReplayed c.args.calls.now c.args.tree c.place_next.new.tree (es ++ e ∷ []) c.place_next.new.placing)) c.in-Some.is
-    (c.in_ok-entry.ensures.replayed c.args.tree es c.loop-ready.invariant.replayed) in
+    ((rw c.loop-calls.invariant.0 at c.in_ok-entry.ensures.replayed) c.args.tree es c.loop-calls.invariant.1.replayed) in
     one_less c.args.calls.now c.args.tree c.place_next.new.tree es c.push.new.self.items c.in-Some.entry c.place_next.new.placing c.in_ok-push.ensures.items replayed
 
-pub loop-ready-preserved : goal.loop-ready-preserved
-loop-ready-preserved c =
+pub loop-calls-preserved : goal.loop-calls-preserved
+loop-calls-preserved c =
     let calls = c.args.calls.now in
     let plain = map call_shown calls.list.items in
-    let es = c.loop-ready.order.items in
+    let es = c.loop-calls.order.items in
     let entry = c.in-Some.entry in
-    let so_far = c.loop-ready.invariant in
+    let so_far = c.loop-calls.invariant.1 in
     let new = c.place_next.new in
     let replayed : IsReplayed calls c.args.tree new.tree (es ++ entry ∷ []) new.placing =
-    subst (λ next. IfSome next (λ (e : Entry). IsReplayed calls c.args.tree new.tree (es ++ e ∷ []) new.placing)) c.in-Some.is (c.in_ok-entry.ensures.replayed c.args.tree es so_far.replayed) in
-    let next : (messages : List Message) → AreMessagesOf calls messages → IsPlacedNext messages plain c.loop-ready.tree new.tree es new.self.seen new.self.entries.entries entry = λ messages is.
-    let front = c.front-in-loop-ready.ensures calls c.args.tree c.loop-ready.tree es so_far.replayed messages is in
+    subst (λ next. IfSome next (λ (e : Entry). IsReplayed calls c.args.tree new.tree (es ++ e ∷ []) new.placing)) c.in-Some.is ((rw c.loop-calls.invariant.0 at c.in_ok-entry.ensures.replayed) c.args.tree es so_far.replayed) in
+    let next : (messages : List Message) → AreMessagesOf calls messages → IsPlacedNext messages plain c.loop-calls.tree new.tree es new.self.seen new.self.entries.entries entry = λ messages is.
+    let front = c.front-in-loop-calls.ensures calls c.args.tree c.loop-calls.tree es so_far.replayed messages is in
     let ready = c.in_ok-admit.ensures messages es is front (so_far.left messages is) in
-    subst (IsGoneOnSo messages plain c.loop-ready.tree new.tree es new.self.seen new.self.entries.entries) c.in-Some.is
-    (c.in_ok-entry.ensures.next messages c.args.tree es is so_far.replayed ready.0 ready.1) in
-    subst (λ items. IsProposing calls c.args.tree new.tree items new.placing new.self.seen new.self.entries.entries) (sym c.in_ok-push.ensures.items)
-    (one_proposed calls c.args.tree c.loop-ready.tree es c.loop-ready.placing c.loop-ready.ready.seen c.loop-ready.ready.entries.entries so_far c.front.result
-    (c.front.ensures calls c.args.tree c.loop-ready.tree es so_far.replayed) c.loop-ready-test.true new.tree new.placing new.self.seen new.self.entries.entries entry next replayed)
+    subst (IsGoneOnSo messages plain c.loop-calls.tree new.tree es new.self.seen new.self.entries.entries) c.in-Some.is
+    ((rw c.loop-calls.invariant.0 at c.in_ok-entry.ensures.next) messages c.args.tree es is so_far.replayed ready.0 ready.1) in (
+      c.place_next.ensures.same ∙ c.loop-calls.invariant.0,
+      subst (λ items. IsProposing calls c.args.tree new.tree items new.placing new.self.seen new.self.entries.entries) (sym c.in_ok-push.ensures.items)
+          (one_proposed calls c.args.tree c.loop-calls.tree es c.loop-calls.placing c.loop-calls.ready.seen c.loop-calls.ready.entries.entries so_far c.front.result
+          (c.front.ensures calls c.args.tree c.loop-calls.tree es so_far.replayed) c.loop-calls-test.true new.tree new.placing new.self.seen new.self.entries.entries entry next replayed),
+    )
 
 pub returns : goal.returns
 returns c =
     let calls = c.args.calls.now in
     let plain = map call_shown calls.list.items in
-    let es = c.loop-ready.order.items in
-    let so_far = c.loop-ready.invariant in
-    let fronts = c.front.ensures calls c.args.tree c.loop-ready.tree es so_far.replayed in
-    elim c.loop-ready-test.branch [
-      | else-loop-ready-test w ↦
-          all_proposed calls c.args.tree c.loop-ready.tree es c.loop-ready.placing c.loop-ready.ready.seen c.loop-ready.ready.entries.entries so_far c.front.result fronts (omega (arith, w.loop-ready-test.false))
-      | then-loop-ready-test+in_ok-admit+in_ok-entry+in_default w ↦ λ messages is.
-          let front = w.front-in-loop-ready.ensures calls c.args.tree c.loop-ready.tree es so_far.replayed messages is in
+    let es = c.loop-calls.order.items in
+    let so_far = c.loop-calls.invariant.1 in
+    let fronts = c.front.ensures calls c.args.tree c.loop-calls.tree es so_far.replayed in
+    elim c.loop-calls-test.branch [
+      | else-loop-calls-test w ↦
+          all_proposed calls c.args.tree c.loop-calls.tree es c.loop-calls.placing c.loop-calls.ready.seen c.loop-calls.ready.entries.entries so_far c.front.result fronts (omega (arith, w.loop-calls-test.false))
+      | then-loop-calls-test+in_ok-admit+in_ok-entry+in_default w ↦ λ messages is.
+          let front = w.front-in-loop-calls.ensures calls c.args.tree c.loop-calls.tree es so_far.replayed messages is in
           let ready = w.in_ok-admit.ensures messages es is front (so_far.left messages is) in
-          stuck_proposed calls c.args.tree c.loop-ready.tree es c.loop-ready.placing c.loop-ready.ready.seen c.loop-ready.ready.entries.entries so_far c.front.result fronts messages is
-          (subst (IsGoneOnSo messages plain c.loop-ready.tree w.place_next.new.tree es w.place_next.new.self.seen w.place_next.new.self.entries.entries) w.in_default.is
-          (w.in_ok-entry.ensures.next messages c.args.tree es is so_far.replayed ready.0 ready.1))
+          stuck_proposed calls c.args.tree c.loop-calls.tree es c.loop-calls.placing c.loop-calls.ready.seen c.loop-calls.ready.entries.entries so_far c.front.result fronts messages is
+          (subst (IsGoneOnSo messages plain c.loop-calls.tree w.place_next.new.tree es w.place_next.new.self.seen w.place_next.new.self.entries.entries) w.in_default.is
+          ((rw c.loop-calls.invariant.0 at w.in_ok-entry.ensures.next) messages c.args.tree es is so_far.replayed ready.0 ready.1))
     ]

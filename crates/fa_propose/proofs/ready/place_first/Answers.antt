@@ -1,16 +1,15 @@
 use Rattle.std.proofs.Common.{List, [], ◌∷◌, map, take, refl, sym, ap, subst, ◌∙◌}
 use Rattle.std.specs.Map.Iter.{deref_pair}
 use Rattle.std.proofs.lemmas.List.{map-append}
+use Rattle.fa_ledger.specs.declared.calls.Calls.{Calls}
 use Rattle.fa_ledger.specs.Calls.{call_shown}
-use Rattle.fa_tree.specs.State.{TreeState}
 use Rattle.fa_tree.specs.declared.error.StepError.TheVariants.{Refused}
 use Rattle.fa_order.specs.declared.entry.Entry.{Entry}
-use Rattle.fa_check.specs.declared.placing.Placing.{Placing}
 use Rattle.fa_check.specs.Replays.{IsPlacing, NextFails}
 use Rattle.fa_propose.specs.declared.rank.Rank.{Rank}
 use Rattle.fa_propose.specs.declared.proposing.TheConstants.{MAX_TRIED}
 use Rattle.fa_propose.proofs.RankOrderLemmas.{ranked_pairs}
-use Rattle.fa_propose.proofs.TryLemmas.{AreTriedSoFar, one_taken, none_left, from_here, none_tried, one_refused, one_placed, all_tried}
+use Rattle.fa_propose.proofs.TryLemmas.{AreTriedSoFar, one_taken, none_left, placed_along, fails_along, none_tried, one_refused, one_placed, all_tried}
 use Rattle.fa_propose.proofs.ready.place_first.Goals as goal
 
 pub loop-rank-init : goal.loop-rank-init
@@ -21,28 +20,30 @@ loop-rank-init c =
     let rest = ap (λ (es : List (Rank × Entry)). take MAX_TRIED es) (items.ensures.source ∙ c.iter.ensures.rest) in (
       refl,
       refl,
-      subst (AreTriedSoFar c.args.calls.now c.args.tree.now c.args.placing.now c.args.entries.now.entries []) (sym (ap (λ t. take t.n t.iter) given ∙ first ∙ rest))
-          (none_tried c.args.calls.now c.args.tree.now c.args.placing.now c.args.entries.now.entries),
+      refl,
+      subst (AreTriedSoFar c.args.replay.now c.args.tree.now c.args.placing.now c.args.entries.now.entries []) (sym (ap (λ t. take t.n t.iter) given ∙ first ∙ rest))
+          (none_tried c.args.replay.now c.args.tree.now c.args.placing.now c.args.entries.now.entries),
     )
 
-pub place-requires : goal.place-requires
-place-requires c = subst (IsPlacing (map call_shown c.args.calls.now.list.items) c.args.calls.now.messages) (sym c.loop-rank.invariant.1) c.requires
+pub place_in-requires : goal.place_in-requires
+place_in-requires c =
+    subst (λ (x : Calls). IsPlacing (map call_shown x.list.items) x.messages c.loop-rank.placing) (sym c.loop-rank.invariant.2)
+    (subst (IsPlacing (map call_shown c.args.replay.now.list.items) c.args.replay.now.messages) (sym c.loop-rank.invariant.1) c.requires)
 
 pub returns-in-Ok-clause-replayed : goal.returns-in-Ok-clause-replayed
-returns-in-Ok-clause-replayed c = λ first es so_far.
-    c.in-Ok.ensures.placed first es
-    (from_here c.args.calls.now c.args.tree.now c.loop-rank.tree c.args.placing.now c.loop-rank.placing c.loop-rank.invariant.0 c.loop-rank.invariant.1 first es so_far)
+returns-in-Ok-clause-replayed c =
+    placed_along c.loop-rank.replay c.args.replay.now c.args.tree.now c.loop-rank.tree c.place_in.new.tree c.args.placing.now c.loop-rank.placing c.place_in.new.self c.in-Some.entry.now
+    c.loop-rank.invariant.2 c.loop-rank.invariant.0 c.loop-rank.invariant.1 c.in-Ok.ensures.placed
 
 pub returns-in-Ok-clause-tried : goal.returns-in-Ok-clause-tried
 returns-in-Ok-clause-tried c =
     let steps = c.in-Some.ensures.steps in
     let taken = one_taken c.loop-rank.rank-iterator.n c.next.new.self.n c.loop-rank.rank-iterator.iter c.next.new.self.iter (c.in-Some.rank.now, c.in-Some.entry.now) steps.0 steps.1 in
-    one_placed c.args.calls.now c.args.tree.now c.args.placing.now c.args.entries.now.entries (map deref_pair c.loop-rank.yielded) (take c.next.new.self.n c.next.new.self.iter)
-    (c.in-Some.rank.now, c.in-Some.entry.now) c.place.new.tree c.place.new.self
-    (subst (AreTriedSoFar c.args.calls.now c.args.tree.now c.args.placing.now c.args.entries.now.entries (map deref_pair c.loop-rank.yielded)) taken c.loop-rank.invariant.2)
-    (λ first es so_far.
-    c.in-Ok.ensures.placed first es
-    (from_here c.args.calls.now c.args.tree.now c.loop-rank.tree c.args.placing.now c.loop-rank.placing c.loop-rank.invariant.0 c.loop-rank.invariant.1 first es so_far))
+    one_placed c.args.replay.now c.args.tree.now c.args.placing.now c.args.entries.now.entries (map deref_pair c.loop-rank.yielded) (take c.next.new.self.n c.next.new.self.iter)
+    (c.in-Some.rank.now, c.in-Some.entry.now) c.place_in.new.tree c.place_in.new.self
+    (subst (AreTriedSoFar c.args.replay.now c.args.tree.now c.args.placing.now c.args.entries.now.entries (map deref_pair c.loop-rank.yielded)) taken c.loop-rank.invariant.3)
+    (placed_along c.loop-rank.replay c.args.replay.now c.args.tree.now c.loop-rank.tree c.place_in.new.tree c.args.placing.now c.loop-rank.placing c.place_in.new.self c.in-Some.entry.now
+    c.loop-rank.invariant.2 c.loop-rank.invariant.0 c.loop-rank.invariant.1 c.in-Ok.ensures.placed)
 
 pub returns-in-Ok-clause-ordered : goal.returns-in-Ok-clause-ordered
 returns-in-Ok-clause-ordered c = ranked_pairs c.args.entries.now.entries c.iter.ensures.ordered
@@ -54,16 +55,16 @@ loop-rank-preserved c =
     let code = c.in-Err-Refused.field-0-0 in
     let unchanged = c.in-Err-Refused.ensures.unchanged in
     let taken = one_taken c.loop-rank.rank-iterator.n c.next.new.self.n c.loop-rank.rank-iterator.iter c.next.new.self.iter p steps.0 steps.1 in
-    let fails : NextFails c.args.calls.now c.args.tree.now p.1 c.args.placing.now (Refused code) =
-    subst (λ (t : TreeState). NextFails c.args.calls.now t p.1 c.args.placing.now (Refused code)) c.loop-rank.invariant.0
-    (subst (λ (s : Placing). NextFails c.args.calls.now c.loop-rank.tree p.1 s (Refused code)) c.loop-rank.invariant.1
-    (subst (NextFails c.args.calls.now c.loop-rank.tree p.1 c.loop-rank.placing) c.in-Err-Refused.field-0-is c.in-Err-Refused.ensures.refused)) in (
+    let fails =
+    fails_along c.loop-rank.replay c.args.replay.now c.args.tree.now c.loop-rank.tree c.args.placing.now c.loop-rank.placing p.1 code c.loop-rank.invariant.2 c.loop-rank.invariant.0 c.loop-rank.invariant.1
+    (subst (NextFails c.loop-rank.replay c.loop-rank.tree p.1 c.loop-rank.placing) c.in-Err-Refused.field-0-is c.in-Err-Refused.ensures.refused) in (
       unchanged.1 ∙ c.loop-rank.invariant.0,
       unchanged.0 ∙ c.loop-rank.invariant.1,
-      subst (λ tried. AreTriedSoFar c.args.calls.now c.args.tree.now c.args.placing.now c.args.entries.now.entries tried (take c.next.new.self.n c.next.new.self.iter))
+      c.place_in.ensures.same ∙ c.loop-rank.invariant.2,
+      subst (λ tried. AreTriedSoFar c.args.replay.now c.args.tree.now c.args.placing.now c.args.entries.now.entries tried (take c.next.new.self.n c.next.new.self.iter))
           (sym (map-append deref_pair c.loop-rank.yielded ((c.in-Some.rank, c.in-Some.entry) ∷ [])))
-          (one_refused c.args.calls.now c.args.tree.now c.args.placing.now c.args.entries.now.entries (map deref_pair c.loop-rank.yielded) (take c.next.new.self.n c.next.new.self.iter) p code
-          (subst (AreTriedSoFar c.args.calls.now c.args.tree.now c.args.placing.now c.args.entries.now.entries (map deref_pair c.loop-rank.yielded)) taken c.loop-rank.invariant.2) fails),
+          (one_refused c.args.replay.now c.args.tree.now c.args.placing.now c.args.entries.now.entries (map deref_pair c.loop-rank.yielded) (take c.next.new.self.n c.next.new.self.iter) p code
+          (subst (AreTriedSoFar c.args.replay.now c.args.tree.now c.args.placing.now c.args.entries.now.entries (map deref_pair c.loop-rank.yielded)) taken c.loop-rank.invariant.3) fails),
     )
 
 pub returns-in-Err-Memory-clause-ordered : goal.returns-in-Err-Memory-clause-ordered
@@ -72,8 +73,8 @@ returns-in-Err-Memory-clause-ordered c = ranked_pairs c.args.entries.now.entries
 pub returns-clause-tried : goal.returns-clause-tried
 returns-clause-tried c =
     let left = none_left c.loop-rank.rank-iterator.n c.loop-rank.rank-iterator.iter (λ some. (c.in-None.ensures.steps some).0) in
-    all_tried c.args.calls.now c.args.tree.now c.args.placing.now c.args.entries.now.entries (map deref_pair c.loop-rank.yielded)
-    (subst (AreTriedSoFar c.args.calls.now c.args.tree.now c.args.placing.now c.args.entries.now.entries (map deref_pair c.loop-rank.yielded)) left c.loop-rank.invariant.2) c.args.tree.now
+    all_tried c.args.replay.now c.args.tree.now c.args.placing.now c.args.entries.now.entries (map deref_pair c.loop-rank.yielded)
+    (subst (AreTriedSoFar c.args.replay.now c.args.tree.now c.args.placing.now c.args.entries.now.entries (map deref_pair c.loop-rank.yielded)) left c.loop-rank.invariant.3) c.args.tree.now
 
 pub returns-clause-ordered : goal.returns-clause-ordered
 returns-clause-ordered c = ranked_pairs c.args.entries.now.entries c.iter.ensures.ordered
