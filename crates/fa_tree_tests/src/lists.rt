@@ -1,6 +1,6 @@
 //! Listings: of a directory of many names, and of the directory that a handle is open on.
 
-use crate::steps::step;
+use crate::steps::{step, step_in};
 use crate::trees::Added::{self, File};
 use crate::trees::tree_of;
 use fa_bodies::ROOT_ID as ROOT;
@@ -11,7 +11,7 @@ use fa_tests::messages::begun;
 use fa_tests::paired::calls_of;
 use fa_tests::sent::Sent::{self, *};
 use fa_tests::sent::with_all;
-use fa_tree::{Kind, StepError, Tree};
+use fa_tree::{Kind, Replay, StepError, Tree};
 use std::alloc::Global;
 
 /// How many names a large directory has, and how many of them an answer gives.
@@ -88,9 +88,10 @@ fn steps_of(alloc: Global, sample: Sample) -> Option<(u32, Option<StepError>)> {
     let capture = read_capture(alloc, &bytes).ok()?;
     let calls = calls_of(alloc, &capture.packets)?;
     let mut tree = large(alloc)?;
+    let mut replay = Replay::new(alloc, &calls);
     let mut steps = 0u32;
     for call in &calls.list {
-        match step(&mut tree, &calls, call.asked, None)? {
+        match step_in(&mut tree, &mut replay, call.asked)? {
             Ok(()) => steps = steps.saturating_add(1),
             Err(error) => return Some((steps, Some(error))),
         }
@@ -170,4 +171,87 @@ fn the_directory_that_is_open(rt: HostRuntime) {
     assert!(rt; told == Some(Ok(())));
     let told = listed_elsewhere(rt.alloc(), REGULAR_BELOW);
     assert!(rt; told == Some(Err(StepError::Refused(ATTRIBUTES))));
+}
+
+/// Files `a` to `e` in the root.
+const FIVE: &[Added] = &[
+    File(0, b"a", Kind::Regular, b""),
+    File(0, b"b", Kind::Regular, b""),
+    File(0, b"c", Kind::Regular, b""),
+    File(0, b"d", Kind::Regular, b""),
+    File(0, b"e", Kind::Regular, b""),
+];
+
+/// The root is opened as the file handle 1, and listed up to `d`.
+const LISTED_BACK_AND_FORTH: &[Sent] = &[
+    Opendir(2, ROOT),
+    Opened(2, 1, 0),
+    Readdir(4, ROOT, 1, 0),
+    Dirents(4, &[("a", 1), ("b", 2)]),
+    Readdir(6, ROOT, 1, 2),
+    Dirents(6, &[("c", 3)]),
+    Readdir(8, ROOT, 1, 3),
+    Dirents(8, &[("d", 4)]),
+    // Back, and on from an answer of which one entry counts; the end is too early, and comes again behind `e`.
+    Readdir(10, ROOT, 1, 2),
+    Dirents(10, &[("c", 3), ("d", 4), ("x", 7)]),
+    Readdir(12, ROOT, 1, 3),
+    Dirents(12, &[("d", 4)]),
+    Readdir(14, ROOT, 1, 4),
+    Dirents(14, &[]),
+    Readdir(16, ROOT, 1, 4),
+    Dirents(16, &[("e", 5)]),
+    Readdir(18, ROOT, 1, 5),
+    Dirents(18, &[]),
+    // Behind `a`: `b`, and then `a` once more, which is refused, also where it comes twice at once.
+    Readdir(20, ROOT, 1, 1),
+    Dirents(20, &[("b", 2)]),
+    Readdir(22, ROOT, 1, 2),
+    Dirents(22, &[("a", 1)]),
+    Readdir(24, ROOT, 1, 0),
+    Dirents(24, &[("a", 1), ("a", 2)]),
+];
+
+/// What a call is told, where it is told the same along the replay and by itself.
+fn told_both(
+    along: &mut Tree,
+    alone: &mut Tree,
+    replay: &mut Replay<'_>,
+    at: u32,
+) -> Option<Result<(), StepError>> {
+    let told = step(alone, replay.calls(), at, None);
+    if step_in(along, replay, at) == told {
+        told
+    } else {
+        None
+    }
+}
+
+/// How many calls step, and how many are refused. None where one is told otherwise along the replay than by itself.
+fn told_alike(along: &mut Tree, alone: &mut Tree, replay: &mut Replay<'_>) -> Option<(u32, u32)> {
+    let (mut steps, mut refused) = (0u32, 0u32);
+    for call in &replay.calls().list {
+        match told_both(along, alone, replay, call.asked)? {
+            Ok(()) => steps = steps.saturating_add(1),
+            Err(_) => refused = refused.saturating_add(1),
+        }
+    }
+    Some((steps, refused))
+}
+
+/// The same of the calls of messages. None also where a message is refused, or memory was.
+fn listed_alike(alloc: Global, files: &[Added], messages: &[Sent]) -> Option<(u32, u32)> {
+    let bytes = with_all(begun(alloc, (0, 0)), messages).capture().ok()?;
+    let capture = read_capture(alloc, &bytes).ok()?;
+    let calls = calls_of(alloc, &capture.packets)?;
+    let mut along = tree_of(alloc, files)?;
+    let mut alone = tree_of(alloc, files)?;
+    told_alike(&mut along, &mut alone, &mut Replay::new(alloc, &calls))
+}
+
+/// What is kept of a listing shows nowhere, where it goes on, where it goes back, and where it ends.
+#[test]
+fn a_listing_along_one_replay(rt: HostRuntime) {
+    let told = listed_alike(rt.alloc(), FIVE, LISTED_BACK_AND_FORTH);
+    assert!(rt; told == Some((8, 4)));
 }

@@ -12,7 +12,7 @@ use fa_tests::messages::{INIT, INIT_ANSWER, begun, packet, spelled, thirty};
 use fa_tests::paired::{Paired, calls_of};
 use fa_tests::sent::Sent::{self, *};
 use fa_tests::sent::with_all;
-use fa_tree::{FileId, Kind, StepError, Tree};
+use fa_tree::{FileId, Kind, Replay, StepError, Tree};
 use std::alloc::Global;
 
 /// One step, by the number of its request, and how many bytes an order says that it wrote. A choice that is not allowed is told
@@ -29,6 +29,18 @@ pub fn step(
         return Some(Err(StepError::Refused(CHOICE_NOT_ALLOWED)));
     }
     Some(tree.step(calls, place, wrote))
+}
+
+/// One step along a replay, by the number of its request. A choice that is not allowed is told by its code. None where no call has
+/// this number.
+pub fn step_in(tree: &mut Tree, replay: &mut Replay<'_>, at: u32) -> Option<Result<(), StepError>> {
+    let calls = replay.calls();
+    let place = calls.find(at)?;
+    let call = calls.list.get(place)?;
+    if !call.allows(None) {
+        return Some(Err(StepError::Refused(CHOICE_NOT_ALLOWED)));
+    }
+    Some(tree.step_in(replay, place, None))
 }
 
 /// A file, and a directory.
