@@ -1,7 +1,6 @@
 -- What the lines of a tree text add.
-use Rattle.std.proofs.Common.{◌≡◌, ◌≢◌, ℕ, ◌+◌, ◌/◌, ◌%◌, Bool, true, false, List, [], ◌∷◌, ◌++◌, Option, Some, None, Result, Ok, Err, inl, inr, sym, ap, subst, ◌∙◌, append_assoc, arith}
-use Rattle.std.specs.Prelude.{IfOk, IfNone, codes}
-use Rattle.std.specs.FinMap as map
+use Rattle.std.proofs.Common.{◌≡◌, ◌≢◌, ℕ, ◌+◌, ◌/◌, ◌%◌, Bool, true, false, List, [], ◌∷◌, ◌++◌, Option, Result, Ok, Err, inl, inr, sym, ap, subst, ◌∙◌, append_assoc, arith}
+use Rattle.std.specs.Prelude.{IfOk, codes}
 use Rattle.std.specs.declared.alloc.AllocError.{AllocError}
 use Rattle.std.proofs.lemmas.List.Elements.{All-append, All-cons, All-nil}
 use Rattle.fa_bodies.specs.declared.mode.Kind.{Kind}
@@ -10,14 +9,14 @@ use Rattle.fa_tree.specs.declared.id.FileId.{FileId}
 use Rattle.fa_tree.specs.declared.error.StepError.{StepError}
 use Rattle.fa_tree.specs.declared.error.StepError.TheVariants.{Refused, Memory}
 use Rattle.fa_tree.specs.Refusals.{IsRefusal}
-use Rattle.fa_tree.specs.State.{Store, TreeState, root, HasName}
+use Rattle.fa_tree.specs.State.{TreeState, root}
 use Rattle.fa_tree.specs.Building.{MayBeAdded, MayBeLinkedTo}
-use Rattle.fa_tree_text.specs.Paths.{Path, path_text, IsPath, name_of, IsAt}
+use Rattle.fa_tree_text.specs.Paths.{Path, path_text, name_of, IsAt}
 use Rattle.fa_tree_text.specs.TreeLines.{TreeLine, letter, octal, body_text, fields_text, line_text, SpellsBody, AddsFile, AddsName, Adds}
 use Rattle.fa_tree_text.specs.TreeLines.TreeLine.{NewFile, FurtherName}
 use Rattle.fa_tree_text.specs.TreeText.{LacksAddition}
 use Rattle.fa_bodies.specs.Names.{LacksByte}
-use Rattle.fa_tree_text.specs.parts.Ways.{Reaches}
+use Rattle.fa_tree_text.specs.parts.Ways.{Reaches, IsFileAt}
 use Rattle.fa_tree_text.specs.parts.Fields.{IsFileLine, IsNameLine, LacksFile, LacksName}
 use Rattle.fa_tree_text.specs.parts.Outcomes.{IsFileAdded, IsNameAdded, IsLineAdded}
 use Rattle.fa_tree_text.proofs.SplitLemmas.{one_split, no_split}
@@ -48,23 +47,10 @@ refused_no_file old kind bits text spelled parent last body r is refused p other
     let second : MayBeAdded old parent last kind adds.body = subst (λ (n : List ℕ). MayBeAdded old parent n kind adds.body) same.1 first in
     refused (subst (MayBeAdded old parent last kind) bodies second)
 
--- the file at the end of a path, as it is looked for
-pub file_none : (s : Store) (text : List ℕ) (parent : FileId) (last : List ℕ) (r : Option FileId) → r ≡ map.get s.names (parent, last) → Reaches s root text parent last
-    → IfNone r ((p : Path) (file : FileId) → text ≡ path_text p → IsPath p → IsAt s file p → ⊥)
-file_none s text parent last None found r = λ p file e is at.
-    let same = reaches_same s text parent at.0 last p r e is at.1 in
-    let there : HasName s parent last file = subst (λ (n : List ℕ). HasName s parent n file) same.1 (subst (λ (d : FileId). HasName s d (name_of p) file) same.0 at.2) in
-    let none : None ≡ Some file = found ∙ there in
-    absurd cc
-file_none s text parent last (Some number) found r = tt
-
-pub no_parent_none : (s : Store) (text : List ℕ) → ((parent : FileId) (last : List ℕ) → Reaches s root text parent last → ⊥) → (p : Path) (file : FileId) → text ≡ path_text p → IsPath p → IsAt s file p → ⊥
-no_parent_none s text none p file e is at = none at.0 (name_of p) (reaches_path s text at.0 p e is at.1)
-
 -- a further name needs a file
-pub no_file_no_name : (old : TreeState) (text older : List ℕ) → ((p : Path) (file : FileId) → older ≡ path_text p → IsPath p → IsAt old.store file p → ⊥)
+pub no_file_no_name : (old : TreeState) (text older : List ℕ) → ((file : FileId) → IsFileAt old.store older file → ⊥)
     → (p q : Path) (other : TreeState) → text ≡ path_text p → older ≡ path_text q → AddsName old other p q → ⊥
-no_file_no_name old text older none p q other e also adds = none q adds.file also adds.is_older adds.is_file
+no_file_no_name old text older none p q other e also adds = none adds.file (record { path = q; spelled = also; is_path = adds.is_older; is_at = adds.is_file })
 
 -- and a directory
 pub no_parent_no_name : (old : TreeState) (text older : List ℕ) → ((parent : FileId) (last : List ℕ) → Reaches old.store root text parent last → ⊥)
@@ -73,12 +59,12 @@ no_parent_no_name old text older none p q other e also adds = none adds.parent (
 
 -- and may be added
 pub refused_no_name : (old : TreeState) (text older : List ℕ) (parent file : FileId) (last : List ℕ) → Reaches old.store root text parent last
-    → ((p : Path) × (older ≡ path_text p) × IsPath p × IsAt old.store file p) → (MayBeLinkedTo old parent last file → ⊥)
+    → IsFileAt old.store older file → (MayBeLinkedTo old parent last file → ⊥)
     → (p q : Path) (other : TreeState) → text ≡ path_text p → older ≡ path_text q → AddsName old other p q → ⊥
 refused_no_name old text older parent file last r found refused p q other e also adds =
     let same = reaches_same old.store text parent adds.parent last p r e adds.is_path adds.is_parent in
-    let paths : found.0 ≡ q = one_path found.0 q found.2 adds.is_older (sym found.1 ∙ also) in
-    let files : adds.file ≡ file = at_one old.store q adds.file file adds.is_file (subst (IsAt old.store file) paths found.3) in
+    let paths : found.path ≡ q = one_path found.path q found.is_path adds.is_older (sym found.spelled ∙ also) in
+    let files : adds.file ≡ file = at_one old.store q adds.file file adds.is_file (subst (IsAt old.store file) paths found.is_at) in
     let first : MayBeLinkedTo old parent (name_of p) adds.file = subst (λ (d : FileId). MayBeLinkedTo old d (name_of p) adds.file) same.0 adds.allowed in
     let second : MayBeLinkedTo old parent last adds.file = subst (λ (n : List ℕ). MayBeLinkedTo old parent n adds.file) same.1 first in
     refused (subst (MayBeLinkedTo old parent last) files second)

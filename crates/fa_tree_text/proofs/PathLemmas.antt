@@ -1,12 +1,14 @@
 -- A path is spelled in one way, and leads to one file at most.
-use Rattle.std.proofs.Common.{◌≡◌, ◌≢◌, ℕ, ◌≤◌, List, [], ◌∷◌, ◌++◌, All, Some, refl, sym, ap, subst, ◌∙◌, arith}
+use Rattle.std.proofs.Common.{◌≡◌, ◌≢◌, ℕ, ◌≤◌, List, [], ◌∷◌, ◌++◌, All, Option, Some, None, refl, sym, ap, subst, ◌∙◌, arith}
+use Rattle.std.specs.Prelude.{IfNone}
+use Rattle.std.specs.FinMap as map
 use Rattle.std.specs.List.{flat_map}
 use Rattle.std.proofs.lemmas.List.Elements.{All-append, All-cons, All-head, All-nil, All-tail, All-weaker}
 use Rattle.fa_tree.specs.declared.id.FileId.{FileId}
 use Rattle.fa_tree.specs.State.{Store, root, HasName}
 use Rattle.fa_tree_text.specs.Paths.{Path, path_text, slashed, IsSpelledName, IsPath, name_of, LeadsTo, IsParentOf, IsAt}
 use Rattle.fa_bodies.specs.Names.{LacksByte}
-use Rattle.fa_tree_text.specs.parts.Ways.{Reaches}
+use Rattle.fa_tree_text.specs.parts.Ways.{Reaches, IsFileAt}
 use Rattle.fa_tree_text.proofs.SplitLemmas.{no_split, one_split}
 use Rattle.fa_tree_text.proofs.WayLemmas.{no_slash, path_on}
 
@@ -79,3 +81,16 @@ reaches_same s text parent other last p r e is way =
       leads_one s root p.directories other parent way (subst (λ (q : Path). LeadsTo s root q.directories parent) same r.leads),
       sym (r.last_is ∙ ap name_of same),
     )
+
+-- the file at the end of a path, as it is looked for
+pub file_none : (s : Store) (text : List ℕ) (parent : FileId) (last : List ℕ) (r : Option FileId) → r ≡ map.get s.names (parent, last) → Reaches s root text parent last
+    → IfNone r ((file : FileId) → IsFileAt s text file → ⊥)
+file_none s text parent last None found r = λ file at.
+    let same = reaches_same s text parent at.is_at.0 last at.path r at.spelled at.is_path at.is_at.1 in
+    let there : HasName s parent last file = subst (λ (n : List ℕ). HasName s parent n file) same.1 (subst (λ (d : FileId). HasName s d (name_of at.path) file) same.0 at.is_at.2) in
+    let none : None ≡ Some file = found ∙ there in
+    absurd cc
+file_none s text parent last (Some number) found r = tt
+
+pub no_parent_none : (s : Store) (text : List ℕ) → ((parent : FileId) (last : List ℕ) → Reaches s root text parent last → ⊥) → (file : FileId) → IsFileAt s text file → ⊥
+no_parent_none s text none file at = none at.is_at.0 (name_of at.path) (reaches_path s text at.is_at.0 at.path at.spelled at.is_path at.is_at.1)

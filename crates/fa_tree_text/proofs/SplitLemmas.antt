@@ -1,4 +1,4 @@
--- Bytes are split at the first byte of a value in one way.
+-- Bytes are split at the first byte of a value in one way, and at the last.
 use Rattle.std.proofs.Common.{◌≡◌, ◌≢◌, ℕ, ◌+◌, ◌<◌, List, [], ◌∷◌, ◌++◌, length, get_or, refl, ap, ◌∙◌, arith}
 use Rattle.std.proofs.Math.Seq.{get_or-append_seam}
 use Rattle.std.proofs.lemmas.List.{length-append}
@@ -22,4 +22,15 @@ one_split byte (c ∷ x) (d ∷ y) a b p q e =
     let first : c ≡ d = cc in
     let later : x ++ byte ∷ a ≡ y ++ byte ∷ b = cc in
     let others = one_split byte x y a b (All-tail (λ n. n ≢ byte) c x p) (All-tail (λ n. n ≢ byte) d y q) later in
+    (rw (first, others.0) refl, others.1)
+
+-- two rests without the byte
+pub one_last_split : (byte : ℕ) (x y a b : List ℕ) → LacksByte byte a → LacksByte byte b → x ++ byte ∷ a ≡ y ++ byte ∷ b → (x ≡ y) × (a ≡ b)
+one_last_split byte [] [] a b p q e = (refl, cc)
+one_last_split byte [] (d ∷ y) a b p q e = let behind : a ≡ y ++ byte ∷ b = cc in absurd (no_split byte a y b p behind)
+one_last_split byte (c ∷ x) [] a b p q e = let behind : b ≡ x ++ byte ∷ a = cc in absurd (no_split byte b x a q behind)
+one_last_split byte (c ∷ x) (d ∷ y) a b p q e =
+    let first : c ≡ d = cc in
+    let later : x ++ byte ∷ a ≡ y ++ byte ∷ b = cc in
+    let others = one_last_split byte x y a b p q later in
     (rw (first, others.0) refl, others.1)

@@ -2,6 +2,8 @@
 
 -- ways down a tree
 pub mod Ways
+-- directories that are kept
+pub mod Folders
 -- the fields of lines
 pub mod Fields
 -- what comes of a line

@@ -1,18 +1,18 @@
 //! What the lines of a tree text add to a tree.
 
-ghost use Rattle.std.specs.Prelude.{◌≡◌, ◌≤◌, ◌++◌, ℕ, List, IfOk, IfSome, IfNone};
+ghost use Rattle.std.specs.Prelude.{◌≡◌, ◌≤◌, ◌++◌, ℕ, List, IfOk, IfSome, IfNone, OnOk};
 ghost use Rattle.std.specs.Option.{option_copied};
 ghost use Rattle.fa_tree.specs.declared.id.FileId.{FileId};
 ghost use Rattle.fa_tree.specs.Attributes.{all_bits};
-ghost use Rattle.fa_tree_text.specs.Paths.{Path, path_text, IsPath, IsAt};
 ghost use Rattle.fa_tree_text.specs.TreeLines.{TreeLine, line_text, SpellsBytes, SpellsBody, Adds};
 ghost use Rattle.fa_tree_text.specs.TreeText.{LacksAddition};
+ghost use Rattle.fa_tree_text.specs.parts.Folders.{AreFound};
 ghost use Rattle.fa_tree_text.specs.parts.Outcomes.{IsFileAdded, IsNameAdded, IsLineAdded};
 
 use crate::fields::{Fields, FileFields, NameFields, fields_of};
-use crate::paths::find_parent;
+use crate::folders::Folders;
 use fa_bodies::{Kind, split_at_byte};
-use fa_tree::{FileId, StepError, Tree};
+use fa_tree::{StepError, Tree};
 use hex::FromHexError;
 use std::alloc::{AllocError, Global};
 
@@ -60,61 +60,78 @@ fn decode_body(
     }
 }
 
-/// The file to which a path leads, if it is a path and the file is there. The path's last name is decoded into `name`.
-fn find_file(tree: &Tree, path: &[u8], name: &mut Vec<u8>) -> Result<Option<FileId>, AllocError>
-    ensures found { IfOk result (λ found. IfSome found (λ file. (p : Path) × (path.now ≡ path_text p) × IsPath p × IsAt tree.now.store file p)) }
-    ensures none { IfOk result (λ found. IfNone found ((p : Path) (file : FileId) → path.now ≡ path_text p → IsPath p → IsAt tree.now.store file p → ⊥)) }
-{
-    match find_parent(tree, path, name)? {
-        Some(parent) => Ok(tree.find(parent, name)),
-        None => Ok(None),
-    }
-}
-
 /// Adds a new file to a tree, and answers whether it may be added.
-fn add_file(alloc: Global, tree: &mut Tree, file: &FileFields<'_>) -> Result<bool, AllocError>
-    requires { file.now.bits ≤ all_bits }
-    ensures { IfOk result (λ added. IsFileAdded added tree.old tree.new file.now.kind file.now.bits file.now.path.now (option_copied file.now.body)) }
+fn add_file<'a>(
+    alloc: Global,
+    tree: &mut Tree,
+    folders: &mut Folders<'a>,
+    file: &FileFields<'a>,
+) -> Result<bool, AllocError>
+    requires in_range { file.now.bits ≤ all_bits }
+    requires are_found { AreFound tree.old.store folders.old }
+    ensures added { IfOk result (λ added. IsFileAdded added tree.old tree.new file.now.kind file.now.bits file.now.path.now (option_copied file.now.body)) }
+    ensures kept { OnOk result (AreFound tree.new.store folders.new) }
 {
     let mut name = Vec::new(alloc);
-    let Some(parent) = find_parent(tree, file.path, &mut name)? else {
+    let Some(parent) = folders.parent_of(tree, file.path, &mut name)? else {
         return Ok(false);
     };
     let Some(body) = decode_body(alloc, file.kind, file.body)? else {
         return Ok(false);
     };
     match tree.add(parent, &name, file.kind, file.bits, &body) {
-        Ok(_) => Ok(true),
+        Ok(added) => {
+            folders.keep_parent(file.path, parent);
+            folders.keep_added(file.path, file.kind, added);
+            Ok(true)
+        }
         Err(StepError::Refused(_)) => Ok(false),
         Err(StepError::Memory) => Err(AllocError),
     }
 }
 
 /// Adds a further name to a tree, and answers whether it may be added.
-fn add_name(alloc: Global, tree: &mut Tree, name: &NameFields<'_>) -> Result<bool, AllocError>
-    ensures { IfOk result (λ added. IsNameAdded added tree.old tree.new name.now.path.now name.now.older.now) }
+fn add_name<'a>(
+    alloc: Global,
+    tree: &mut Tree,
+    folders: &mut Folders<'a>,
+    name: &NameFields<'a>,
+) -> Result<bool, AllocError>
+    requires { AreFound tree.old.store folders.old }
+    ensures added { IfOk result (λ added. IsNameAdded added tree.old tree.new name.now.path.now name.now.older.now) }
+    ensures kept { OnOk result (AreFound tree.new.store folders.new) }
 {
     let mut last = Vec::new(alloc);
-    let Some(file) = find_file(tree, name.older, &mut last)? else {
+    let Some(file) = folders.file_at(tree, name.older, &mut last)? else {
         return Ok(false);
     };
-    let Some(parent) = find_parent(tree, name.path, &mut last)? else {
+    let Some(parent) = folders.parent_of(tree, name.path, &mut last)? else {
         return Ok(false);
     };
     match tree.add_link(parent, &last, file) {
-        Ok(()) => Ok(true),
+        Ok(()) => {
+            folders.keep_parent(name.path, parent);
+            Ok(true)
+        }
         Err(StepError::Refused(_)) => Ok(false),
         Err(StepError::Memory) => Err(AllocError),
     }
 }
 
 /// Adds what a line says, which stands without its line feed, and answers whether it may be added.
-fn add_fields(alloc: Global, tree: &mut Tree, line: &[u8]) -> Result<bool, AllocError>
-    ensures { IfOk result (λ added. IsLineAdded added tree.old tree.new line.now) }
+fn add_fields<'a>(
+    alloc: Global,
+    tree: &mut Tree,
+    folders: &mut Folders<'a>,
+    line: &'a [u8],
+) -> Result<bool, AllocError>
+    requires { AreFound tree.old.store folders.old }
+    ensures added { IfOk result (λ added. IsLineAdded added tree.old tree.new line.now) }
+    ensures kept { OnOk result (AreFound tree.new.store folders.new) }
 {
     match fields_of(line) {
-        Some(Fields::File(file)) => add_file(alloc, tree, &file),
-        Some(Fields::Name(name)) => add_name(alloc, tree, &name),
+        Some(Fields::File(file)) => add_file(alloc, tree, folders, &file),
+        Some(Fields::Name(name)) => add_name(alloc, tree, folders, &name),
         None => Ok(false),
     }
 }
@@ -124,16 +141,19 @@ fn add_fields(alloc: Global, tree: &mut Tree, line: &[u8]) -> Result<bool, Alloc
 pub(crate) fn add_line<'a>(
     alloc: Global,
     tree: &mut Tree,
+    folders: &mut Folders<'a>,
     left: &'a [u8],
 ) -> Result<Option<&'a [u8]>, AllocError>
+    requires { AreFound tree.old.store folders.old }
     ensures added { IfOk result (λ r. IfSome r (λ rest. (line : TreeLine) × Adds tree.old tree.new line × (left.now ≡ line_text line ++ rest.now))) }
     ensures none { IfOk result (λ r. IfNone r (LacksAddition tree.old left.now)) }
     ensures unchanged { IfOk result (λ r. IfNone r (tree.new ≡ tree.old)) }
+    ensures kept { OnOk result (AreFound tree.new.store folders.new) }
 {
     let Some((line, rest)) = split_at_byte(left, b'\n') else {
         return Ok(None);
     };
-    if add_fields(alloc, tree, line)? {
+    if add_fields(alloc, tree, folders, line)? {
         Ok(Some(rest))
     } else {
         Ok(None)

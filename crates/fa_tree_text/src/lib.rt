@@ -3,6 +3,7 @@
 
 mod additions;
 mod fields;
+mod folders;
 pub mod laws;
 mod paths;
 mod tree_text;

@@ -5,7 +5,7 @@ ghost use Rattle.percent_encoding.specs.Percent.{percent_decode};
 ghost use Rattle.fa_tree.specs.declared.id.FileId.{FileId};
 ghost use Rattle.fa_tree.specs.State as state;
 ghost use Rattle.fa_tree_text.specs.Paths.{IsSpelledByte, HasHexDigit, HasWholeEscapes, IsSpelledName};
-ghost use Rattle.fa_tree_text.specs.parts.Ways.{Reaches};
+ghost use Rattle.fa_tree_text.specs.parts.Ways.{Reaches, IsFileAt};
 
 use fa_bodies::{is_name, split_at_byte};
 use fa_tree::{FileId, Tree};
@@ -56,7 +56,7 @@ fn has_spelled_bytes(spelled: &[u8]) -> bool
 }
 
 /// Decodes a name into `name`, in the place of what stands there, and answers whether it is spelled as a name is.
-fn decode_name(spelled: &[u8], name: &mut Vec<u8>) -> Result<bool, AllocError>
+pub(crate) fn decode_name(spelled: &[u8], name: &mut Vec<u8>) -> Result<bool, AllocError>
     ensures decoded { OnOk result (name.new.items ≡ percent_decode spelled.now) }
     ensures spelled { IfOk result (λ is_spelled. IsTrue is_spelled ↔ IsSpelledName spelled.now) }
 {
@@ -65,8 +65,8 @@ fn decode_name(spelled: &[u8], name: &mut Vec<u8>) -> Result<bool, AllocError>
     Ok(has_spelled_bytes(spelled) && has_whole_escapes(spelled) && is_name(name))
 }
 
-/// The directory to which the directories of a path lead, if it is a path and they are there. Its last name is decoded into
-/// `name`.
+/// The directory to which the directories of a path lead, from the root on, if it is a path and they are there. Its last name is
+/// decoded into `name`.
 pub(crate) fn find_parent(
     tree: &Tree,
     path: &[u8],
@@ -91,5 +91,21 @@ pub(crate) fn find_parent(
         Ok(Some(directory))
     } else {
         Ok(None)
+    }
+}
+
+/// The file to which a path leads, from the root on, if it is a path and the file is there. The path's last name is decoded into
+/// `name`.
+pub(crate) fn find_file(
+    tree: &Tree,
+    path: &[u8],
+    name: &mut Vec<u8>,
+) -> Result<Option<FileId>, AllocError>
+    ensures found { IfOk result (λ found. IfSome found (IsFileAt tree.now.store path.now)) }
+    ensures none { IfOk result (λ found. IfNone found ((file : FileId) → IsFileAt tree.now.store path.now file → ⊥)) }
+{
+    match find_parent(tree, path, name)? {
+        Some(parent) => Ok(tree.find(parent, name)),
+        None => Ok(None),
     }
 }

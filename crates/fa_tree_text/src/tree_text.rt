@@ -25,6 +25,7 @@ ghost use Rattle.fa_tree_text.specs.Faults.{IsTreeFaultTold};
 
 use crate::additions::add_line;
 use crate::fields::read_bits;
+use crate::folders::Folders;
 use fa_order::{END_LINE, LINE_FEED, MAX_TEXT_BYTES, TextError};
 use fa_tree::Tree;
 use std::alloc::Global;
@@ -58,7 +59,9 @@ fn read_root(left: &[u8]) -> Option<(u16, &[u8])>
 /// # Cost
 ///
 /// Expected time linear in the number of bytes, up to the fault or the end, but for what [`Tree::add`] and [`Tree::add_link`] take
-/// for each line. Memory for the tree, and for one name and one body at a time.
+/// for each line. Of a path the last name alone is decoded and looked up where the path before it is spelled as that of the line
+/// before, or as that of the directory which was added last; elsewhere each name of it is, from the root on. Memory for the tree,
+/// and for one name and one body at a time.
 pub fn read_tree(alloc: Global, bytes: &[u8]) -> Result<Tree, TextError>
     requires { length bytes.now ≤ MAX_TEXT_BYTES }
     ensures found { IfOk result (λ tree. IsTreeText bytes.now tree) }
@@ -71,8 +74,9 @@ pub fn read_tree(alloc: Global, bytes: &[u8]) -> Result<Tree, TextError>
         return Err(TextError::Line(2));
     };
     let mut tree = Tree::empty(alloc, bits)?;
+    let mut folders = Folders::new();
     let mut line = 3;
-    while let Some(rest) = add_line(alloc, &mut tree, left)? {
+    while let Some(rest) = add_line(alloc, &mut tree, &mut folders, left)? {
         left = rest;
         line += 1;
     }

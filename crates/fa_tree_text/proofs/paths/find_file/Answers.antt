@@ -1,7 +1,7 @@
 use Rattle.std.proofs.Common.{◌∙◌, ap, List, ℕ}
 use Rattle.std.specs.FinMap as map
-use Rattle.fa_tree_text.proofs.AdditionLemmas.{file_none, no_parent_none}
-use Rattle.fa_tree_text.proofs.additions.find_file.Goals as goal
+use Rattle.fa_tree_text.proofs.PathLemmas.{file_none, no_parent_none}
+use Rattle.fa_tree_text.proofs.paths.find_file.Goals as goal
 
 pub returns-in-Some-clause-none : goal.returns-in-Some-clause-none
 returns-in-Some-clause-none c =
