@@ -21,7 +21,7 @@ enum Told {
 }
 
 /// Lines that may stand behind `root 755`, before `end`, and what comes of the text.
-const LINES: [(&[u8], Told); 144] = [
+const LINES: [(&[u8], Told); 160] = [
     (b"", Read),
     (b"\n", Line(3)),
     // Each type.
@@ -137,6 +137,35 @@ const LINES: [(&[u8], Told); 144] = [
     (b"d 755 a\nd 755 a\n", Line(4)),
     (b"d 755 a\nf 644 a -\n", Line(4)),
     (b"d 755 /\n", Line(3)),
+    // Folders that come again, and that are spelled in two ways.
+    (
+        b"d 755 a\nd 755 b\nf 644 a/x -\nf 644 b/x -\nf 644 a/y -\nf 644 b/y -\n",
+        Read,
+    ),
+    (
+        b"d 755 a\nd 755 a/b\nf 644 a/b/x -\nf 644 a/x -\nf 644 x -\nf 644 a/b/x -\n",
+        Line(8),
+    ),
+    (b"d 755 a\nf 644 a/x -\nf 644 %61/y -\nf 644 a/z -\n", Read),
+    (
+        b"d 755 a\nf 644 a/x -\nf 644 %61/y -\nf 644 a/y -\n",
+        Line(6),
+    ),
+    (b"d 755 a\nf 644 a/x -\nf 644 ab/x -\n", Line(5)),
+    (b"d 755 ab\nf 644 ab/x -\nf 644 a/x -\n", Line(5)),
+    (b"d 755 a\nd 755 a/b\nf 644 a/b/x -\nf 644 b/x -\n", Line(6)),
+    (b"d 755 a\nf 644 a/x -\nf 644 a/b/x -\nd 755 a/b\n", Line(5)),
+    (b"d 755 a\nf 644 a/x -\nf 644 a/x/y -\n", Line(5)),
+    (b"d 755 a\nf 644 a/x -\nf 644 a/. -\n", Line(5)),
+    (b"d 755 a\nf 644 a/x -\nf 644 a/%6 -\n", Line(5)),
+    (b"d 755 a\nf 644 a/x -\nf 644 a/ -\n", Line(5)),
+    (b"d 755 a\nf 644 a/x -\nf 644 /y -\n", Line(5)),
+    (b"d 755 a\nf 644 a/x -\nf 644 a//y -\n", Line(5)),
+    (
+        b"d 755 a\nd 755 b\nf 644 a/x -\nh b/x a/x\nh a/y b/x\nf 644 b/y -\n",
+        Read,
+    ),
+    (b"d 755 a\nf 644 a/x -\nh y a/x\nh z a/y\n", Line(6)),
     // Further names.
     (b"f 644 a 78\nh b a\n", Read),
     (b"f 644 a -\nh b a\nh c b\n", Read),
