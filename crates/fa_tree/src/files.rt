@@ -98,7 +98,7 @@ impl Files {
     }
 
     /// Writes bytes at an offset of a file, if it is there, with zeros between its end and the offset. An error says that
-    /// memory was refused, and nothing is changed. Time in the bytes written and the zeros.
+    /// memory was refused, and nothing is changed. Time in the bytes written.
     pub fn write(&mut self, id: FileId, offset: u64, payload: &[u8]) -> Result<(), AllocError>
         ensures written { OnOk result (self.new ≡ with_file self.old id (with_bytes (λ bytes. written bytes offset payload.now))) }
         ensures unchanged { OnErr result (self.new ≡ self.old) }
