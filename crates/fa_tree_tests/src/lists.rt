@@ -6,6 +6,7 @@ use crate::trees::tree_of;
 use fa_bodies::ROOT_ID as ROOT;
 use fa_capture::codes::{ATTRIBUTES, LISTING};
 use fa_capture::read_capture;
+use fa_ledger::Calls;
 use fa_sample::{DIR, Listed, Sample};
 use fa_tests::messages::begun;
 use fa_tests::paired::calls_of;
@@ -81,14 +82,11 @@ fn listed_to(alloc: Global, end: u32) -> Sample {
         .listing(2, &[])
 }
 
-/// How many calls step on the large directory, in the order of their requests, and what the next one is told, if there is one.
-/// None where a message is refused, or memory was.
-fn steps_of(alloc: Global, sample: Sample) -> Option<(u32, Option<StepError>)> {
-    let bytes = sample.capture().ok()?;
-    let capture = read_capture(alloc, &bytes).ok()?;
-    let calls = calls_of(alloc, &capture.packets)?;
+/// How many calls step on the large directory, in their order, and what the next one is told, if there is one. None where memory was
+/// refused.
+fn steps_along(alloc: Global, calls: &Calls<'_>) -> Option<(u32, Option<StepError>)> {
     let mut tree = large(alloc)?;
-    let mut replay = Replay::new(alloc, &calls);
+    let mut replay = Replay::new(alloc, calls);
     let mut steps = 0u32;
     for call in &calls.list {
         match step_in(&mut tree, &mut replay, call.asked)? {
@@ -97,6 +95,14 @@ fn steps_of(alloc: Global, sample: Sample) -> Option<(u32, Option<StepError>)> {
         }
     }
     Some((steps, None))
+}
+
+/// The same of the calls of a sample. None also where a message is refused.
+fn steps_of(alloc: Global, sample: Sample) -> Option<(u32, Option<StepError>)> {
+    let bytes = sample.capture().ok()?;
+    let capture = read_capture(alloc, &bytes).ok()?;
+    let calls = calls_of(alloc, &capture.packets)?;
+    steps_along(alloc, &calls)
 }
 
 /// A directory of many names, listed in pieces while another name comes and goes: to its end, and up to its last names.
@@ -228,10 +234,16 @@ fn told_both(
 }
 
 /// How many calls step, and how many are refused. None where one is told otherwise along the replay than by itself.
-fn told_alike(along: &mut Tree, alone: &mut Tree, replay: &mut Replay<'_>) -> Option<(u32, u32)> {
+fn told_alike(
+    alloc: Global,
+    along: &mut Tree,
+    alone: &mut Tree,
+    calls: &Calls<'_>,
+) -> Option<(u32, u32)> {
+    let mut replay = Replay::new(alloc, calls);
     let (mut steps, mut refused) = (0u32, 0u32);
-    for call in &replay.calls().list {
-        match told_both(along, alone, replay, call.asked)? {
+    for call in &calls.list {
+        match told_both(along, alone, &mut replay, call.asked)? {
             Ok(()) => steps = steps.saturating_add(1),
             Err(_) => refused = refused.saturating_add(1),
         }
@@ -246,7 +258,7 @@ fn listed_alike(alloc: Global, files: &[Added], messages: &[Sent]) -> Option<(u3
     let calls = calls_of(alloc, &capture.packets)?;
     let mut along = tree_of(alloc, files)?;
     let mut alone = tree_of(alloc, files)?;
-    told_alike(&mut along, &mut alone, &mut Replay::new(alloc, &calls))
+    told_alike(alloc, &mut along, &mut alone, &calls)
 }
 
 /// What is kept of a listing shows nowhere, where it goes on, where it goes back, and where it ends.
