@@ -2,7 +2,6 @@
 
 ghost use Rattle.std.specs.Prelude.{◌≡◌, ◌≤◌, ◌++◌, ℕ, List, IfOk, IfSome, IfNone, OnOk};
 ghost use Rattle.std.specs.Option.{option_copied};
-ghost use Rattle.fa_tree.specs.declared.id.FileId.{FileId};
 ghost use Rattle.fa_tree.specs.Attributes.{all_bits};
 ghost use Rattle.fa_tree_text.specs.TreeLines.{TreeLine, line_text, SpellsBytes, SpellsBody, Adds};
 ghost use Rattle.fa_tree_text.specs.TreeText.{LacksAddition};
