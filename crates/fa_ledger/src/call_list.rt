@@ -28,6 +28,7 @@ pub(crate) struct WaitingCall {
 /// The calls so far. They are found by their numbers, which rise.
 #[derive(Drop)]
 pub(crate) struct CallList<'a> {
+    /// By rising numbers of their requests.
     list: Vec<Call<'a>>,
 }
 

@@ -360,7 +360,7 @@ impl<'a> Action<'a> {
         })
     }
 
-    /// What a MKNOD asks for that was answered so, or was not answered.
+    /// What an MKNOD asks for that was answered so, or was not answered.
     fn mknod(
         mode: Mode,
         umask: u32,
@@ -377,7 +377,7 @@ impl<'a> Action<'a> {
         })
     }
 
-    /// What a MKDIR asks for that was answered so, or was not answered.
+    /// What an MKDIR asks for that was answered so, or was not answered.
     fn mkdir(
         mode: Mode,
         umask: u32,
@@ -394,7 +394,7 @@ impl<'a> Action<'a> {
         })
     }
 
-    /// What a UNLINK asks for that was answered so, or was not answered.
+    /// What an UNLINK asks for that was answered so, or was not answered.
     fn unlink(name: &'a [u8], reply: Option<&Reply<'a>>) -> Option<Action<'a>>
         ensures { option_map action_shown result ≡ option_map (λ o. Unlink name.now o) (came_to done_in (option_map (λ r. reply_shown r.now) reply.entry)) }
     {
@@ -404,7 +404,7 @@ impl<'a> Action<'a> {
         })
     }
 
-    /// What a RMDIR asks for that was answered so, or was not answered.
+    /// What an RMDIR asks for that was answered so, or was not answered.
     fn rmdir(name: &'a [u8], reply: Option<&Reply<'a>>) -> Option<Action<'a>>
         ensures { option_map action_shown result ≡ option_map (λ o. Rmdir name.now o) (came_to done_in (option_map (λ r. reply_shown r.now) reply.entry)) }
     {
@@ -456,7 +456,7 @@ impl<'a> Action<'a> {
         })
     }
 
-    /// What a OPEN asks for that was answered so, or was not answered.
+    /// What an OPEN asks for that was answered so, or was not answered.
     fn open(reply: Option<&Reply<'a>>) -> Option<Action<'a>>
         ensures { option_map action_shown result ≡ option_map (λ o. Open o) (came_to handle_in (option_map (λ r. reply_shown r.now) reply.entry)) }
     {
@@ -493,7 +493,7 @@ impl<'a> Action<'a> {
         })
     }
 
-    /// What a OPENDIR asks for that was answered so, or was not answered.
+    /// What an OPENDIR asks for that was answered so, or was not answered.
     fn opendir(reply: Option<&Reply<'a>>) -> Option<Action<'a>>
         ensures { option_map action_shown result ≡ option_map (λ o. Opendir o) (came_to handle_in (option_map (λ r. reply_shown r.now) reply.entry)) }
     {

@@ -13,15 +13,16 @@ use std::marker::Model;
 
 /// The requests that wait for their answers, by their uniques.
 ///
-/// The one that came last is kept apart from the table of the others. So the table is empty, and is not asked, where each
-/// request is answered before the next one is sent; and a unique above all before, as the kernel gives them, is not looked for.
+/// That of the highest unique so far is kept apart from the table of the others. The kernel gives rising uniques, so it is the
+/// newest one then: the table is empty, and is not asked, where each request is answered before the next one is sent. And a
+/// unique above all before is not looked for.
 #[derive(Drop)]
 pub(crate) struct Outstanding<'a> {
-    /// The request that came last, if it waits.
+    /// The request of the highest unique, if it waits.
     newest: Option<Waiting<'a>>,
-    /// Those that came before it.
+    /// The others, nearly all of which came earlier.
     earlier: IndexMap<u64, Waiting<'a>>,
-    /// No request had a unique above this one.
+    /// The highest unique that a request had.
     highest: u64,
 }
 

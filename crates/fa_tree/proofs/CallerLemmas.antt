@@ -4,6 +4,9 @@
 pub use Rattle.fa_tree.proofs.PartLemmas.{IsPartOf, OpensNone, UsesKept, whole_part, step_same, step_failed, step_read, step_lost}
 -- a call as it is shown
 pub use Rattle.fa_tree.proofs.StepLemmas.{shown_at}
+-- places are in a total order and told apart, and what is put at one is found
+pub use Rattle.fa_tree.specs.parts.PlaceLaws.{place_cmp_total, same_place}
+pub use Rattle.fa_tree.proofs.EditedLemmas.{insert_there}
 -- what a tree knows, and the code that is told where it does not know what a call names
 pub use Rattle.fa_tree.proofs.KnownLemmas.{IsKnownIn, IsOpenedIn, UsesOpened, step_keeps_node, step_keeps_open, step_gives, step_opens, all_known, unknown_fails, told_unknown}
 -- a step where all checks hold

@@ -25,7 +25,8 @@ pub(crate) struct ListedSoFar<'c> {
 /// What was listed so far is kept from one step to the next, so that each answer of a listing that goes straight on is gone
 /// through once. Nothing that is kept shows in what a step answers: to its callers a `Replay` is its calls.
 ///
-/// It takes memory for the names of listings that are not at their end, at most for those that the answers of its calls list.
+/// It takes memory for the names of listings that did not reach their end, also where their handle was closed: at most for those
+/// that the answers of its calls list.
 #[derive(Drop)]
 pub struct Replay<'c> {
     calls: &'c Calls<'c>,
@@ -69,8 +70,8 @@ impl<'c> Replay<'c> {
         self.calls
     }
 
-    /// What was listed so far for the call at this place. What is kept for its handle is taken away for it; `keep` puts it back.
-    /// An error says that memory was refused, and nothing is kept for the handle then.
+    /// What was listed so far for the call at this place. Where it goes on from another, what is kept for its handle is taken away
+    /// for it; `keep` puts it back. An error says that memory was refused, and nothing is kept for the handle then.
     ///
     /// Where what is kept is that of the call that it goes on from, or of one that goes on from the same, expected time and
     /// memory in the names of that one call's answer, and time logarithmic in the calls. Elsewhere as

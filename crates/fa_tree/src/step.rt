@@ -101,9 +101,9 @@ impl Tree {
     /// step may be taken along the same replay.
     ///
     /// Time and memory as `step`, but for READDIR and READDIRPLUS. These take time and memory in the names that they answer, and
-    /// in those of the answer that they go on from, where the step before on the handle was that of this answer or of the same
-    /// request again; elsewhere in all names that were listed so far. The replay keeps these until the step that ends the
-    /// listing. Time in the names that were listed more than once comes on top, and at the end of a listing in the places that
+    /// in those of the answer that they go on from, where the step before on the handle was that of this answer, or of a request
+    /// that goes on from the same and did not end the listing; elsewhere in all names that were listed so far. The replay keeps
+    /// these until the step that ends the listing. Time in the names that were listed more than once comes on top, and at the end of a listing in the places that
     /// the directory ever had.
     pub fn step_in(
         &mut self,

@@ -12,8 +12,7 @@ use Rattle.fa_bodies.specs.Names.{LacksByte}
 use Rattle.fa_tree.specs.declared.id.FileId.{FileId}
 use Rattle.fa_tree.specs.State.{File, Place, place_cmp, Store, TreeState, root, HasName}
 use Rattle.fa_tree.specs.Building.{MayBeAdded, next_added, tree_added, MayBeLinkedTo, tree_linked}
-use Rattle.fa_tree.specs.parts.PlaceLaws.{place_cmp_total, same_place}
-use Rattle.fa_tree.proofs.EditedLemmas.{insert_there}
+use Rattle.fa_tree.proofs.CallerLemmas.{place_cmp_total, same_place, insert_there}
 use Rattle.fa_tree_text.specs.declared.folders.Folder.{Folder}
 use Rattle.fa_tree_text.specs.declared.folders.Folders.{Folders}
 use Rattle.fa_tree_text.specs.Paths.{slashed, IsSpelledName, LeadsTo}

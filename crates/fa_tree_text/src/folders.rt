@@ -24,7 +24,7 @@ struct Folder<'a> {
 /// The directories that the lines of a tree text named last.
 #[derive(Drop)]
 pub(crate) struct Folders<'a> {
-    /// The directory of the last line's path.
+    /// The directory of the path of the last line that names one: a path in the root leaves it.
     parent: Option<Folder<'a>>,
     /// The directory that a line added last.
     added: Option<Folder<'a>>,

@@ -21,16 +21,16 @@ entries_shown es = map (λ e. (e.0, waiting_shown e.1)) es
 abbrev pub by_unique : List (ℕ × Waiting) → List (ℕ × PlainWaiting)
 by_unique es = entries (from_entries {R = nat_cmp} (entries_shown es))
 
--- the request that came last, if it waits, as an entry
+-- the request of the highest unique so far, if it waits, as an entry
 abbrev pub newest_entry : Option Waiting → List (ℕ × Waiting)
 newest_entry None = []
 newest_entry (Some w) = (w.request.unique, w) ∷ []
 
--- the outstanding requests as entries, the one that came last before those of the table
+-- the outstanding requests as entries, that of the highest unique before those of the table
 abbrev pub outstanding_shown : Outstanding → List (ℕ × Waiting)
 outstanding_shown o = newest_entry o.newest ++ o.earlier.entries
 
--- In the table each stands under its own unique; the one that came last is not in it; and none is above the highest.
+-- In the table each stands under its own unique; that of the highest is not in it; and none is above the highest.
 pub record AreOutstanding (o : Outstanding) : Type 0 where
   pub own : (unique : ℕ) (w : Waiting) → lookup (nat_eq unique) o.earlier.entries ≡ Some w → w.request.unique ≡ unique
   pub apart : (w : Waiting) → o.newest ≡ Some w → lookup (nat_eq w.request.unique) o.earlier.entries ≡ None
