@@ -1,42 +1,84 @@
--- The list of the calls: they are found by their numbers, which rise.
-use Rattle.std.proofs.Common.{◌≡◌, ℕ, zero, suc, ◌+◌, ◌-◌, ◌<◌, ◌≤◌, true, false, List, [], ◌∷◌, ◌++◌, length, get_or, Option, Some, None, refl, sym, ap, subst, ◌∙◌, inl, inr, arith}
-use Rattle.std.specs.Prelude.{◌==◌, slice_get, slice_set, map, option_map, drop, is_some}
+-- The list of the calls, and the places of those that wait.
+use Rattle.std.proofs.Common.{◌≡◌, ◌⊎◌, ℕ, zero, suc, ◌+◌, ◌<◌, Bool, true, false, cond, List, [], ◌∷◌, ◌++◌, length, get_or, Some, None, refl, sym, ap, subst, ◌∙◌, inl, inr, arith}
+use Rattle.std.specs.Prelude.{◌==◌, if◌then◌else◌, nat_eq, slice_get, slice_set, map, option_map}
 use Rattle.std.specs.List.Sorted.{IsStrictlyIncreasing}
-use Rattle.std.proofs.Math.Seq.{map-set_same}
+use Rattle.std.specs.Map.{lookup}
+use Rattle.std.specs.Option.{option_map_or}
 use Rattle.std.proofs.lemmas.Bool.{cases_lt}
-use Rattle.std.proofs.lemmas.Bool.Decides.{nat_tests}
-use Rattle.std.proofs.lemmas.List.{length-map, length-drop, map-append, map-set, drop-map, get_or-drop, get_or-map}
+use Rattle.std.proofs.lemmas.Bool.Decides.{nat_tests, eqb_tells}
+use Rattle.std.proofs.lemmas.List.{length-map, map-append, map-set}
 use Rattle.std.proofs.lemmas.Option.{slice_get_within, slice_get-map, slice_get-get_or, get_or_from_slice_get, same_Some}
+use Rattle.fa_capture.proofs.CallerLemmas.{get_kept, get_back, get_last, get_cases}
 use Rattle.fa_ledger.specs.declared.call.Answer.{Answer}
 use Rattle.fa_ledger.specs.declared.call.Call.{Call}
+use Rattle.fa_ledger.specs.declared.call_list.WaitingCall.{WaitingCall}
 use Rattle.fa_ledger.specs.Calls.{PlainAnswer, PlainCall, answer_shown, call_shown}
-use Rattle.fa_ledger.specs.parts.CallParts.{WaitsAt, AreAllBelow, IsStartFor}
+use Rattle.fa_ledger.specs.parts.CallParts.{WaitsAt, IsNewNumber, AreTheirPlaces, waiting_of}
 use Rattle.fa_ledger.specs.declared.operation.Operation.{Operation}
 use Rattle.fa_ledger.specs.Operations.{PlainOperation, operation_shown}
 use Rattle.fa_ledger.specs.parts.Steps.{with_answer}
-use Rattle.fa_capture.proofs.CallerLemmas.{get_from_drop}
-use Rattle.fa_ledger.proofs.CallStepLemmas.{rising_more}
 
--- the numbers of calls
-abbrev pub numbers : List PlainCall → List ℕ
-numbers calls = map (λ call. call.asked) calls
-
--- no call has this number
-abbrev HasNone : List PlainCall → ℕ → Type 0
-HasNone calls asked = (place : ℕ) (call : PlainCall) → slice_get calls place ≡ Some call → call.asked ≡ asked → ⊥
-
--- ---- an answer
+-- ---- the table
 
 -- a number that another one is not
 other_number : (m n : ℕ) → (m ≡ n → ⊥) → (n == m) ≡ false
 other_number m n other = grind (arith, nat_tests)
+
+-- the places of the calls, where one more waits
+place_added : (calls : List PlainCall) (call : PlainCall) (old new : List (ℕ × ℕ)) → call.answer ≡ None → IsNewNumber calls call.asked → AreTheirPlaces calls old
+    → ((q : ℕ) → lookup (nat_eq q) new ≡ cond (nat_eq call.asked q) (Some (length calls)) (lookup (nat_eq q) old))
+    → AreTheirPlaces (calls ++ call ∷ []) new
+place_added calls call old new waits later are wrote q place =
+    elim (eqb_tells call.asked q) [
+      | inl same ↦
+          let here : lookup (nat_eq q) new ≡ Some (length calls) = wrote q ∙ ap (λ b. cond b (Some (length calls)) (lookup (nat_eq q) old)) same.0 in (
+            λ found.
+                let last : length calls ≡ place = same_Some (length calls) place (sym here ∙ found) in
+                (call, record { there = subst (λ k. slice_get (calls ++ call ∷ []) k ≡ Some call) last (get_last calls call); numbered = same.1; unanswered = waits }),
+            λ waiting. elim (get_cases calls call place waiting.0 waiting.1.there) [
+              | inl below ↦ absurd (later place waiting.0 (get_back calls (call ∷ []) place waiting.0 below waiting.1.there) (waiting.1.numbered ∙ sym same.1))
+              | inr last ↦ here ∙ ap (λ k. Some k) (sym last.0)
+            ],
+          )
+      | inr other ↦
+          let kept : lookup (nat_eq q) new ≡ lookup (nat_eq q) old = wrote q ∙ ap (λ b. cond b (Some (length calls)) (lookup (nat_eq q) old)) other.0 in (
+            λ found.
+                let waiting = (are q place).0 (sym kept ∙ found) in
+                (waiting.0, record { there = get_kept calls (call ∷ []) place waiting.0 waiting.1.there; numbered = waiting.1.numbered; unanswered = waiting.1.unanswered }),
+            λ waiting. elim (get_cases calls call place waiting.0 waiting.1.there) [
+              | inl below ↦
+                  kept ∙ (are q place).1 (
+                    waiting.0,
+                    record {
+                      there = get_back calls (call ∷ []) place waiting.0 below waiting.1.there;
+                      numbered = waiting.1.numbered;
+                      unanswered = waiting.1.unanswered;
+                    },
+                  )
+              | inr last ↦ absurd (other.1 (ap (λ (x : PlainCall). x.asked) (sym last.1) ∙ waiting.1.numbered))
+            ],
+          )
+    ]
+
+-- the table after a call is added to the list
+pub places_pushed : (calls : List PlainCall) (items pushed : List Call) (call : Call) (place : ℕ) (old new : List (ℕ × ℕ)) → map call_shown items ≡ calls
+    → pushed ≡ items ++ call ∷ [] → place ≡ length items → call.answer ≡ None → IsNewNumber calls call.asked → AreTheirPlaces (map call_shown items) old
+    → ((q : ℕ) → lookup (nat_eq q) new ≡ cond (nat_eq call.asked q) (Some place) (lookup (nat_eq q) old))
+    → AreTheirPlaces (map call_shown pushed) new
+places_pushed calls items pushed call place old new view added last waits later are wrote =
+    let shown : map call_shown pushed ≡ map call_shown items ++ call_shown call ∷ [] = ap (map call_shown) added ∙ map-append call_shown items (call ∷ []) in
+    let at : place ≡ length (map call_shown items) = last ∙ sym (length-map items call_shown) in
+    subst (λ cs. AreTheirPlaces cs new) (sym shown)
+    (place_added (map call_shown items) (call_shown call) old new (ap (option_map answer_shown) waits)
+    (subst (λ cs. IsNewNumber cs call.asked) (sym view) later) are
+    (subst (λ (k : ℕ). (q : ℕ) → lookup (nat_eq q) new ≡ cond (nat_eq call.asked q) (Some k) (lookup (nat_eq q) old)) at wrote))
 
 -- a call that does not have this number is left as it is
 one_left : (call : PlainCall) (asked : ℕ) (o : PlainOperation) (answer : PlainAnswer) → (call.asked ≡ asked → ⊥) → with_answer (call ∷ []) asked o answer ≡ call ∷ []
 one_left call asked o answer other = rw (other_number asked call.asked (λ same. other (sym same))) refl
 
 -- calls of which none has this number are left as they are
-all_left : (calls : List PlainCall) (asked : ℕ) (o : PlainOperation) (answer : PlainAnswer) → HasNone calls asked → with_answer calls asked o answer ≡ calls
+all_left : (calls : List PlainCall) (asked : ℕ) (o : PlainOperation) (answer : PlainAnswer) → IsNewNumber calls asked → with_answer calls asked o answer ≡ calls
 all_left [] asked o answer none = refl
 all_left (call ∷ calls) asked o answer none =
     let first : with_answer (call ∷ []) asked o answer ≡ call ∷ [] = one_left call asked o answer (none 0 call refl) in
@@ -60,8 +102,6 @@ one_answered (first ∷ calls) (suc place) asked call new o answer there only an
     let others : slice_set calls place new ≡ with_answer calls asked o answer = one_answered calls place asked call new o answer there (λ k other at numbered.
     let later : suc k ≡ suc place = only (suc k) other at numbered in omega (arith, later)) answered in
     ap (λ cs. first ∷ cs) others ∙ sym (ap (λ cs. cs ++ with_answer calls asked o answer) kept)
-
--- ---- rising numbers
 
 -- of rising numbers a later one is larger
 rises_far : (xs : List ℕ) → IsStrictlyIncreasing xs → (k j : ℕ) → k < j → j < length xs → get_or xs k 0 < get_or xs j 0
@@ -102,165 +142,140 @@ only_call calls rise place asked call there numbered k other at same =
     (slice_get-map number calls place ∙ ap (option_map number) there ∙ ap (λ n. Some n) numbered)
 
 -- the call at a place of the list, as it is shown
-pub shown_at : (items : List Call) (place : ℕ) (call : Call) → call ≡ get_or items place call → place < length items → slice_get (map call_shown items) place ≡ Some (call_shown call)
+shown_at : (items : List Call) (place : ℕ) (call : Call) → call ≡ get_or items place call → place < length items → slice_get (map call_shown items) place ≡ Some (call_shown call)
 shown_at items place call read within =
     slice_get-map call_shown items place
     ∙ ap (option_map call_shown) (slice_get-get_or items place call within ∙ ap (λ c. Some c) (sym read))
 
--- ---- one call more
+-- a place that the table has is that of a call that waits
+place_waits : (items : List Call) (calls : List PlainCall) (table : List (ℕ × ℕ)) (asked place : ℕ) → map call_shown items ≡ calls → AreTheirPlaces (map call_shown items) table
+    → lookup (nat_eq asked) table ≡ Some place → (call : PlainCall) × WaitsAt calls asked place call
+place_waits items calls table asked place view are found =
+    subst (λ cs. (call : PlainCall) × WaitsAt cs asked place call) view ((are asked place).0 found)
 
--- a number of calls is that of one of them
-number_of : (calls : List PlainCall) (asked n : ℕ) → AreAllBelow calls asked → (k : ℕ) → slice_get (numbers calls) k ≡ Some n → n < asked
-number_of [] asked n below k is = absurd cc
-number_of (call ∷ calls) asked n below zero is = let first = below 0 call refl in omega (arith, first, same_Some call.asked n is)
-number_of (call ∷ calls) asked n below (suc k) is = number_of calls asked n (λ place. below (suc place)) k is
+-- such a place is within the list
+pub place_within : (items : List Call) (table : List (ℕ × ℕ)) (asked place : ℕ) → AreTheirPlaces (map call_shown items) table → lookup (nat_eq asked) table ≡ Some place → place < length items
+place_within items table asked place are found =
+    let waiting = (are asked place).0 found in
+    let within : place < length (map call_shown items) = slice_get_within (map call_shown items) place waiting.0 waiting.1.there in
+    omega (arith, within, length-map items call_shown)
 
--- where a call with a larger number comes behind the others, the numbers rise still
-pub in_order_still : (items pushed : List Call) (call : Call) → IsStrictlyIncreasing (numbers (map call_shown items)) → AreAllBelow (map call_shown items) call.asked → pushed ≡ items ++ call ∷ []
-    → IsStrictlyIncreasing (numbers (map call_shown pushed))
-in_order_still items pushed call rise below is =
-    let calls : List PlainCall = map call_shown items in
-    let shown : map call_shown pushed ≡ calls ++ call_shown call ∷ [] = ap (map call_shown) is ∙ map-append call_shown items (call ∷ []) in
-    let split : numbers (map call_shown pushed) ≡ numbers calls ++ call.asked ∷ [] = ap numbers shown ∙ map-append (λ (c : PlainCall). c.asked) calls (call_shown call ∷ []) in
-    subst IsStrictlyIncreasing (sym split) (rising_more (numbers calls) call.asked rise (λ z has. number_of calls call.asked z below has.0 (slice_get-get_or (numbers calls) has.0 z has.1 ∙ ap (λ n. Some n) has.2)))
+-- where a call waits, the table has its place
+pub waits_found : (items : List Call) (calls : List PlainCall) (table : List (ℕ × ℕ)) (asked place : ℕ) (call : PlainCall) → map call_shown items ≡ calls → AreTheirPlaces (map call_shown items) table
+    → WaitsAt calls asked place call → lookup (nat_eq asked) table ≡ Some place
+waits_found items calls table asked place call view are waits =
+    (are asked place).1 (call, subst (λ cs. WaitsAt cs asked place call) (sym view) waits)
 
--- ---- a call that is found
+-- where no call has a number, the table has no place for it
+pub no_place : (items : List Call) (calls : List PlainCall) (table : List (ℕ × ℕ)) (asked : ℕ) → map call_shown items ≡ calls → AreTheirPlaces (map call_shown items) table → IsNewNumber calls asked
+    → lookup (nat_eq asked) table ≡ None
+no_place items calls table asked view are new =
+    elim (lookup (nat_eq asked) table) as (λ o. lookup (nat_eq asked) table ≡ o → o ≡ None) [
+      | None ↦ λ is. refl
+      | Some place ↦ λ is. let waits = place_waits items calls table asked place view are is in absurd (new place waits.0 waits.1.there waits.1.numbered)
+    ] refl
 
--- the call at a place is the one of this number
-pub found_here : (items : List Call) (calls : List PlainCall) (place asked : ℕ) (call : Call) → map call_shown items ≡ calls → call ≡ get_or items place call
-    → (plain : PlainCall) × (slice_get calls place ≡ Some plain) × (plain.asked ≡ asked) → (slice_get calls place ≡ Some (call_shown call)) × (call.asked ≡ asked)
-found_here items calls place asked call view read found =
-    let within : place < length items =
-    omega (arith, slice_get_within (map call_shown items) place found.0 (ap (λ cs. slice_get cs place) view ∙ found.1), length-map items call_shown) in
-    let there : slice_get calls place ≡ Some (call_shown call) = ap (λ cs. slice_get cs place) (sym view) ∙ shown_at items place call read within in
-    (there, ap (λ (c : PlainCall). c.asked) (same_Some (call_shown call) found.0 (sym there ∙ found.1)) ∙ found.2)
-
--- a place that is found is within the list
-pub found_within : (items : List Call) (calls : List PlainCall) (place asked : ℕ) → map call_shown items ≡ calls
-    → (plain : PlainCall) × (slice_get calls place ≡ Some plain) × (plain.asked ≡ asked) → place < length items
-found_within items calls place asked view found =
-    omega (arith, slice_get_within (map call_shown items) place found.0 (ap (λ cs. slice_get cs place) view ∙ found.1), length-map items call_shown)
-
--- an answer that is there is shown
-pub answer_there : (answer : Option Answer) → is_some answer ≡ true → (shown : PlainAnswer) × (option_map answer_shown answer ≡ Some shown)
-answer_there None is = absurd cc
-answer_there (Some answer) is = (answer_shown answer, refl)
-
--- and one that is not, is not
-pub no_answer_there : (answer : Option Answer) → is_some answer ≡ false → option_map answer_shown answer ≡ None
-no_answer_there None is = refl
-no_answer_there (Some answer) is = absurd cc
-
--- where the call of a number was answered, none waits under it
-pub none_waits : (calls : List PlainCall) → IsStrictlyIncreasing (numbers calls) → (place asked : ℕ) (call : PlainCall) (answer : PlainAnswer) → slice_get calls place ≡ Some call → call.asked ≡ asked
-    → call.answer ≡ Some answer → (k : ℕ) (other : PlainCall) → WaitsAt calls asked k other → ⊥
-none_waits calls rise place asked call answer there numbered answered k other waits =
-    let same : k ≡ place = only_call calls rise place asked call there numbered k other waits.there waits.numbered in
-    let one : other ≡ call = same_Some other call (sym waits.there ∙ ap (slice_get calls) same ∙ there) in
-    let clash : None ≡ Some answer = sym waits.unanswered ∙ ap (λ (c : PlainCall). c.answer) one ∙ answered in
+-- where the table has no place, no call waits
+pub none_waits : (items : List Call) (calls : List PlainCall) (table : List (ℕ × ℕ)) (asked : ℕ) → map call_shown items ≡ calls → AreTheirPlaces (map call_shown items) table
+    → lookup (nat_eq asked) table ≡ None → (place : ℕ) (call : PlainCall) → WaitsAt calls asked place call → ⊥
+none_waits items calls table asked view are none place call waits =
+    let clash : None ≡ Some place = sym none ∙ waits_found items calls table asked place call view are waits in
     absurd cc
 
+-- the call at a place of the table is the one that waits
+the_call : (items : List Call) (calls : List PlainCall) (table : List (ℕ × ℕ)) (asked place : ℕ) (call : Call) → map call_shown items ≡ calls → AreTheirPlaces (map call_shown items) table
+    → lookup (nat_eq asked) table ≡ Some place → call ≡ get_or items place call → WaitsAt calls asked place (call_shown call)
+the_call items calls table asked place call view are found read =
+    let waits = place_waits items calls table asked place view are found in
+    let there : slice_get calls place ≡ Some (call_shown call) =
+    ap (λ cs. slice_get cs place) (sym view) ∙ shown_at items place call read (place_within items table asked place are found) in
+    let same : waits.0 ≡ call_shown call = same_Some waits.0 (call_shown call) (sym waits.1.there ∙ there) in
+    subst (WaitsAt calls asked place) same waits.1
+
+-- what is known of it
+pub waiting_there : (items : List Call) (calls : List PlainCall) (table : List (ℕ × ℕ)) (asked place : ℕ) (call : Call) (adrift : Bool) → map call_shown items ≡ calls → AreTheirPlaces (map call_shown items) table
+    → lookup (nat_eq asked) table ≡ Some place → call ≡ get_or items place call → adrift ≡ option_map_or (λ l. l.adrift) call.listing false
+    → (k : ℕ) × (waiting : PlainCall) × WaitsAt calls asked k waiting × (◌≡◌ {A = WaitingCall} (record { node = call.node; handle = call.handle; adrift = adrift }) (waiting_of waiting))
+waiting_there items calls table asked place call adrift view are found read is =
+    let waiting : Bool → WaitingCall = λ b. record { node = call.node; handle = call.handle; adrift = b } in
+    (place, call_shown call, the_call items calls table asked place call view are found read, ap waiting is)
+
 -- the list after the answer is set at its place, with what it makes of the operation
-pub answer_set : (items : List Call) (calls : List PlainCall) (asked place : ℕ) (call : Call) (o : Operation) (answer : Answer) → map call_shown items ≡ calls → IsStrictlyIncreasing (numbers calls)
-    → slice_get calls place ≡ Some (call_shown call) → call.asked ≡ asked
+pub answer_set : (items : List Call) (calls : List PlainCall) (table : List (ℕ × ℕ)) (asked place : ℕ) (call : Call) (o : Operation) (answer : Answer) → map call_shown items ≡ calls → AreTheirPlaces (map call_shown items) table
+    → lookup (nat_eq asked) table ≡ Some place → call ≡ get_or items place call → IsStrictlyIncreasing (map (λ call. call.asked) calls)
     → map call_shown (slice_set items place (record call { operation = o; answer = Some answer })) ≡ with_answer calls asked (operation_shown o) (answer_shown answer)
-answer_set items calls asked place call o answer view rise there numbered =
+answer_set items calls table asked place call o answer view are found read rise =
     let after : Call = record call { operation = o; answer = Some answer } in
-    let only = only_call calls rise place asked (call_shown call) there numbered in
-    let test : (call.asked == asked) ≡ true = grind (arith, nat_tests, numbered) in
+    let waits = the_call items calls table asked place call view are found read in
+    let only = only_call calls rise place asked (call_shown call) waits.there waits.numbered in
+    let test : (call.asked == asked) ≡ true = grind (arith, nat_tests, waits.numbered) in
     map-set call_shown items place after
     ∙ ap (λ cs. slice_set cs place (call_shown after)) view
-    ∙ one_answered calls place asked (call_shown call) (call_shown after) (operation_shown o) (answer_shown answer) there only (rw test refl)
+    ∙ one_answered calls place asked (call_shown call) (call_shown after) (operation_shown o) (answer_shown answer) waits.there only (rw test refl)
 
--- and its numbers are those that it had
-pub numbers_kept : (items : List Call) (place : ℕ) (call : Call) (o : Operation) (answer : Answer) → call ≡ get_or items place call → place < length items
-    → IsStrictlyIncreasing (numbers (map call_shown items)) → IsStrictlyIncreasing (numbers (map call_shown (slice_set items place (record call { operation = o; answer = Some answer }))))
-numbers_kept items place call o answer read within =
-    let after : Call = record call { operation = o; answer = Some answer } in
-    let here : call.asked ≡ (get_or (map call_shown items) place (call_shown call)).asked =
-    ap (λ (c : Call). c.asked) read ∙ ap (λ (c : PlainCall). c.asked) (sym (get_or-map call_shown items place call (call_shown call) within)) in
-    let same : numbers (map call_shown (slice_set items place after)) ≡ numbers (map call_shown items) =
-    ap numbers (map-set call_shown items place after)
-    ∙ map-set_same (λ (c : PlainCall). c.asked) (map call_shown items) place (call_shown after) (call_shown call) here in
-    subst IsStrictlyIncreasing (sym same)
+-- ---- the table after an answer
 
--- ---- where it is looked for
+-- of two calls the chosen one, and what the choice tells
+chosen : (b : Bool) (new call after : PlainCall) → (if b then new else call) ∷ [] ≡ after ∷ [] → ((b ≡ true) × (new ≡ after)) ⊎ ((b ≡ false) × (call ≡ after))
+chosen true new call after is = let same : new ≡ after = cc in inl (refl, same)
+chosen false new call after is = let same : call ≡ after = cc in inr (refl, same)
 
--- rising numbers rise by one at least
-rises_by_one : (xs : List ℕ) → IsStrictlyIncreasing xs → (k d : ℕ) → k + d < length xs → get_or xs k 0 + d ≤ get_or xs (k + d) 0
-rises_by_one xs rise k zero within = let same : get_or xs (k + 0) 0 ≡ get_or xs k 0 = ap (λ i. get_or xs i 0) (omega arith) in omega (arith, same)
-rises_by_one xs rise k (suc d) within =
-    let before : get_or xs k 0 + d ≤ get_or xs (k + d) 0 = rises_by_one xs rise k d (omega (arith, within)) in
-    let next : get_or xs (k + d) 0 < get_or xs (k + d + 1) 0 = rise (k + d) (omega (arith, within)) in
-    let same : get_or xs (k + suc d) 0 ≡ get_or xs (k + d + 1) 0 = ap (λ i. get_or xs i 0) (omega arith) in
-    omega (arith, before, next, same)
+-- a call that still waits is as it was, and has another number
+still_waiting : (call after : PlainCall) (asked : ℕ) (o : PlainOperation) (answer : PlainAnswer) → with_answer (call ∷ []) asked o answer ≡ after ∷ [] → after.answer ≡ None → (call ≡ after) × (call.asked ≡ asked → ⊥)
+still_waiting call after asked o answer is waits =
+    elim (chosen (call.asked == asked) _ call after is) [
+      | inl answered ↦ let some : Some answer ≡ after.answer = ap (λ (c : PlainCall). c.answer) answered.1 in let none : Some answer ≡ None = some ∙ waits in absurd cc
+      | inr kept ↦ (kept.1, λ same. grind (arith, nat_tests, same, kept.0))
+    ]
 
--- no more calls stand behind a number than the last one's is above it
-pub start_behind : (calls : List PlainCall) → IsStrictlyIncreasing (numbers calls) → (asked : ℕ) (last : PlainCall) → slice_get calls (length calls - 1) ≡ Some last
-    → IsStartFor calls asked (length calls - (last.asked - asked + 1))
-start_behind calls rise asked last there =
-    let end : ℕ = length calls - 1 in
-    let number : PlainCall → ℕ = λ c. c.asked in (
-      omega arith,
-      λ place other at numbered.
-          let within = slice_get_within calls place other at in
-          let long : length (numbers calls) ≡ length calls = length-map calls number in
-          let mine : get_or (numbers calls) place 0 ≡ asked = get_or_from_slice_get (numbers calls) place asked 0 (slice_get-map number calls place ∙ ap (option_map number) at ∙ ap (λ n. Some n) numbered) in
-          let yours : get_or (numbers calls) end 0 ≡ last.asked = get_or_from_slice_get (numbers calls) end last.asked 0 (slice_get-map number calls end ∙ ap (option_map number) there) in
-          let far : get_or (numbers calls) place 0 + (end - place) ≤ get_or (numbers calls) (place + (end - place)) 0 = rises_by_one (numbers calls) rise place (end - place) (omega (arith, within, long)) in
-          let same : get_or (numbers calls) (place + (end - place)) 0 ≡ get_or (numbers calls) end 0 = ap (λ i. get_or (numbers calls) i 0) (omega (arith, within)) in
-          omega (arith, mine, yours, far, same, within),
-    )
+-- what stands at a place after the answer, by what stood there
+stood_at : (calls : List PlainCall) (asked : ℕ) (o : PlainOperation) (answer : PlainAnswer) (k : ℕ) (after : PlainCall) → slice_get (with_answer calls asked o answer) k ≡ Some after
+    → (call : PlainCall) × (slice_get calls k ≡ Some call) × (with_answer (call ∷ []) asked o answer ≡ after ∷ [])
+stood_at [] asked o answer k after there = absurd cc
+stood_at (call ∷ calls) asked o answer zero after there = (call, refl, ap (λ c. c ∷ []) (same_Some _ after there))
+stood_at (call ∷ calls) asked o answer (suc k) after there = stood_at calls asked o answer k after there
 
--- the same of calls as they are shown
-pub start_shown : (items : List Call) (calls : List PlainCall) (asked start : ℕ) (last : Call) → map call_shown items ≡ calls → IsStrictlyIncreasing (numbers (map call_shown items))
-    → slice_get items (length items - 1) ≡ Some last → start ≡ length items - (last.asked - asked + 1) → IsStartFor calls asked start
-start_shown items calls asked start last view rise there is =
-    let long : length (map call_shown items) ≡ length items = length-map items call_shown in
-    let end : slice_get (map call_shown items) (length (map call_shown items) - 1) ≡ Some (call_shown last) =
-    ap (λ n. slice_get (map call_shown items) (n - 1)) long ∙ slice_get-map call_shown items (length items - 1) ∙ ap (option_map call_shown) there in
-    let starts : IsStartFor (map call_shown items) asked start =
-    subst (IsStartFor (map call_shown items) asked) (ap (λ n. n - (last.asked - asked + 1)) long ∙ sym is) (start_behind (map call_shown items) rise asked (call_shown last) end) in
-    subst (λ cs. IsStartFor cs asked start) view starts
+-- a call that does not have this number stays at its place
+stays_at : (calls : List PlainCall) (asked : ℕ) (o : PlainOperation) (answer : PlainAnswer) (k : ℕ) (call : PlainCall) → slice_get calls k ≡ Some call → (call.asked ≡ asked → ⊥)
+    → slice_get (with_answer calls asked o answer) k ≡ Some call
+stays_at [] asked o answer k call there other = absurd cc
+stays_at (first ∷ calls) asked o answer zero call there other =
+    let same : first ≡ call = same_Some first call there in
+    ap (λ cs. slice_get cs 0) (ap (λ c. with_answer (c ∷ []) asked o answer) same ∙ one_left call asked o answer other)
+stays_at (first ∷ calls) asked o answer (suc k) call there other = stays_at calls asked o answer k call there other
 
--- rising numbers rise behind a place
-rising_behind : (xs : List ℕ) (n : ℕ) → IsStrictlyIncreasing xs → IsStrictlyIncreasing (drop n xs)
-rising_behind xs n rise k within =
-    let long : length (drop n xs) ≡ length xs - n = length-drop n xs in
-    let here : get_or (drop n xs) k 0 ≡ get_or xs (n + k) 0 = get_or-drop n xs k 0 in
-    let next : get_or (drop n xs) (k + 1) 0 ≡ get_or xs (n + (k + 1)) 0 = get_or-drop n xs (k + 1) 0 in
-    let same : get_or xs (n + (k + 1)) 0 ≡ get_or xs (n + k + 1) 0 = ap (λ i. get_or xs i 0) (omega arith) in
-    let rises : get_or xs (n + k) 0 < get_or xs (n + k + 1) 0 = rise (n + k) (omega (arith, within, long)) in
-    omega (arith, here, next, same, rises)
+-- a call that waits after the answer waited before, under another number
+waited : (calls : List PlainCall) (asked : ℕ) (o : PlainOperation) (answer : PlainAnswer) (q place : ℕ) (call : PlainCall) → WaitsAt (with_answer calls asked o answer) q place call
+    → WaitsAt calls q place call × (asked ≡ q → ⊥)
+waited calls asked o answer q place call waits =
+    let before = stood_at calls asked o answer place call waits.there in
+    let still = still_waiting before.0 call asked o answer before.2 waits.unanswered in
+    let number : before.0.asked ≡ q = ap (λ (c : PlainCall). c.asked) still.0 ∙ waits.numbered in
+    (record { there = before.1 ∙ ap (λ c. Some c) still.0; numbered = waits.numbered; unanswered = waits.unanswered }, λ same. still.1 (number ∙ sym same))
 
--- the calls behind a place, with their numbers
-pub in_order_behind : (items : List Call) (start : ℕ) → IsStrictlyIncreasing (numbers (map call_shown items)) → IsStrictlyIncreasing (numbers (map call_shown (drop start items)))
-in_order_behind items start rise =
-    let same : numbers (map call_shown (drop start items)) ≡ drop start (numbers (map call_shown items)) =
-    ap numbers (sym (drop-map call_shown start items)) ∙ sym (drop-map (λ (c : PlainCall). c.asked) start (map call_shown items)) in
-    subst IsStrictlyIncreasing (sym same) (rising_behind (numbers (map call_shown items)) start rise)
-
--- a call that is found behind a place is found
-pub found_behind : (items : List Call) (calls : List PlainCall) (start place asked : ℕ) → map call_shown items ≡ calls
-    → (call : PlainCall) × (slice_get (map call_shown (drop start items)) place ≡ Some call) × (call.asked ≡ asked)
-    → (call : PlainCall) × (slice_get calls (start + place) ≡ Some call) × (call.asked ≡ asked)
-found_behind items calls start place asked view found =
-    let behind : slice_get (drop start (map call_shown items)) place ≡ Some found.0 = ap (λ cs. slice_get cs place) (drop-map call_shown start items) ∙ found.1 in
-    (found.0, ap (λ cs. slice_get cs (start + place)) (sym view) ∙ get_from_drop start (map call_shown items) place found.0 behind, found.2)
-
--- an element behind a place stands in the rest
-get_in_drop : {X : Type 0} (n : ℕ) (xs : List X) (k : ℕ) (x : X) → n ≤ k → slice_get xs k ≡ Some x → slice_get (drop n xs) (k - n) ≡ Some x
-get_in_drop zero xs k x from is = ap (slice_get xs) (omega arith) ∙ is
-get_in_drop (suc n) [] k x from is = absurd cc
-get_in_drop (suc n) (y ∷ xs) zero x from is = absurd (omega (arith, from))
-get_in_drop (suc n) (y ∷ xs) (suc k) x from is = ap (slice_get (drop n xs)) (omega arith) ∙ get_in_drop n xs k x (omega (arith, from)) is
-
--- and where none is, there is none
-pub none_behind : (items : List Call) (calls : List PlainCall) (start asked : ℕ) → map call_shown items ≡ calls → IsStartFor calls asked start
-    → ((place : ℕ) (call : PlainCall) → slice_get (map call_shown (drop start items)) place ≡ Some call → call.asked ≡ asked → ⊥)
-    → (place : ℕ) (call : PlainCall) → slice_get calls place ≡ Some call → call.asked ≡ asked → ⊥
-none_behind items calls start asked view starts none place call there numbered =
-    let from : start ≤ place = starts.1 place call there numbered in
-    let shown : slice_get (map call_shown items) place ≡ Some call = ap (λ cs. slice_get cs place) view ∙ there in
-    let behind : slice_get (drop start (map call_shown items)) (place - start) ≡ Some call = get_in_drop start (map call_shown items) place call from shown in
-    none (place - start) call (ap (λ cs. slice_get cs (place - start)) (sym (drop-map call_shown start items)) ∙ behind) numbered
+-- the table after the answer: the place of its call is taken out
+pub places_answered : (calls shown : List PlainCall) (old new : List (ℕ × ℕ)) (asked : ℕ) (o : PlainOperation) (answer : PlainAnswer) → shown ≡ calls → AreTheirPlaces shown old
+    → ((q : ℕ) → lookup (nat_eq q) new ≡ cond (nat_eq asked q) None (lookup (nat_eq q) old))
+    → AreTheirPlaces (with_answer calls asked o answer) new
+places_answered calls shown old new asked o answer view places wrote q place =
+    let are : AreTheirPlaces calls old = subst (λ cs. AreTheirPlaces cs old) view places in
+    elim (eqb_tells asked q) [
+      | inl same ↦
+          let none : lookup (nat_eq q) new ≡ None = wrote q ∙ ap (λ b. cond b None (lookup (nat_eq q) old)) same.0 in (
+            λ found. let clash : None ≡ Some place = sym none ∙ found in absurd cc,
+            λ waiting. absurd ((waited calls asked o answer q place waiting.0 waiting.1).1 same.1),
+          )
+      | inr other ↦
+          let kept : lookup (nat_eq q) new ≡ lookup (nat_eq q) old = wrote q ∙ ap (λ b. cond b None (lookup (nat_eq q) old)) other.0 in (
+            λ found.
+                let waiting = (are q place).0 (sym kept ∙ found) in (
+                  waiting.0,
+                  record {
+                    there = stays_at calls asked o answer place waiting.0 waiting.1.there (λ same. other.1 (sym same ∙ waiting.1.numbered));
+                    numbered = waiting.1.numbered;
+                    unanswered = waiting.1.unanswered;
+                  },
+                ),
+            λ waiting. kept ∙ (are q place).1 (waiting.0, (waited calls asked o answer q place waiting.0 waiting.1).0),
+          )
+    ]

@@ -199,7 +199,7 @@ numbers_within es calls each z has =
     omega (arith, within, found.3)
 
 -- rising numbers and a larger one rise
-pub rising_more : (xs : List ℕ) (n : ℕ) → IsStrictlyIncreasing xs → ((z : ℕ) → Contains xs z → z < n) → IsStrictlyIncreasing (xs ++ n ∷ [])
+rising_more : (xs : List ℕ) (n : ℕ) → IsStrictlyIncreasing xs → ((z : ℕ) → Contains xs z → z < n) → IsStrictlyIncreasing (xs ++ n ∷ [])
 rising_more xs n rise below k within =
     let long : length (xs ++ n ∷ []) ≡ length xs + 1 = length-append xs (n ∷ []) in
     let first : k < length xs = omega (arith, within, long) in

@@ -2,6 +2,8 @@
 
 -- what an event does to a node, to a key and to the calls
 pub mod Steps
+-- the places of the calls that wait
+pub mod WaitingParts
 -- the list of the calls
 pub mod CallParts
 -- the table of the offsets that were reached

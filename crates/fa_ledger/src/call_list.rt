@@ -1,16 +1,17 @@
 //! The calls so far, in the order of their requests.
 
-ghost use Rattle.std.specs.Prelude.{◌≡◌, ℕ, List, [], ◌∷◌, ◌++◌, false, map, slice_get, Some, None, OnOk, OnErr, IfSome, IfNone};
+ghost use Rattle.std.specs.Prelude.{◌≡◌, ℕ, List, [], ◌∷◌, ◌++◌, false, map, None, OnOk, OnErr, IfSome, IfNone};
 ghost use Rattle.std.specs.Option.{option_map_or};
+ghost use Rattle.std.specs.List.Sorted.{IsStrictlyIncreasing};
 ghost use Rattle.fa_ledger.specs.Calls.{PlainCall, answer_shown, call_shown};
 ghost use Rattle.fa_ledger.specs.Operations.{operation_shown};
-ghost use Rattle.fa_ledger.specs.parts.CallParts.{AreAllBelow, IsStartFor, Waits, WaitsAt, waiting_of};
+ghost use Rattle.fa_ledger.specs.parts.CallParts.{IsNewNumber, Waits, WaitsAt, waiting_of};
 ghost use Rattle.fa_ledger.specs.parts.Steps.{with_answer};
 
 use crate::call::{Answer, Call, Listing};
-use crate::calls::search;
 use crate::name::NodeName;
 use crate::operation::Operation;
+use crate::waiting_places::WaitingPlaces;
 use std::alloc::{AllocError, Global};
 use std::marker::Model;
 
@@ -25,11 +26,13 @@ pub(crate) struct WaitingCall {
     pub adrift: bool,
 }
 
-/// The calls so far. They are found by their numbers, which rise.
+/// The calls so far, and which of them wait for an answer.
 #[derive(Drop)]
 pub(crate) struct CallList<'a> {
-    /// By rising numbers of their requests.
+    /// The calls, by rising numbers of their requests.
     list: Vec<Call<'a>>,
+    /// Of each that waits for an answer its place in the list.
+    waiting: WaitingPlaces,
 }
 
 impl<'a> Model for CallList<'a> {
@@ -38,11 +41,11 @@ impl<'a> Model for CallList<'a> {
 
     ghost Value = { List PlainCall };
 
-    ghost use Rattle.fa_ledger.specs.parts.CallParts.{calls_shown, AreInOrder};
+    ghost use Rattle.fa_ledger.specs.parts.CallParts.{calls_shown, AreWaitingPlaces};
 
     ghost view = { calls_shown };
 
-    ghost invariant = { AreInOrder };
+    ghost invariant = { AreWaitingPlaces };
 }
 
 impl<'a> CallList<'a> {
@@ -52,32 +55,35 @@ impl<'a> CallList<'a> {
     {
         CallList {
             list: Vec::new(alloc),
+            waiting: WaitingPlaces::new(alloc),
         }
     }
 
-    /// Adds a call that waits for its answer, with a number above those of all others.
+    /// Adds a call that waits for its answer.
     pub fn push(&mut self, call: Call<'a>) -> Result<(), AllocError>
         requires waits { call.answer ≡ None }
-        requires later { AreAllBelow self.old call.asked }
+        requires later { IsNewNumber self.old call.asked }
         ensures pushed { OnOk result (self.new ≡ self.old ++ call_shown call.entry ∷ []) }
         ensures unchanged { OnErr result (self.new ≡ self.old) }
     {
-        self.list.push(call)?;
+        let asked = call.asked;
+        let place = self.list.len();
+        // With room in the list first, a push that fails leaves both as they were.
+        self.list.reserve(1)?;
+        self.waiting.insert(asked, place)?;
+        self.list.push_reserved(call);
         Ok(())
     }
 
     /// The call that waits under this number.
     ///
-    /// Takes no memory, in time logarithmic in the messages since its request.
+    /// Takes no memory, in expected constant time.
     pub fn find(&self, asked: u32) -> Option<WaitingCall>
         ensures some { IfSome result (λ waiting. (place : ℕ) × (call : PlainCall) × WaitsAt self.now asked place call × (waiting ≡ waiting_of call)) }
         ensures none { IfNone result ((place : ℕ) (call : PlainCall) → WaitsAt self.now asked place call → ⊥) }
     {
-        let place = self.place_of(asked)?;
+        let place = self.waiting.get(asked)?;
         let call = &self.list[place];
-        if call.answer.is_some() {
-            return None;
-        }
         Some(WaitingCall {
             node: call.node,
             handle: call.handle,
@@ -87,12 +93,13 @@ impl<'a> CallList<'a> {
 
     /// Notes the answer of the call that waits under this number, and what it makes of its operation.
     ///
-    /// Takes no memory, in the time of [`find`](CallList::find).
+    /// Takes no memory, in expected constant time.
     pub fn answer(&mut self, asked: u32, operation: Operation<'a>, answer: Answer)
         requires waits { Waits self.old asked }
+        requires rising { IsStrictlyIncreasing (map (λ call. call.asked) self.old) }
         ensures { self.new ≡ with_answer self.old asked (operation_shown operation.entry) (answer_shown answer) }
     {
-        let place = self.place_of(asked).unwrap();
+        let place = self.waiting.remove(asked).unwrap();
         let call = &mut self.list[place];
         call.operation = operation;
         call.answer = Some(answer);
@@ -102,30 +109,11 @@ impl<'a> CallList<'a> {
     pub fn into_list(self) -> Vec<Call<'a>>
         ensures { map call_shown result.items ≡ self.entry }
     {
-        let CallList { list } = self;
+        let CallList {
+            list,
+            waiting: _waiting,
+        } = self;
         list
-    }
-
-    /// The place of the call of this number, if there is one.
-    fn place_of(&self, asked: u32) -> Option<usize>
-        ensures found { IfSome result (λ place. (call : PlainCall) × (slice_get self.now place ≡ Some call) × (call.asked ≡ asked)) }
-        ensures none { IfNone result ((place : ℕ) (call : PlainCall) → slice_get self.now place ≡ Some call → call.asked ≡ asked → ⊥) }
-    {
-        let start = self.start_for(asked);
-        let (_, calls) = self.list.split_at(start);
-        let place = search(calls, asked)?;
-        Some(start + place)
-    }
-
-    /// A place before which no call has this number: no more calls stand behind it than the last one's number is above it.
-    fn start_for(&self, asked: u32) -> usize
-        ensures { IsStartFor self.now asked result }
-    {
-        let Some(last) = self.list.last() else {
-            return 0;
-        };
-        let behind = last.asked.saturating_sub(asked) as usize;
-        self.list.len().saturating_sub(behind + 1)
     }
 }
 

@@ -1,7 +1,6 @@
 //! The calls of a capture.
 
 ghost use Rattle.std.specs.Prelude.{◌≡◌, ℕ, List, length, map, slice_get, Some, IfSome, IfNone};
-ghost use Rattle.std.specs.List.Sorted.{IsStrictlyIncreasing};
 ghost use Rattle.fa_capture.specs.Message.{Message};
 ghost use Rattle.fa_ledger.specs.Passing.{AreGood};
 ghost use Rattle.fa_ledger.specs.Calls.{PlainCall, call_shown, AreCalls};
@@ -27,16 +26,6 @@ impl Calls<'_> {
         ensures found { IfSome result (λ place. (call : PlainCall) × (slice_get (map call_shown self.now.list.items) place ≡ Some call) × (call.asked ≡ at)) }
         ensures none { IfNone result ((place : ℕ) (call : PlainCall) → slice_get (map call_shown self.now.list.items) place ≡ Some call → call.asked ≡ at → ⊥) }
     {
-        search(&self.list, at)
+        self.list.binary_search_by_key(&at, |call| call.asked).ok()
     }
-}
-
-/// The place of the call of this number among calls, if there is one. They are searched by their numbers, which rise.
-///
-/// Takes no memory, in logarithmic time.
-pub(crate) fn search(calls: &[Call<'_>], at: u32) -> Option<usize>
-    ensures found { IfSome result (λ place. (call : PlainCall) × (slice_get (map call_shown calls.now) place ≡ Some call) × (call.asked ≡ at)) }
-    ensures none { IsStrictlyIncreasing (map (λ call. call.asked) (map call_shown calls.now)) → IfNone result ((place : ℕ) (call : PlainCall) → slice_get (map call_shown calls.now) place ≡ Some call → call.asked ≡ at → ⊥) }
-{
-    calls.binary_search_by_key(&at, |call| call.asked).ok()
 }

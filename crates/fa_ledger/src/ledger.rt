@@ -89,9 +89,9 @@ impl<'a> Ledger<'a> {
     /// # Cost
     ///
     /// Expected constant time, as of hash tables, for each event, for each item of a BATCH_FORGET and for each entry of a
-    /// listing; for a reply also time logarithmic in the messages since its request. It keeps a [`Call`](crate::Call) for each
-    /// tree request, an entry for each node that is known, for each key that is open and for each offset that an answer on
-    /// such a key has; all grow by doubling. A listing's names take a list of their own. No message bytes are copied.
+    /// listing. It keeps a [`Call`](crate::Call) for each tree request, an entry for each node that is known, for each key
+    /// that is open and for each offset that an answer on such a key has, and for each tree request that waits its place;
+    /// all grow by doubling. A listing's names take a list of their own. No message bytes are copied.
     pub fn accept(&mut self, event: Event<'a>) -> Result<(), LedgerError>
         requires { (c : List Message) × (m : Message) × IsNext c m self.old (event_shown event) }
         ensures passes { OnOk result ((c : List Message) (m : Message) → IsNext c m self.old (event_shown event.entry) → Passes c m) }

@@ -19,6 +19,7 @@ mod naming;
 mod nodes;
 mod operation;
 mod placing;
+mod waiting_places;
 
 pub use call::{Answer, Call, GivenNodes, Listing};
 pub use calls::Calls;

@@ -1,6 +1,6 @@
 -- The list of the calls, and which of them wait for an answer.
-use Rattle.std.specs.Prelude.{◌≡◌, ◌<◌, ◌≤◌, ℕ, false, List, length, map, slice_get, None, Some}
-use Rattle.std.specs.List.Sorted.{IsStrictlyIncreasing}
+use Rattle.std.specs.Prelude.{◌≡◌, ◌↔◌, ℕ, nat_eq, false, List, map, slice_get, None, Some}
+use Rattle.std.specs.Map.{lookup}
 use Rattle.std.specs.Option.{option_map_or}
 use Rattle.fa_ledger.specs.declared.call_list.CallList.TheInside.{Inside}
 use Rattle.fa_ledger.specs.declared.call_list.WaitingCall.{WaitingCall}
@@ -21,19 +21,19 @@ abbrev pub waiting_of : PlainCall → WaitingCall
 waiting_of call =
     record { node = call.node; handle = call.handle; adrift = option_map_or (λ listing. listing.adrift) call.listing false }
 
--- all calls have numbers below this one
-abbrev pub AreAllBelow : List PlainCall → ℕ → Type 0
-AreAllBelow calls asked = (place : ℕ) (call : PlainCall) → slice_get calls place ≡ Some call → call.asked < asked
-
--- a call of this number stands at this place or behind it, if there is one
-abbrev pub IsStartFor : List PlainCall → (asked start : ℕ) → Type 0
-IsStartFor calls asked start =
-    (start ≤ length calls) × ((place : ℕ) (call : PlainCall) → slice_get calls place ≡ Some call → call.asked ≡ asked → start ≤ place)
+-- no call has this number
+abbrev pub IsNewNumber : List PlainCall → ℕ → Type 0
+IsNewNumber calls asked = (place : ℕ) (call : PlainCall) → slice_get calls place ≡ Some call → call.asked ≡ asked → ⊥
 
 -- what the fields show
 abbrev pub calls_shown : Inside → List PlainCall
 calls_shown s = map call_shown s.list.items
 
--- the numbers of the calls rise
-abbrev pub AreInOrder : Inside → Type 0
-AreInOrder s = IsStrictlyIncreasing (map (λ call. call.asked) (calls_shown s))
+-- at each number the table has a place exactly where the call at that place has this number and waits for its answer
+abbrev pub AreTheirPlaces : List PlainCall → List (ℕ × ℕ) → Type 0
+AreTheirPlaces calls table =
+    (asked place : ℕ) → (lookup (nat_eq asked) table ≡ Some place) ↔ ((call : PlainCall) × WaitsAt calls asked place call)
+
+-- the table has the places of the calls that wait
+abbrev pub AreWaitingPlaces : Inside → Type 0
+AreWaitingPlaces s = AreTheirPlaces (calls_shown s) s.waiting
