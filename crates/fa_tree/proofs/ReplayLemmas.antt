@@ -1,5 +1,5 @@
 -- What was listed so far for a call, after what was for the one that it goes on from, and after what was for one that goes on from the same.
-use Rattle.std.proofs.Common.{◌≡◌, ℕ, zero, suc, ◌+◌, ◌<◌, ◌≤◌, Bool, true, false, cond, nat_eq, List, [], ◌∷◌, ◌++◌, length, take, Option, None, Some, Result, Ok, Err, refl, sym, ap, subst, ◌∙◌, inl, inr, arith}
+use Rattle.std.proofs.Common.{◌≡◌, ◌⊎◌, ℕ, zero, suc, ◌+◌, ◌<◌, ◌≤◌, Bool, true, false, cond, nat_eq, List, [], ◌∷◌, ◌++◌, length, take, Option, None, Some, Result, Ok, Err, refl, sym, ap, subst, ◌∙◌, inl, inr, arith}
 use Rattle.std.specs.Prelude.{◌==◌, slice_get, option_map, option_and_then, OnOk, OnErr}
 use Rattle.std.specs.Map.{lookup}
 use Rattle.std.specs.Str.{bytes_eq}
@@ -7,7 +7,7 @@ use Rattle.std.specs.Option.{option_map_or}
 use Rattle.std.proofs.Math.Bridge.{le_prop}
 use Rattle.std.proofs.Math.Logic.{∥∥₁_elim}
 use Rattle.std.proofs.lemmas.Bool.{cases_Bool, cases_order}
-use Rattle.std.proofs.lemmas.Bool.Decides.{nat_tests}
+use Rattle.std.proofs.lemmas.Bool.Decides.{nat_tests, eqb_tells}
 use Rattle.std.proofs.lemmas.List.{length-take}
 use Rattle.std.proofs.lemmas.List.Sums.{sum_by-append}
 use Rattle.std.proofs.lemmas.Option.{slice_get_within, same_Some}
@@ -26,7 +26,7 @@ use Rattle.fa_ledger.specs.SoFar.{entries_answered, call_asked, before_of, liste
 use Rattle.fa_ledger.proofs.CallerLemmas.{call_at, asked_later}
 use Rattle.fa_tree.specs.Directories.{times_listed}
 use Rattle.fa_tree.specs.declared.tally.Tally.{Tally}
-use Rattle.fa_tree.specs.declared.replay.ListedSoFar.{ListedSoFar}
+use Rattle.fa_tree.specs.declared.kept.ListedSoFar.{ListedSoFar}
 use Rattle.fa_tree.specs.parts.ReplayParts.{IsTold}
 use Rattle.fa_tree.specs.parts.TallyParts.{going_on_from, Tallies, Notes}
 use Rattle.fa_tree.proofs.SoFarLemmas.{Rise, listed_more, listed_none, left_at}
@@ -179,22 +179,30 @@ tally_after old new ds es all is are notes =
 abbrev pub AreToldIn : Calls → List (ℕ × ListedSoFar) → Type 0
 AreToldIn calls table = (handle : ℕ) (kept : ListedSoFar) → lookup (nat_eq handle) table ≡ Some kept → IsTold calls kept
 
--- after one was put in, or refused
-pub told_kept : {A E : Type 0} (r : Result A E) (calls : Calls) (old new : List (ℕ × ListedSoFar)) (handle : ℕ) (kept : ListedSoFar) (Wrote : Type 0)
-    → (Wrote → (q : ℕ) → lookup (nat_eq q) new ≡ cond (nat_eq handle q) (Some kept) (lookup (nat_eq q) old)) → OnOk r Wrote → OnErr r (new ≡ old)
-    → IsTold calls kept → AreToldIn calls old → AreToldIn calls new
-told_kept (Ok a) calls old new handle kept Wrote says wrote stays told are q other found = by (nat_eq handle q) (sym (says wrote q) ∙ found)
-  where
-    by : (same : Bool) → cond same (Some kept) (lookup (nat_eq q) old) ≡ Some other → IsTold calls other
-    by true is = subst (IsTold calls) (same_Some kept other is) told
-    by false is = are q other is
-told_kept (Err e) calls old new handle kept Wrote says wrote stays told are q other found = are q other (ap (lookup (nat_eq q)) (sym stays) ∙ found)
+-- what a table has after an entry was put in, or was not, is that entry or was there
+pub put_or_there : {A E : Type 0} (r : Result A E) (old new : List (ℕ × ListedSoFar)) (handle : ℕ) (listed : ListedSoFar) (Wrote : Type 0)
+    → (Wrote → (q : ℕ) → lookup (nat_eq q) new ≡ cond (nat_eq handle q) (Some listed) (lookup (nat_eq q) old)) → OnOk r Wrote → OnErr r (new ≡ old)
+    → (q : ℕ) (kept : ListedSoFar) → lookup (nat_eq q) new ≡ Some kept → ((handle ≡ q) × (listed ≡ kept)) ⊎ (lookup (nat_eq q) old ≡ Some kept)
+put_or_there (Ok a) old new handle listed Wrote says wrote stays q kept found = elim (eqb_tells handle q) [
+  | inl same ↦ inl (same.1, same_Some listed kept (sym (says wrote q ∙ ap (λ b. cond b (Some listed) (lookup (nat_eq q) old)) same.0) ∙ found))
+  | inr other ↦ inr (sym (says wrote q ∙ ap (λ b. cond b (Some listed) (lookup (nat_eq q) old)) other.0) ∙ found)
+]
+put_or_there (Err e) old new handle listed Wrote says wrote stays q kept found = inr (ap (lookup (nat_eq q)) (sym stays) ∙ found)
 
--- after one was taken away
-pub told_left : (calls : Calls) (old new : List (ℕ × ListedSoFar)) (handle : ℕ)
-    → ((q : ℕ) → lookup (nat_eq q) new ≡ cond (nat_eq handle q) None (lookup (nat_eq q) old)) → AreToldIn calls old → AreToldIn calls new
-told_left calls old new handle wrote are q other found = by (nat_eq handle q) (sym (wrote q) ∙ found)
+-- what a table has after an entry was taken away was there
+pub left_there : (old new : List (ℕ × ListedSoFar)) (handle : ℕ) → ((q : ℕ) → lookup (nat_eq q) new ≡ cond (nat_eq handle q) None (lookup (nat_eq q) old))
+    → (q : ℕ) (kept : ListedSoFar) → lookup (nat_eq q) new ≡ Some kept → lookup (nat_eq q) old ≡ Some kept
+left_there old new handle wrote q kept found = by (nat_eq handle q) (sym (wrote q) ∙ found)
   where
-    by : (same : Bool) → cond same None (lookup (nat_eq q) old) ≡ Some other → IsTold calls other
+    by : (same : Bool) → cond same None (lookup (nat_eq q) old) ≡ Some kept → lookup (nat_eq q) old ≡ Some kept
     by true is = absurd cc
-    by false is = are q other is
+    by false is = is
+
+-- where all that is kept is this or was kept, all of it is told
+pub told_put : (calls : Calls) (old new : List (ℕ × ListedSoFar)) (handle : ℕ) (listed : ListedSoFar)
+    → ((q : ℕ) (kept : ListedSoFar) → lookup (nat_eq q) new ≡ Some kept → ((handle ≡ q) × (listed ≡ kept)) ⊎ (lookup (nat_eq q) old ≡ Some kept))
+    → IsTold calls listed → AreToldIn calls old → AreToldIn calls new
+told_put calls old new handle listed says told are q kept found = elim (says q kept found) [
+  | inl this ↦ subst (IsTold calls) this.1 told
+  | inr before ↦ are q kept before
+]

@@ -13,6 +13,7 @@ mod files;
 mod holders;
 mod id;
 mod judging;
+mod kept;
 pub mod laws;
 mod listing_rule;
 mod listing_step;

@@ -6,32 +6,24 @@ ghost use Rattle.fa_ledger.specs.SoFar.{before_of, entries_answered};
 ghost use Rattle.fa_tree.specs.parts.ReplayParts.{IsTallyAt, IsTold};
 ghost use Rattle.fa_tree.specs.parts.TallyParts.{Notes};
 
+use crate::kept::{Kept, ListedSoFar};
 use crate::so_far::{before, note_answered, note_so_far};
 use crate::tally::Tally;
 use fa_ledger::{Call, Calls};
-use indexmap::IndexMap;
 use std::alloc::{AllocError, Global};
 use std::marker::Model;
-
-/// What was listed so far for a call, without its own answer.
-#[derive(Drop)]
-pub(crate) struct ListedSoFar<'c> {
-    /// The place of the call.
-    pub at: usize,
-    pub tally: Tally<'c>,
-}
 
 /// The calls of a capture, for steps that are taken along them, one after the other ([`Tree::step_in`](crate::Tree::step_in)).
 /// What was listed so far is kept from one step to the next, so that each answer of a listing that goes straight on is gone
 /// through once. Nothing that is kept shows in what a step answers: to its callers a `Replay` is its calls.
 ///
-/// It takes memory for the names of listings that did not reach their end, also where their handle was closed: at most for those
-/// that the answers of its calls list.
+/// It takes memory for the names of sixteen listings at most: those that did not reach their end, on the handles that were listed
+/// on last.
 #[derive(Drop)]
 pub struct Replay<'c> {
     calls: &'c Calls<'c>,
-    /// For handles of directories, by the numbers of the requests that opened them, what was listed so far for a call on them.
-    so_far: IndexMap<u32, ListedSoFar<'c>>,
+    /// What was listed so far, for the handles that were listed on last.
+    so_far: Kept<'c>,
     alloc: Global,
 }
 
@@ -56,7 +48,7 @@ impl<'c> Replay<'c> {
     {
         Replay {
             calls,
-            so_far: IndexMap::new(alloc),
+            so_far: Kept::new(alloc),
             alloc,
         }
     }
@@ -98,7 +90,7 @@ impl<'c> Replay<'c> {
     {
         let calls = self.calls;
         if let Some(handle) = handle_gone_on(&calls.list[k]) {
-            let _ = self.so_far.insert(handle, ListedSoFar { at: k, tally });
+            self.so_far.put(handle, ListedSoFar { at: k, tally });
         }
     }
 
@@ -108,7 +100,7 @@ impl<'c> Replay<'c> {
         ensures same { self.new ≡ self.old }
     {
         let handle = handle_gone_on(call)?;
-        self.so_far.swap_remove(&handle)
+        self.so_far.take(handle)
     }
 }
 

@@ -5,7 +5,7 @@ use Rattle.fa_ledger.specs.declared.calls.Calls.{Calls}
 use Rattle.fa_ledger.specs.Calls.{call_shown}
 use Rattle.fa_ledger.specs.SoFar.{listing_so_far}
 use Rattle.fa_tree.specs.Directories.{times_listed}
-use Rattle.fa_tree.specs.declared.replay.ListedSoFar.{ListedSoFar}
+use Rattle.fa_tree.specs.declared.kept.ListedSoFar.{ListedSoFar}
 use Rattle.fa_tree.specs.declared.replay.Replay.TheInside.{Inside}
 use Rattle.fa_tree.specs.declared.tally.Tally.{Tally}
 use Rattle.fa_tree.specs.parts.TallyParts.{Tallies}
@@ -25,4 +25,4 @@ pub record IsTold (calls : Calls) (kept : ListedSoFar) : Type 0 where
 
 -- all that is kept is
 abbrev pub AreTold : Inside → Type 0
-AreTold r = (handle : ℕ) (kept : ListedSoFar) → lookup (nat_eq handle) r.so_far.entries ≡ Some kept → IsTold r.calls.now kept
+AreTold r = (handle : ℕ) (kept : ListedSoFar) → lookup (nat_eq handle) r.so_far.by_handle.entries ≡ Some kept → IsTold r.calls.now kept
