@@ -1,5 +1,7 @@
 -- The vocabulary of the crate's private contracts.
 
+-- what a name feeds a hasher
+pub mod NameFed
 -- the orders of files and of places, with their laws; the table of slots, and the places of each directory in it
 pub mod FileIdLaws
 pub mod PlaceLaws

@@ -19,6 +19,7 @@ mod listing_rule;
 mod listing_step;
 mod making;
 mod members;
+mod name_hash;
 mod named;
 mod names;
 mod nodes;

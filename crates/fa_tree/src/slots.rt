@@ -10,6 +10,7 @@ ghost use Rattle.fa_tree.specs.parts.MemberParts.{AreMembers};
 
 use crate::id::FileId;
 use crate::members::Members;
+use crate::name_hash::feed_name;
 use indexmap::{Equivalent, IndexMap};
 use std::alloc::{AllocError, Global};
 use std::hash::{Hash, Hasher};
@@ -48,7 +49,6 @@ pub(crate) struct Slots {
     ghost complete: { AreMembers (keys_of table.entries) members.table.entries },
 }
 
-/// The name is handed on whole, not byte by byte.
 impl Hash for Place {
     ghost use Rattle.fa_tree.specs.parts.SlotParts.{place_of};
     ghost use Rattle.fa_tree.specs.parts.PlaceLaws.{place_fed, fed_alike};
@@ -59,7 +59,7 @@ impl Hash for Place {
 
     fn hash<H: Hasher>(&self, state: &mut H) {
         self.directory.hash(state);
-        state.write(self.name.as_slice());
+        feed_name(self.name.as_slice(), state);
     }
 }
 
@@ -72,7 +72,7 @@ impl Hash for PlaceAt<'_> {
 
     fn hash<H: Hasher>(&self, state: &mut H) {
         self.directory.hash(state);
-        state.write(self.name);
+        feed_name(self.name, state);
     }
 }
 

@@ -1,11 +1,12 @@
 //! How often names were listed.
 
-ghost use Rattle.std.specs.Prelude.{◌≡◌, ◌↔◌, ◌≤◌, ◌<◌, ◌+◌, [], ◌∷◌, cond, ℕ, true, false, List, None, is_some, IsTrue, OnOk, OnErr};
+ghost use Rattle.std.specs.Prelude.{◌≡◌, ◌↔◌, ◌≤◌, ◌<◌, ◌+◌, cond, ℕ, true, false, List, None, is_some, IsTrue, OnOk, OnErr};
 ghost use Rattle.std.specs.Bool.{MatchBool};
 ghost use Rattle.std.specs.Fn.{FnReturnsAt};
 ghost use Rattle.std.specs.Str.{bytes_eq};
 ghost use Rattle.fa_tree.specs.parts.TallyParts.{Tallies, tally_of};
 
+use crate::name_hash::feed_name;
 use indexmap::IndexMap;
 use std::alloc::{AllocError, Global};
 use std::hash::{Hash, Hasher};
@@ -16,16 +17,16 @@ pub(crate) struct Listed<'a> {
     pub name: &'a [u8],
 }
 
-/// The name is handed on whole, not byte by byte.
 impl Hash for Listed<'_> {
+    ghost use Rattle.fa_tree.specs.parts.NameFed.{name_fed};
     ghost use Rattle.fa_tree.specs.parts.TallyParts.{listed_alike};
 
-    ghost hash_input = { λ listed. listed.name.now ∷ [] };
+    ghost hash_input = { λ listed. name_fed listed.name.now };
 
     ghost respects_eq = { λ x y equal. listed_alike x.name.now y.name.now equal };
 
     fn hash<H: Hasher>(&self, state: &mut H) {
-        state.write(self.name);
+        feed_name(self.name, state);
     }
 }
 

@@ -11,6 +11,7 @@ use Rattle.std.specs.Hash.{HashWrites}
 use Rattle.fa_tree.specs.contracts.id.FileIdPartialEq.TheImpl as derived
 use Rattle.fa_tree.specs.contracts.id.FileIdHash.TheImpl as hashed
 use Rattle.fa_tree.specs.State.{Place, file_cmp, file_eq, place_cmp, name_cmp}
+use Rattle.fa_tree.specs.parts.NameFed.{name_fed}
 use Rattle.fa_tree.specs.parts.FileIdLaws.{file_cmp_total, files_apart, file_ties}
 
 -- names are told apart
@@ -66,9 +67,9 @@ alike_test place a b is = place_equiv.congr place a b is ∙ place_test a b
 pub place_in : (a b : Place) (one : Bool) → derived.eq-value.it a.0 b.0 ≡ true → one ≡ pointwise nat_eq a.1 b.1 → one ≡ eq_by_cmp place_cmp a b
 place_in a b one directory name = name ∙ sym (place_test a b ∙ ap (λ t. t && pointwise nat_eq a.1 b.1) directory)
 
--- ---- what a place feeds a hasher: its directory, and its name in one write
+-- ---- what a place feeds a hasher: its directory, and its name
 abbrev pub place_fed : Place → HashWrites
-place_fed place = hashed.hash_input-value.it place.0 ++ place.1 ∷ []
+place_fed place = hashed.hash_input-value.it place.0 ++ name_fed place.1
 
 -- places whose parts are equal feed alike
 pub fed_alike : (a b : Place) → IsTrue (derived.eq-value.it a.0 b.0 && pointwise nat_eq a.1 b.1) → place_fed a ≡ place_fed b

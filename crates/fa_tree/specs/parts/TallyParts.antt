@@ -10,10 +10,11 @@ use Rattle.fa_ledger.specs.SoFar.{call_asked, before_of}
 use Rattle.fa_tree.specs.declared.tally.Listed.{Listed}
 use Rattle.fa_tree.specs.declared.tally.Tally.{Tally}
 use Rattle.fa_tree.specs.Directories.{times_listed}
+use Rattle.fa_tree.specs.parts.NameFed.{name_fed}
 
--- names that are equal feed a hasher alike, in one write
-pub listed_alike : (a b : List ℕ) → IsTrue (bytes_eq a b) → ◌≡◌ {A = List (List ℕ)} (a ∷ []) (b ∷ [])
-listed_alike a b equal = ap (λ name. name ∷ []) ((bytes_decides a b).0 equal)
+-- names that are equal feed a hasher alike
+pub listed_alike : (a b : List ℕ) → IsTrue (bytes_eq a b) → name_fed a ≡ name_fed b
+listed_alike a b equal = ap name_fed ((bytes_decides a b).0 equal)
 
 -- what a tally has for a name that was listed so many times: nothing, or whether that was more than once
 abbrev pub tallied : ℕ → Option Bool
