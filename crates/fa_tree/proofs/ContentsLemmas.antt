@@ -5,7 +5,7 @@ use Rattle.std.proofs.lemmas.List.FromFn.{length-map-range_with_len, get_or-map-
 use Rattle.std.proofs.lemmas.Bool.{cases_lt, cases_eq}
 use Rattle.std.proofs.lemmas.Bool.Decides.{nat_tests}
 use Rattle.fa_tree.specs.Contents.{IsReadAs, filled, readable, resized, written}
-use Rattle.fa_tree.specs.parts.PageParts.{IsPart, with_part, page_at, byte_at, bytes_of, IsZeroFrom, SameBytes, IsStored, AreFrom, AreWritten, AreCut}
+use Rattle.fa_tree.specs.parts.PageParts.{IsPart, with_part, page_at, byte_at, bytes_of, IsZeroFrom, SameBytes, IsStored, AreFrom, AreWritten}
 
 -- ---- the bytes in pages
 
@@ -260,48 +260,63 @@ page_past : (pages : List (List ℕ)) (i : ℕ) → length pages ≤ i / 4096 �
 unfolding page_at
 page_past pages i back = get_or_past pages (i / 4096) [] back
 
-page_kept : (pages : List (List ℕ)) (count i : ℕ) → i / 4096 < count → page_at (take count pages) i ≡ page_at pages i
-unfolding page_at
-page_kept pages count i front = get_or-take count pages (i / 4096) [] front
+byte_past : (pages : List (List ℕ)) (i : ℕ) → length pages ≤ i / 4096 → byte_at pages i ≡ 0
+byte_past pages i back = byte_in pages [] i (page_past pages i back)
 
-module _ (pages : List (List ℕ)) (size count : ℕ) (enough : count ≡ size / 4096 + min 1 (size % 4096)) where
-  kept_front : (i : ℕ) → i < size → byte_at (take count pages) i ≡ byte_at pages i
-  unfolding byte_at
-  kept_front i front = ap (λ p. get_or p (i % 4096) 0) (page_kept pages count i (omega arith))
+-- pages of which that of this place was cut there
+pub record IsCutThere (now before : List (List ℕ)) (size : ℕ) : Type 0 where
+  pub in_front : (i : ℕ) → i < size → byte_at now i ≡ byte_at before i
+  pub there : (i : ℕ) → size ≤ i → i / 4096 ≡ size / 4096 → byte_at now i ≡ 0
+  pub others : (i : ℕ) → (i / 4096 ≡ size / 4096 → ⊥) → byte_at now i ≡ byte_at before i
 
-  -- no page that is left goes on behind the end
-  pub cut_whole : length (take count pages) ≤ size / 4096 → AreCut (take count pages) pages size
-  cut_whole whole = record {
-    in_front = kept_front;
-    behind = λ i back. byte_in (take count pages) [] i (page_past (take count pages) i (omega arith));
-  }
+pub cut_there : (pages : List (List ℕ)) (page : List ℕ) (size : ℕ) → size / 4096 < length pages → page_at pages size ≡ page
+    → IsCutThere (set pages (size / 4096) (take (size % 4096) page)) pages size
+cut_there pages page size within is = record {
+  in_front = λ i front. elim (cases_eq (i / 4096) (size / 4096)) [
+    | inl here ↦
+        byte_here pages (take (size % 4096) page) (size / 4096) i here within
+        ∙ (get_or-take (size % 4096) page (i % 4096) 0 (omega arith) ∙ sym (byte_in pages page i (page_same pages i size here ∙ is)))
+    | inr other ↦ byte_other pages (take (size % 4096) page) (size / 4096) i other
+  ];
+  there = λ i back here.
+      let short = length-take (size % 4096) page in
+      byte_here pages (take (size % 4096) page) (size / 4096) i here within ∙ get_or_past (take (size % 4096) page) (i % 4096) 0 (omega arith);
+  others = λ i other. byte_other pages (take (size % 4096) page) (size / 4096) i other;
+}
 
-  -- the last does
-  module _ (page : List ℕ) (within : size / 4096 < length (take count pages)) (is : page_at (take count pages) size ≡ page) where
-    cut_front : (i : ℕ) → i < size → byte_at (set (take count pages) (size / 4096) (take (size % 4096) page)) i ≡ byte_at pages i
-    cut_front i front = elim (cases_eq (i / 4096) (size / 4096)) [
-      | inl here ↦
-          byte_here (take count pages) (take (size % 4096) page) (size / 4096) i here within
-          ∙ (get_or-take (size % 4096) page (i % 4096) 0 (omega arith)
-          ∙ (sym (byte_in (take count pages) page i (page_same (take count pages) i size here ∙ is)) ∙ kept_front i front))
-      | inr other ↦ byte_other (take count pages) (take (size % 4096) page) (size / 4096) i other ∙ kept_front i front
-    ]
+-- there is no such page
+pub none_there : (pages : List (List ℕ)) (size : ℕ) → length pages ≤ size / 4096 → IsCutThere pages pages size
+none_there pages size past = record {
+  in_front = λ i front. refl;
+  there = λ i back here. byte_past pages i (omega arith);
+  others = λ i other. refl;
+}
 
-    cut_behind : (i : ℕ) → size ≤ i → byte_at (set (take count pages) (size / 4096) (take (size % 4096) page)) i ≡ 0
-    cut_behind i back = elim (cases_eq (i / 4096) (size / 4096)) [
-      | inl here ↦
-          let short = length-take (size % 4096) page in
-          byte_here (take count pages) (take (size % 4096) page) (size / 4096) i here within
-          ∙ get_or_past (take (size % 4096) page) (i % 4096) 0 (omega arith)
-      | inr other ↦
-          let short = length-take count pages in
-          let past : length (take count pages) ≤ i / 4096 = omega arith in
-          byte_other (take count pages) (take (size % 4096) page) (size / 4096) i other
-          ∙ byte_in (take count pages) [] i (page_past (take count pages) i past)
-    ]
+-- what is not in a page that is walked behind it is cut
+pub cut_ready : (now before : List (List ℕ)) (size len count end : ℕ) → IsCutThere now before size → IsZeroFrom before len
+    → count ≡ len / 4096 + min 1 (len % 4096) → end ≡ min count (length now) → (i : ℕ) → size ≤ i
+    → (i / 4096 < size / 4096 + 1) ⊎ (end ≤ i / 4096) → byte_at now i ≡ 0
+cut_ready now before size len count end cut zeros enough few i back out = elim (cases_eq (i / 4096) (size / 4096)) [
+  | inl here ↦ cut.there i back here
+  | inr other ↦ elim (cases_lt i len) [
+    | inl below ↦ byte_past now i (elim out [ inl last ↦ absurd (other (omega arith)) | inr past ↦ omega arith ])
+    | inr behind ↦ cut.others i other ∙ zeros i behind
+  ]
+]
 
-    pub cut_last : AreCut (set (take count pages) (size / 4096) (take (size % 4096) page)) pages size
-    cut_last = record { in_front = cut_front; behind = cut_behind }
+-- one page more that stores nothing
+module _ (now : List (List ℕ)) (at : ℕ) (within : at < length now) where
+  pub emptied_others : (i : ℕ) → i / 4096 < at → byte_at (set now at []) i ≡ byte_at now i
+  emptied_others i front = byte_other now [] at i (λ here. omega arith)
+
+  pub emptied : (size end : ℕ) → ((i : ℕ) → size ≤ i → (i / 4096 < at) ⊎ (end ≤ i / 4096) → byte_at now i ≡ 0)
+      → (i : ℕ) → size ≤ i → (i / 4096 < at + 1) ⊎ (end ≤ i / 4096) → byte_at (set now at []) i ≡ 0
+  emptied size end so_far i back out = elim (cases_eq (i / 4096) at) [
+    | inl here ↦ byte_here now [] at i here within
+    | inr other ↦
+        byte_other now [] at i other
+        ∙ so_far i back (elim out [ inl front ↦ inl (omega arith) | inr past ↦ inr past ])
+  ]
 
 -- ---- bytes that are read, written and cut, one by one
 

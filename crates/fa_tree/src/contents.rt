@@ -2,7 +2,7 @@
 
 ghost use Rattle.std.specs.Prelude.{◌≡◌, ◌↔◌, ◌+◌, ◌%◌, ◌^◌, ◌<◌, ◌≤◌, [], length, IsTrue, IfOk, OnOk, OnErr};
 ghost use Rattle.fa_tree.specs.Contents.{IsReadAs, readable, resized, written};
-ghost use Rattle.fa_tree.specs.parts.PageParts.{IsPart, page_at, SameBytes, IsStored, AreFrom, AreWritten, AreCut};
+ghost use Rattle.fa_tree.specs.parts.PageParts.{IsPart, page_at, IsZeroFrom, SameBytes, IsStored, AreFrom, AreWritten, AreCut};
 
 use crate::page::{PAGE, Page, are_zeros};
 use std::alloc::{AllocError, Global};
@@ -105,24 +105,26 @@ impl Contents {
     }
 
     /// Cuts the bytes to this length, or fills them with zeros up to it. An error would say that memory was refused, and nothing
-    /// is changed; there is none, since it takes no memory. Constant time, and a constant for each page that is cut away.
+    /// is changed; there is none, since it takes no memory. Constant time, and a constant for each page that is cut: at most those
+    /// that were written or grown over. These keep their memory for what is written next, as a `Vec` keeps its capacity.
     pub fn resize(&mut self, size: u64) -> Result<(), AllocError>
         ensures resized { OnOk result (self.new ≡ resized self.old size) }
         ensures unchanged { OnErr result (self.new ≡ self.old) }
     {
         let size = size as usize;
         if size < self.len {
-            cut(&mut self.pages, size);
+            cut(&mut self.pages, size, self.len);
         }
         self.len = size;
         Ok(())
     }
 
-    /// Takes all bytes away.
+    /// Takes all bytes away, in constant time and a constant for each page that is cut, as `resize` does. The pages keep their
+    /// memory.
     pub fn clear(&mut self)
         ensures { self.new ≡ [] }
     {
-        self.pages.clear();
+        cut(&mut self.pages, 0, self.len);
         self.len = 0;
     }
 }
@@ -204,14 +206,23 @@ fn put(pages: &mut Vec<Page>, start: usize, bytes: &[u8])
     }
 }
 
-/// Takes the bytes from this place on away: zeros follow.
-fn cut(pages: &mut Vec<Page>, size: usize)
+/// Takes the bytes from this place on away, up to the length before: zeros follow. The page that goes on behind the place is cut
+/// there, each further one stores nothing; all stay in the list and keep their memory for what is written next. Takes no memory.
+/// Constant time, and a constant for each page that is cut: those behind the length store zeros alone, and are not walked.
+fn cut(pages: &mut Vec<Page>, size: usize, len: usize)
+    requires { IsZeroFrom pages.old.items len }
     ensures { AreCut pages.new.items pages.old.items size }
 {
-    pages.truncate(size.div_ceil(PAGE));
     let last = size / PAGE;
     if last < pages.len() {
         let page = &mut pages[last];
         page.cut(size % PAGE);
+    }
+    let end = len.div_ceil(PAGE).min(pages.len());
+    let mut at = last + 1;
+    while at < end {
+        let page = &mut pages[at];
+        page.cut(0);
+        at += 1;
     }
 }

@@ -57,7 +57,7 @@ impl Page {
         self.bytes[at..at + part.len()].copy_from_slice(part);
     }
 
-    /// Stores so many bytes at most: zeros follow.
+    /// Stores so many bytes at most: zeros follow. Keeps the memory.
     pub fn cut(&mut self, size: usize)
         ensures { self.new ≡ take size self.old }
     {

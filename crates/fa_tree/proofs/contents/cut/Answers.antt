@@ -1,18 +1,50 @@
-use Rattle.std.proofs.Common.{◌<◌, ◌≤◌, ◌/◌, length, arith}
-use Rattle.fa_tree.proofs.ContentsLemmas.{cut_whole, cut_last, page_found}
+use Rattle.std.proofs.Common.{◌≡◌, ◌<◌, ◌/◌, [], length, inl, inr, ◌∙◌, arith}
+use Rattle.std.proofs.lemmas.List.{length-set}
+use Rattle.std.proofs.lemmas.Bool.{cases_lt}
+use Rattle.fa_tree.proofs.ContentsLemmas.{IsCutThere, cut_there, none_there, cut_ready, emptied_others, emptied, page_found}
 use Rattle.fa_tree.proofs.contents.cut.Goals as goal
+use Rattle.fa_tree.proofs.contents.cut.Goals.{then-last-len, else-last-len}
 
-pub returns-then-last-len : goal.returns-then-last-len
-returns-then-last-len c =
-    let there : c.args.size / 4096 < length c.truncate.new.self.items = omega (arith, c.truncate.new.self.ok.0) in
-    let within = rw c.truncate.ensures.items at there in
-    let read = rw c.truncate.ensures.items at c.index_mut-page.ensures.value in
-    rw (c.cut.ensures, c.truncate.ensures.items)
-    (cut_last c.args.pages.now.items c.args.size c.div_ceil.result c.div_ceil.ensures c.index_mut-page.result.now within
-    (page_found _ c.index_mut-page.result.now c.args.size within read))
+pub loop-at-init : goal.loop-at-init
+loop-at-init c =
+    let cut : IsCutThere c.if-last-len.pages.items c.args.pages.now.items c.args.size = elim c.if-last-len.branch [
+      | then-last-len w ↦
+          let within : c.args.size / 4096 < length c.args.pages.now.items = omega (arith, c.args.pages.now.ok.0) in
+          rw (w.pages-is, w.cut.ensures)
+          (cut_there c.args.pages.now.items w.index_mut-page.result.now c.args.size within
+          (page_found c.args.pages.now.items w.index_mut-page.result.now c.args.size within w.index_mut-page.ensures.value))
+      | else-last-len w ↦ rw w.pages-is (none_there c.args.pages.now.items c.args.size (omega (arith, c.args.pages.now.ok.0)))
+    ] in
+    let count : c.len-2.result ≡ length c.if-last-len.pages.items = c.len-2.ensures ∙ c.if-last-len.pages.ok.0 in
+    record {
+      within = omega arith;
+      from = omega arith;
+      in_front = cut.in_front;
+      behind = cut_ready c.if-last-len.pages.items c.args.pages.now.items c.args.size c.args.len c.div_ceil.result c.min-end.result cut c.requires
+          c.div_ceil.ensures (rw count at c.min-end.ensures);
+    }
 
-pub returns-else-last-len : goal.returns-else-last-len
-returns-else-last-len c =
-    let past : length c.truncate.new.self.items ≤ c.args.size / 4096 = omega (arith, c.truncate.new.self.ok.0) in
-    let whole = rw c.truncate.ensures.items at past in
-    rw c.truncate.ensures.items (cut_whole c.args.pages.now.items c.args.size c.div_ceil.result c.div_ceil.ensures whole)
+pub index_mut-page-requires-in-loop-at : goal.index_mut-page-requires-in-loop-at
+index_mut-page-requires-in-loop-at c =
+    let within = c.loop-at.invariant.within in
+    omega (arith, c.loop-at.pages.ok.0)
+
+pub loop-at-preserved : goal.loop-at-preserved
+loop-at-preserved c =
+    let before = c.loop-at.invariant in
+    let within : c.loop-at.at < length c.loop-at.pages.items = omega (arith, before.within) in
+    rw c.cut-in-loop-at.ensures record {
+      within = rw (length-set c.loop-at.pages.items c.loop-at.at []) before.within;
+      from = omega (arith, before.from);
+      in_front = λ i front. emptied_others c.loop-at.pages.items c.loop-at.at within i (omega (arith, before.from)) ∙ before.in_front i front;
+      behind = emptied c.loop-at.pages.items c.loop-at.at within c.args.size c.min-end.result before.behind;
+    }
+
+pub returns : goal.returns
+returns c = record {
+  in_front = c.loop-at.invariant.in_front;
+  behind = λ i back. c.loop-at.invariant.behind i back (elim (cases_lt (i / 4096) c.loop-at.at) [
+    | inl front ↦ inl front
+    | inr past ↦ inr (omega arith)
+  ]);
+}

@@ -1,0 +1,14 @@
+use Rattle.std.proofs.Common.{◌≡◌, ℕ, ◌-◌, ◌<◌, ◌≤◌, ◌/◌, ◌⊎◌, length}
+use Rattle.fa_tree.specs.parts.PageParts.{byte_at}
+use Rattle.fa_tree.proofs.contents.cut.Given as goal
+
+abbrev pub invariant-loop-at : goal.invariant-loop-at
+invariant-loop-at l = record {
+  within : l.end ≤ length l.pages.items;
+  from : l.size / 4096 < l.at;
+  in_front : (i : ℕ) → i < l.size → byte_at l.pages.items i ≡ byte_at l.fn.pages.items i;
+  behind : (i : ℕ) → l.size ≤ i → (i / 4096 < l.at) ⊎ (l.end ≤ i / 4096) → byte_at l.pages.items i ≡ 0;
+}
+
+abbrev pub decreases-loop-at : goal.decreases-loop-at
+decreases-loop-at l = l.end - l.at
