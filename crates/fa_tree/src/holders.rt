@@ -6,7 +6,7 @@ ghost use Rattle.std.specs.FinMap as map;
 ghost use Rattle.std.specs.FinMap.{FinMap};
 ghost use Rattle.fa_tree.specs.declared.id.FileId.{FileId};
 ghost use Rattle.fa_tree.specs.State.{place_cmp, file_eq};
-ghost use Rattle.fa_tree.specs.parts.HolderParts.{held, IsKnown, AreCounted, IsCountedAt};
+ghost use Rattle.fa_tree.specs.parts.HolderParts.{one_link_more, one_link_less, one_inside_more, one_inside_less, of_parent, held, IsKnown, AreCounted, IsCountedAt};
 
 use crate::id::FileId;
 use indexmap::IndexMap;
@@ -66,21 +66,91 @@ impl Holders {
         ensures kept { (of : FileId) → IsKnown self.old.table.entries of → IsKnown self.new.table.entries of }
         ensures known { OnOk result (IsKnown self.new.table.entries file) }
     {
-        let holder = self.get(file);
-        self.table.insert(file, holder)?;
+        if !self.table.contains_key(&file) {
+            let holder = Holder {
+                links: 0,
+                inside: 0,
+                parent: None,
+            };
+            self.table.insert(file, holder)?;
+        }
         Ok(())
     }
 
-    /// What is counted of a file that has an entry is this from then on.
+    /// Counts one name more of a file that has an entry, and notes the directory that the name is in.
     ///
     /// Takes no memory, in expected constant time.
-    fn set(&mut self, file: FileId, holder: Holder)
-        requires { IsKnown self.old.table.entries file }
-        ensures held { (of : FileId) → held self.new.table.entries of ≡ cond (file_eq of file) holder (held self.old.table.entries of) }
+    fn add_link(&mut self, file: FileId, directory: FileId)
+        requires known { IsKnown self.old.table.entries file }
+        requires few { (held self.old.table.entries file).links < 2 ^ 63 }
+        ensures held { (of : FileId) → held self.new.table.entries of ≡ cond (file_eq of file) (one_link_more directory (held self.old.table.entries file)) (held self.old.table.entries of) }
         ensures kept { (of : FileId) → IsKnown self.old.table.entries of → IsKnown self.new.table.entries of }
     {
         match self.table.get_mut(&file) {
-            Some(old) => *old = holder,
+            Some(holder) => {
+                holder.links += 1;
+                holder.parent = Some(directory);
+            }
+            None => {}
+        }
+    }
+
+    /// Counts one name less of a file that has one. No directory is known to have a name for it from then on.
+    ///
+    /// Takes no memory, in expected constant time.
+    fn remove_link(&mut self, file: FileId)
+        requires { 0 < (held self.old.table.entries file).links }
+        ensures held { (of : FileId) → held self.new.table.entries of ≡ cond (file_eq of file) (one_link_less (held self.old.table.entries file)) (held self.old.table.entries of) }
+        ensures kept { (of : FileId) → IsKnown self.old.table.entries of → IsKnown self.new.table.entries of }
+    {
+        match self.table.get_mut(&file) {
+            Some(holder) => {
+                holder.links -= 1;
+                holder.parent = None;
+            }
+            None => {}
+        }
+    }
+
+    /// Counts one name more in a directory that has an entry.
+    ///
+    /// Takes no memory, in expected constant time.
+    fn add_inside(&mut self, directory: FileId)
+        requires known { IsKnown self.old.table.entries directory }
+        requires few { (held self.old.table.entries directory).inside < 2 ^ 63 }
+        ensures held { (of : FileId) → held self.new.table.entries of ≡ cond (file_eq of directory) (one_inside_more (held self.old.table.entries directory)) (held self.old.table.entries of) }
+        ensures kept { (of : FileId) → IsKnown self.old.table.entries of → IsKnown self.new.table.entries of }
+    {
+        match self.table.get_mut(&directory) {
+            Some(holder) => holder.inside += 1,
+            None => {}
+        }
+    }
+
+    /// Counts one name less in a directory that has one.
+    ///
+    /// Takes no memory, in expected constant time.
+    fn remove_inside(&mut self, directory: FileId)
+        requires { 0 < (held self.old.table.entries directory).inside }
+        ensures held { (of : FileId) → held self.new.table.entries of ≡ cond (file_eq of directory) (one_inside_less (held self.old.table.entries directory)) (held self.old.table.entries of) }
+        ensures kept { (of : FileId) → IsKnown self.old.table.entries of → IsKnown self.new.table.entries of }
+    {
+        match self.table.get_mut(&directory) {
+            Some(holder) => holder.inside -= 1,
+            None => {}
+        }
+    }
+
+    /// Notes a directory that has a name for a file that has an entry.
+    ///
+    /// Takes no memory, in expected constant time.
+    fn set_parent(&mut self, file: FileId, directory: FileId)
+        requires { IsKnown self.old.table.entries file }
+        ensures held { (of : FileId) → held self.new.table.entries of ≡ cond (file_eq of file) (of_parent directory (held self.old.table.entries file)) (held self.old.table.entries of) }
+        ensures kept { (of : FileId) → IsKnown self.old.table.entries of → IsKnown self.new.table.entries of }
+    {
+        match self.table.get_mut(&file) {
+            Some(holder) => holder.parent = Some(directory),
             None => {}
         }
     }
@@ -95,23 +165,8 @@ impl Holders {
         ensures counted { (names : FinMap place_cmp FileId) (name : List ℕ) → map.get names (directory, name) ≡ None → AreCounted names (held self.old.table.entries) → AreCounted (map.insert names (directory, name) file) (held self.new.table.entries) }
         ensures kept { (of : FileId) → IsKnown self.old.table.entries of → IsKnown self.new.table.entries of }
     {
-        let holder = self.get(file);
-        self.set(
-            file,
-            Holder {
-                links: holder.links + 1,
-                parent: Some(directory),
-                ..holder
-            },
-        );
-        let holder = self.get(directory);
-        self.set(
-            directory,
-            Holder {
-                inside: holder.inside + 1,
-                ..holder
-            },
-        );
+        self.add_link(file, directory);
+        self.add_inside(directory);
     }
 
     /// Counts a name that goes out of a directory, and was for this file. The directory is no longer known to have a name for it.
@@ -122,23 +177,8 @@ impl Holders {
         ensures counted { (names : FinMap place_cmp FileId) (name : List ℕ) → map.get names (directory, name) ≡ Some file → AreCounted names (held self.old.table.entries) → AreCounted (map.remove names (directory, name)) (held self.new.table.entries) }
         ensures kept { (of : FileId) → IsKnown self.old.table.entries of → IsKnown self.new.table.entries of }
     {
-        let holder = self.get(file);
-        self.set(
-            file,
-            Holder {
-                links: holder.links - 1,
-                parent: None,
-                ..holder
-            },
-        );
-        let holder = self.get(directory);
-        self.set(
-            directory,
-            Holder {
-                inside: holder.inside - 1,
-                ..holder
-            },
-        );
+        self.remove_link(file);
+        self.remove_inside(directory);
     }
 
     /// Counts a name of a directory, which was for the old file, if it was there, and is for this one from then on.
@@ -164,13 +204,6 @@ impl Holders {
         requires { IsCountedAt (held self.old.table.entries) directory (Some file) }
         ensures { (names : FinMap place_cmp FileId) (name : List ℕ) → map.get names (directory, name) ≡ Some file → AreCounted names (held self.old.table.entries) → AreCounted names (held self.new.table.entries) }
     {
-        let holder = self.get(file);
-        self.set(
-            file,
-            Holder {
-                parent: Some(directory),
-                ..holder
-            },
-        );
+        self.set_parent(file, directory);
     }
 }

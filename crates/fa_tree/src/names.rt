@@ -133,13 +133,13 @@ impl Names {
         ensures put { OnOk result (self.new ≡ edited (Removed directory name.now ∷ Added directory name.now file ∷ []) self.old) }
         ensures unchanged { OnErr result (self.new ≡ self.old) }
     {
-        let old = self.get(directory, name);
         let born = self.openings.len();
         // `len` is called for its clause that slots are few, so that no count of names is too large.
         let _ = self.slots.len();
         self.holders.make_room(directory)?;
         self.holders.make_room(file)?;
-        self.slots
+        let old = self
+            .slots
             .insert(directory, name, Slot::There { file, born })?;
         self.holders.put(directory, old, file);
         Ok(())
@@ -151,9 +151,8 @@ impl Names {
     pub fn remove(&mut self, directory: FileId, name: &[u8])
         ensures { self.new ≡ edited (Removed directory name.now ∷ []) self.old }
     {
-        let old = self.get(directory, name);
         let at = self.openings.len();
-        self.slots.remove(directory, name, at);
+        let old = self.slots.remove(directory, name, at);
         if let Some(file) = old {
             self.holders.remove(directory, file);
         }

@@ -1,6 +1,6 @@
 //! The table of places: for each place that a name was put at, the slot that says what is there.
 
-ghost use Rattle.std.specs.Prelude.{◌≡◌, ◌<◌, ◌^◌, [], ℕ, List, length, ◌==◌, IfSome, IfNone, Some, None, OnOk, OnErr};
+ghost use Rattle.std.specs.Prelude.{◌≡◌, ◌<◌, ◌^◌, [], ℕ, List, length, ◌==◌, IfSome, IfNone, Some, None, IfOk, OnOk, OnErr};
 ghost use Rattle.fa_tree.specs.declared.id.FileId.{FileId};
 ghost use Rattle.std.specs.FinMap as map;
 ghost use Rattle.std.specs.Map.{keys_of};
@@ -128,19 +128,30 @@ impl Slots {
         self.table.len()
     }
 
-    /// Puts a slot at a place. An error says that memory was refused for a place that had none, and nothing is changed.
+    /// Puts a slot at a place, and answers the file that the place had a name for, if it had one. An error says that memory was
+    /// refused for a place that had no slot, and nothing is changed.
     ///
     /// The name is copied where the place had no slot. Expected constant time, but for what growing costs.
-    pub fn insert(&mut self, directory: FileId, name: &[u8], slot: Slot) -> Result<(), AllocError>
+    pub fn insert(
+        &mut self,
+        directory: FileId,
+        name: &[u8],
+        slot: Slot,
+    ) -> Result<Option<FileId>, AllocError>
+        ensures file { IfOk result (λ file. file ≡ map.get (names_shown self.old.table.entries) (directory, name.now)) }
         ensures put { OnOk result (IsChangedAt (directory, name.now) (λ _. Some slot) self.old.table.entries self.new.table.entries) }
         ensures unchanged { OnErr result (self.new.table.entries ≡ self.old.table.entries) }
     {
         match self.table.get_mut(&PlaceAt { directory, name }) {
             Some(old) => {
+                let file = old.file();
                 *old = slot;
-                Ok(())
+                Ok(file)
             }
-            None => self.insert_new(directory, name, slot),
+            None => {
+                self.insert_new(directory, name, slot)?;
+                Ok(None)
+            }
         }
     }
 
@@ -171,13 +182,19 @@ impl Slots {
         }
     }
 
-    /// Takes the name of a place away, if it has one. Takes no memory, in expected constant time.
-    pub fn remove(&mut self, directory: FileId, name: &[u8], at: usize)
-        ensures { IsChangedAt (directory, name.now) (gone_at at) self.old.table.entries self.new.table.entries }
+    /// Takes the name of a place away, and answers the file that it was for, if the place has one. Takes no memory, in expected
+    /// constant time.
+    pub fn remove(&mut self, directory: FileId, name: &[u8], at: usize) -> Option<FileId>
+        ensures file { result ≡ map.get (names_shown self.old.table.entries) (directory, name.now) }
+        ensures gone { IsChangedAt (directory, name.now) (gone_at at) self.old.table.entries self.new.table.entries }
     {
         match self.table.get_mut(&PlaceAt { directory, name }) {
-            Some(slot) => slot.remove(at),
-            None => {}
+            Some(slot) => {
+                let file = slot.file();
+                slot.remove(at);
+                file
+            }
+            None => None,
         }
     }
 }

@@ -1,5 +1,5 @@
 -- What is counted of the files that names are for, and of the directories that they are in.
-use Rattle.std.specs.Prelude.{◌≡◌, ℕ, List, count_by, Option, Some, None, IsTrue, is_some}
+use Rattle.std.specs.Prelude.{◌≡◌, ◌+◌, ◌-◌, ℕ, List, count_by, Option, Some, None, IsTrue, is_some}
 use Rattle.std.specs.Map.{lookup}
 use Rattle.std.specs.Option.{unwrap_or}
 use Rattle.std.specs.FinMap.{FinMap, get, entries}
@@ -11,6 +11,26 @@ use Rattle.fa_tree.specs.declared.holders.Holder.{Holder}
 -- of a file that never had a name, nor one in it, nothing is counted
 abbrev pub no_holder : Holder
 no_holder = record { links = 0; inside = 0; parent = None }
+
+-- a name more of a file, which this directory has
+abbrev pub one_link_more : FileId → Holder → Holder
+one_link_more directory h = record { links = h.links + 1; inside = h.inside; parent = Some directory }
+
+-- a name less of a file
+abbrev pub one_link_less : Holder → Holder
+one_link_less h = record { links = h.links - 1; inside = h.inside; parent = None }
+
+-- a name more in a directory
+abbrev pub one_inside_more : Holder → Holder
+one_inside_more h = record { links = h.links; inside = h.inside + 1; parent = h.parent }
+
+-- a name less in a directory
+abbrev pub one_inside_less : Holder → Holder
+one_inside_less h = record { links = h.links; inside = h.inside - 1; parent = h.parent }
+
+-- this directory is known to have a name for the file
+abbrev pub of_parent : FileId → Holder → Holder
+of_parent directory h = record { links = h.links; inside = h.inside; parent = Some directory }
 
 -- the entry of a file, if it has one
 abbrev pub entry_of : List (FileId × Holder) → FileId → Option Holder

@@ -1,5 +1,4 @@
 use Rattle.std.proofs.Common.{◌∷◌, [], ap, subst, sym, ◌∙◌, arith}
-use Rattle.std.specs.FinMap.{get}
 use Rattle.fa_tree.specs.Edits.Edit.{Added, Removed}
 use Rattle.fa_tree.specs.parts.NameParts.{edited, StaysThere}
 use Rattle.fa_tree.specs.parts.SlotParts.{names_shown}
@@ -9,10 +8,10 @@ use Rattle.fa_tree.proofs.HolderLemmas.{names_few, same_counted}
 use Rattle.fa_tree.proofs.ViewLemmas.{names_put, shown_put, shown_stays, within_put}
 use Rattle.fa_tree.proofs.names.Names.put.Goals as goal
 
-pub invariant_of-self-in_err-insert : goal.invariant_of-self-in_err-insert
-invariant_of-self-in_err-insert c =
+pub invariant_of-self-in_err-old : goal.invariant_of-self-in_err-old
+invariant_of-self-in_err-old c =
     let names = names_shown c.self.inside.slots.table.entries in
-    rw (c.in_err-insert.ensures.unchanged) (
+    rw (c.in_err-old.ensures.unchanged) (
       c.self.invariant.0,
       same_counted names (held c.make_room.new.self.table.entries) (held c.make_room-2.new.self.table.entries) c.make_room-2.ensures.same
           (same_counted names (held c.self.inside.holders.table.entries) (held c.make_room.new.self.table.entries) c.make_room.ensures.same c.self.invariant.1),
@@ -26,7 +25,7 @@ put-requires-clause-counted c =
       record {
         names = names;
         name = c.args.name.now;
-        at = ap (λ n. get n.names (c.args.directory, c.args.name.now)) c.self.view_is ∙ sym c.get-old.ensures;
+        at = sym c.in_ok-old.ensures.file;
         counted =
             same_counted names (held c.make_room.new.self.table.entries) (held c.make_room-2.new.self.table.entries) c.make_room-2.ensures.same
             (same_counted names (held c.self.inside.holders.table.entries) (held c.make_room.new.self.table.entries) c.make_room.ensures.same c.self.invariant.1);
@@ -39,16 +38,16 @@ invariant_of-self-2 c =
     let old = c.self.inside.slots.table.entries in
     let new = c.insert.new.self.table.entries in
     let names = names_shown old in (
-      within_put _ old new (c.args.directory, c.args.name.now) c.args.file c.len-born.result c.len-born.ensures c.in_ok-insert.ensures.put c.self.invariant.0,
-      subst (λ names. AreCounted names (held c.put.new.self.table.entries)) (sym (names_put old new c.args.directory c.args.name.now c.args.file c.len-born.result c.in_ok-insert.ensures.put))
-          (c.put.ensures.counted names c.args.name.now (ap (λ n. get n.names (c.args.directory, c.args.name.now)) c.self.view_is ∙ sym c.get-old.ensures)
+      within_put _ old new (c.args.directory, c.args.name.now) c.args.file c.len-born.result c.len-born.ensures c.in_ok-old.ensures.put c.self.invariant.0,
+      subst (λ names. AreCounted names (held c.put.new.self.table.entries)) (sym (names_put old new c.args.directory c.args.name.now c.args.file c.len-born.result c.in_ok-old.ensures.put))
+          (c.put.ensures.counted names c.args.name.now (sym c.in_ok-old.ensures.file)
           (same_counted names (held c.make_room.new.self.table.entries) (held c.make_room-2.new.self.table.entries) c.make_room-2.ensures.same
           (same_counted names (held c.self.inside.holders.table.entries) (held c.make_room.new.self.table.entries) c.make_room.ensures.same c.self.invariant.1))),
     )
 
 pub returns-clause-put : goal.returns-clause-put
 returns-clause-put c =
-    shown_put c.self.inside.slots.table.entries c.insert.new.self.table.entries c.args.directory c.args.name.now c.args.file c.len-born.result c.in_ok-insert.ensures.put
+    shown_put c.self.inside.slots.table.entries c.insert.new.self.table.entries c.args.directory c.args.name.now c.args.file c.len-born.result c.in_ok-old.ensures.put
     c.self.inside.openings (omega arith)
     ∙ ap (edited (Removed c.args.directory c.args.name.now ∷ Added c.args.directory c.args.name.now c.args.file ∷ [])) c.self.view_is
 

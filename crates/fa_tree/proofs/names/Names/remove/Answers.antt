@@ -1,5 +1,4 @@
 use Rattle.std.proofs.Common.{◌∷◌, [], ap, subst, sym, ◌∙◌, arith}
-use Rattle.std.specs.FinMap.{get}
 use Rattle.fa_tree.specs.Edits.Edit.{Removed}
 use Rattle.fa_tree.specs.parts.NameParts.{edited}
 use Rattle.fa_tree.specs.parts.PlaceLaws.{place_cmp_total, places_apart}
@@ -9,44 +8,44 @@ use Rattle.fa_tree.proofs.EditedLemmas.{remove_none}
 use Rattle.fa_tree.proofs.ViewLemmas.{names_removed, shown_removed, within_removed}
 use Rattle.fa_tree.proofs.names.Names.remove.Goals as goal
 
-pub remove-requires-in-Some : goal.remove-requires-in-Some
-remove-requires-in-Some c = record {
+pub remove-requires : goal.remove-requires
+remove-requires c = record {
   names = names_shown c.self.inside.slots.table.entries;
   name = c.args.name.now;
-  at = ap (λ n. get n.names (c.args.directory, c.args.name.now)) c.self.view_is ∙ sym c.get-old.ensures ∙ c.in-Some.is;
+  at = sym c.remove-old.ensures.file ∙ c.in-Some.is;
   counted = c.self.invariant.1;
 }
 
 pub invariant_of-self : goal.invariant_of-self
 invariant_of-self c =
     let old = c.self.inside.slots.table.entries in
-    let new = c.remove.new.self.table.entries in (
-      within_removed _ old new (c.args.directory, c.args.name.now) c.len-at.result c.len-at.ensures c.remove.ensures c.self.invariant.0,
-      subst (λ names. AreCounted names (held c.remove-in-Some.new.self.table.entries)) (sym (names_removed old new c.args.directory c.args.name.now c.len-at.result c.remove.ensures))
-          (c.remove-in-Some.ensures.counted (names_shown old) c.args.name.now
-          (ap (λ n. get n.names (c.args.directory, c.args.name.now)) c.self.view_is ∙ sym c.get-old.ensures ∙ c.in-Some.is) c.self.invariant.1),
+    let new = c.remove-old.new.self.table.entries in (
+      within_removed _ old new (c.args.directory, c.args.name.now) c.len-at.result c.len-at.ensures c.remove-old.ensures.gone c.self.invariant.0,
+      subst (λ names. AreCounted names (held c.remove.new.self.table.entries)) (sym (names_removed old new c.args.directory c.args.name.now c.len-at.result c.remove-old.ensures.gone))
+          (c.remove.ensures.counted (names_shown old) c.args.name.now
+          (sym c.remove-old.ensures.file ∙ c.in-Some.is) c.self.invariant.1),
     )
 
 pub invariant_of-self-in_default : goal.invariant_of-self-in_default
 invariant_of-self-in_default c =
     let old = c.self.inside.slots.table.entries in
-    let new = c.remove.new.self.table.entries in (
-      within_removed _ old new (c.args.directory, c.args.name.now) c.len-at.result c.len-at.ensures c.remove.ensures c.self.invariant.0,
+    let new = c.remove-old.new.self.table.entries in (
+      within_removed _ old new (c.args.directory, c.args.name.now) c.len-at.result c.len-at.ensures c.remove-old.ensures.gone c.self.invariant.0,
       subst (λ names. AreCounted names (held c.self.inside.holders.table.entries))
-          (sym (names_removed old new c.args.directory c.args.name.now c.len-at.result c.remove.ensures
+          (sym (names_removed old new c.args.directory c.args.name.now c.len-at.result c.remove-old.ensures.gone
           ∙ remove_none place_cmp_total places_apart (names_shown old) (c.args.directory, c.args.name.now)
-          (ap (λ n. get n.names (c.args.directory, c.args.name.now)) c.self.view_is ∙ sym c.get-old.ensures ∙ c.in_default.is)))
+          (sym c.remove-old.ensures.file ∙ c.in_default.is)))
           c.self.invariant.1,
     )
 
 pub returns-in-Some : goal.returns-in-Some
 returns-in-Some c =
-    shown_removed c.self.inside.slots.table.entries c.remove.new.self.table.entries c.args.directory c.args.name.now c.len-at.result c.remove.ensures
+    shown_removed c.self.inside.slots.table.entries c.remove-old.new.self.table.entries c.args.directory c.args.name.now c.len-at.result c.remove-old.ensures.gone
     c.self.inside.openings (omega arith)
     ∙ ap (edited (Removed c.args.directory c.args.name.now ∷ [])) c.self.view_is
 
 pub returns-in_default : goal.returns-in_default
 returns-in_default c =
-    shown_removed c.self.inside.slots.table.entries c.remove.new.self.table.entries c.args.directory c.args.name.now c.len-at.result c.remove.ensures
+    shown_removed c.self.inside.slots.table.entries c.remove-old.new.self.table.entries c.args.directory c.args.name.now c.len-at.result c.remove-old.ensures.gone
     c.self.inside.openings (omega arith)
     ∙ ap (edited (Removed c.args.directory c.args.name.now ∷ [])) c.self.view_is

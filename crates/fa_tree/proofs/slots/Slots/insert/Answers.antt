@@ -1,6 +1,9 @@
-use Rattle.std.proofs.Common.{Some, refl, sym, ap, subst, is_some}
+use Rattle.std.proofs.Common.{Some, refl, sym, ap, subst, ◌∙◌, is_some}
 use Rattle.std.specs.Map.{keys_of}
+use Rattle.std.specs.Option.{option_and_then}
 use Rattle.fa_tree.specs.parts.MemberParts.{AreMembers}
+use Rattle.fa_tree.specs.parts.SlotParts.{file_in}
+use Rattle.fa_tree.proofs.NameLemmas.{get-names_shown}
 use Rattle.fa_tree.proofs.SlotLemmas.{after_write, keys_same}
 use Rattle.fa_tree.proofs.slots.Slots.insert.Goals as goal
 
@@ -13,3 +16,13 @@ pub invariant_of-self-in-None : goal.invariant_of-self-in-None
 invariant_of-self-in-None c = record {
   complete = subst (λ table. AreMembers (keys_of table.entries) c.args.self.now.members.table.entries) (sym c.get_mut.follows.holds-at-none) c.args.self.now.complete;
 }
+
+pub returns-in-Some-clause-file : goal.returns-in-Some-clause-file
+returns-in-Some-clause-file c =
+    c.file-file.ensures ∙ ap (option_and_then file_in) c.in-Some.ensures.value
+    ∙ sym (get-names_shown c.args.self.now.table.entries (c.args.directory, c.args.name.now))
+
+pub returns-in_ok-insert_new-in-None-clause-file : goal.returns-in_ok-insert_new-in-None-clause-file
+returns-in_ok-insert_new-in-None-clause-file c =
+    ap (option_and_then file_in) c.in-None.ensures.value
+    ∙ sym (get-names_shown c.args.self.now.table.entries (c.args.directory, c.args.name.now))
