@@ -82,14 +82,30 @@ fn listed_to(alloc: Global, end: u32) -> Sample {
         .listing(2, &[])
 }
 
+/// What a call is told, where it is told the same along the replay and by itself.
+fn told_both(
+    along: &mut Tree,
+    alone: &mut Tree,
+    replay: &mut Replay<'_>,
+    at: u32,
+) -> Option<Result<(), StepError>> {
+    let told = step(alone, replay.calls(), at, None);
+    if step_in(along, replay, at) == told {
+        told
+    } else {
+        None
+    }
+}
+
 /// How many calls step on the large directory, in their order, and what the next one is told, if there is one. None where memory was
-/// refused.
+/// refused, or where one is told otherwise along a replay than by itself.
 fn steps_along(alloc: Global, calls: &Calls<'_>) -> Option<(u32, Option<StepError>)> {
-    let mut tree = large(alloc)?;
+    let mut along = large(alloc)?;
+    let mut alone = large(alloc)?;
     let mut replay = Replay::new(alloc, calls);
     let mut steps = 0u32;
     for call in &calls.list {
-        match step_in(&mut tree, &mut replay, call.asked)? {
+        match told_both(&mut along, &mut alone, &mut replay, call.asked)? {
             Ok(()) => steps = steps.saturating_add(1),
             Err(error) => return Some((steps, Some(error))),
         }
@@ -218,21 +234,6 @@ const LISTED_BACK_AND_FORTH: &[Sent] = &[
     Dirents(24, &[("a", 1), ("a", 2)]),
 ];
 
-/// What a call is told, where it is told the same along the replay and by itself.
-fn told_both(
-    along: &mut Tree,
-    alone: &mut Tree,
-    replay: &mut Replay<'_>,
-    at: u32,
-) -> Option<Result<(), StepError>> {
-    let told = step(alone, replay.calls(), at, None);
-    if step_in(along, replay, at) == told {
-        told
-    } else {
-        None
-    }
-}
-
 /// How many calls step, and how many are refused. None where one is told otherwise along the replay than by itself.
 fn told_alike(
     alloc: Global,
@@ -251,9 +252,9 @@ fn told_alike(
     Some((steps, refused))
 }
 
-/// The same of the calls of messages. None also where a message is refused, or memory was.
-fn listed_alike(alloc: Global, files: &[Added], messages: &[Sent]) -> Option<(u32, u32)> {
-    let bytes = with_all(begun(alloc, (0, 0)), messages).capture().ok()?;
+/// The same of the calls of a sample. None also where a message is refused, or memory was.
+fn listed_alike(alloc: Global, files: &[Added], sample: Sample) -> Option<(u32, u32)> {
+    let bytes = sample.capture().ok()?;
     let capture = read_capture(alloc, &bytes).ok()?;
     let calls = calls_of(alloc, &capture.packets)?;
     let mut along = tree_of(alloc, files)?;
@@ -261,9 +262,69 @@ fn listed_alike(alloc: Global, files: &[Added], messages: &[Sent]) -> Option<(u3
     told_alike(alloc, &mut along, &mut alone, &calls)
 }
 
-/// What is kept of a listing shows nowhere, where it goes on, where it goes back, and where it ends.
+/// The five files of the root as entries, in pieces, each with the offset that it is asked for at.
+const PIECES: &[(u64, &[Listed<'_>])] = &[
+    (
+        0,
+        &[Listed {
+            name: b"a",
+            off: 1,
+            file_type: 8,
+        }],
+    ),
+    (
+        1,
+        &[Listed {
+            name: b"b",
+            off: 2,
+            file_type: 8,
+        }],
+    ),
+    (
+        2,
+        &[
+            Listed {
+                name: b"c",
+                off: 3,
+                file_type: 8,
+            },
+            Listed {
+                name: b"d",
+                off: 4,
+                file_type: 8,
+            },
+            Listed {
+                name: b"e",
+                off: 5,
+                file_type: 8,
+            },
+        ],
+    ),
+    (5, &[]),
+];
+
+/// The root is opened as so many handles, and listed on all of them in turn, by these pieces.
+fn listed_in_turn(alloc: Global, handles: u64, pieces: &[(u64, &[Listed<'_>])]) -> Sample {
+    let mut sample = begun(alloc, (0, 0));
+    for handle in 1..=handles {
+        sample = sample.opendir(2, ROOT).opened(2, handle);
+    }
+    for (offset, entries) in pieces {
+        for handle in 1..=handles {
+            sample = sample
+                .readdir(2, ROOT, handle, *offset, 4096)
+                .listing(2, entries);
+        }
+    }
+    sample
+}
+
+/// What is kept of a listing shows nowhere, where it goes on, where it goes back, and where it ends; nor where there are more handles
+/// than it is kept for.
 #[test]
 fn a_listing_along_one_replay(rt: HostRuntime) {
-    let told = listed_alike(rt.alloc(), FIVE, LISTED_BACK_AND_FORTH);
-    assert!(rt; told == Some((8, 4)));
+    let back_and_forth = with_all(begun(rt.alloc(), (0, 0)), LISTED_BACK_AND_FORTH);
+    assert!(rt; listed_alike(rt.alloc(), FIVE, back_and_forth) == Some((8, 4)));
+    let in_turn = listed_in_turn(rt.alloc(), 20, PIECES);
+    assert!(rt; listed_alike(rt.alloc(), FIVE, in_turn) == Some((100, 0)));
 }
