@@ -1,6 +1,6 @@
 //! How far an order is placed.
 
-ghost use Rattle.std.specs.Prelude.{◌≡◌, ◌+◌, ◌++◌, ◌∷◌, [], ℕ, List, Some, length, map, set, slice_get, true, IfSome, IfNone, IfOk, IfErr, OnOk, OnErr};
+ghost use Rattle.std.specs.Prelude.{◌≡◌, ◌+◌, ◌++◌, ◌∷◌, [], ℕ, List, Some, map, set, slice_get, true, IfSome, IfNone, IfOk, IfErr, OnOk, OnErr};
 ghost use Rattle.fa_capture.specs.Checks.{AllHold, FirstFailure};
 ghost use Rattle.fa_capture.specs.Message.{Message};
 ghost use Rattle.fa_ledger.specs.Calls.{PlainCall, call_shown};

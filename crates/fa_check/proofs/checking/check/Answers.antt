@@ -1,4 +1,4 @@
-use Rattle.std.proofs.Common.{◌≡◌, take, Result, Ok, Err, refl, sym, ap, subst}
+use Rattle.std.proofs.Common.{◌≡◌, Result, Ok, Err, refl, sym, ap, subst}
 use Rattle.std.specs.Prelude.{OnOk, IfOk}
 use Rattle.fa_check.specs.declared.placing.Placing.{Placing}
 use Rattle.fa_check.specs.Verdicts.{IsVerdict}
