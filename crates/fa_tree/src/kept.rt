@@ -53,10 +53,10 @@ impl<'c> Kept<'c> {
         self.by_handle.shift_remove(&handle)
     }
 
-    /// Keeps what was listed so far on a handle, in the place of what is kept longest where there is no room. Where memory is
-    /// refused it is not kept.
+    /// Keeps what was listed so far on a handle for which nothing is kept, in the place of what is kept longest where there is no
+    /// room. Where memory is refused it is not kept.
     ///
-    /// Constant time.
+    /// Constant time, but for growing up to that room, and for giving back the names that go.
     pub fn put(&mut self, handle: u32, listed: ListedSoFar<'c>)
         ensures { (other : ℕ) (kept : TheListed) → lookup (nat_eq other) self.new.by_handle.entries ≡ Some kept → ((handle ≡ other) × (listed.entry ≡ kept)) ⊎ (lookup (nat_eq other) self.old.by_handle.entries ≡ Some kept) }
     {

@@ -83,6 +83,8 @@ impl<'c> Replay<'c> {
 
     /// Keeps what was listed so far for the call at this place, if calls may come that need it. Where memory is refused it is
     /// not kept.
+    ///
+    /// Takes memory and time as [`Kept::put`].
     pub(crate) fn keep(&mut self, k: usize, tally: Tally<'c>)
         requires there { k < length self.old.list.items }
         requires told { IsTallyAt self.old k tally }
@@ -95,6 +97,8 @@ impl<'c> Replay<'c> {
     }
 
     /// Takes away what is kept for the handle of a call, if the call goes on from another.
+    ///
+    /// Takes no memory, in constant time.
     fn take_kept(&mut self, call: &Call<'_>) -> Option<ListedSoFar<'c>>
         ensures told { IfSome result (IsTold self.old) }
         ensures same { self.new ≡ self.old }
