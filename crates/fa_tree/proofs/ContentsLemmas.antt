@@ -1,6 +1,6 @@
 -- The bytes of a file as they are read and written, and the pages that they are in.
-use Rattle.std.proofs.Common.{◌≡◌, ◌↔◌, ℕ, ◌+◌, ◌-◌, ◌<◌, ◌≤◌, ◌/◌, ◌%◌, ◌⊎◌, ◌==◌, true, false, List, [], ◌∷◌, ◌++◌, length, replicate, take, drop, set, get_or, min, max, inl, inr, refl, sym, ap, ◌∙◌, arith, zero-add, append-nil, length-append}
-use Rattle.std.proofs.lemmas.List.{length-take, take-append-drop, length-replicate, length-drop, drop_all, get_or-take, get_or-drop, get_or_past, get_or-replicate, get_or_append_left, get_or-append_right, get_or-set_same, get_or-set_other, get_or_push, get_or_read, length_push, ext_get_or}
+use Rattle.std.proofs.Common.{◌≡◌, ◌↔◌, ℕ, zero, suc, ◌+◌, ◌*◌, ◌-◌, ◌<◌, ◌≤◌, ◌/◌, ◌%◌, ◌⊎◌, ◌==◌, true, false, List, [], ◌∷◌, ◌++◌, length, replicate, take, drop, set, get_or, min, max, inl, inr, refl, sym, ap, ◌∙◌, arith, zero-add, length-append}
+use Rattle.std.proofs.lemmas.List.{length-take, take-append-drop, length-replicate, length-drop, get_or-take, get_or-drop, get_or_past, get_or-replicate, get_or_append_left, get_or-append_right, get_or-set_same, get_or-set_other, get_or_push, length_push, ext_get_or}
 use Rattle.std.proofs.lemmas.List.FromFn.{length-map-range_with_len, get_or-map-range_with_len}
 use Rattle.std.proofs.lemmas.Bool.{cases_lt, cases_eq}
 use Rattle.std.proofs.lemmas.Bool.Decides.{nat_tests}
@@ -40,10 +40,6 @@ bytes_same now before len same =
 
 -- ---- pages
 
-pub byte_none : (pages : List (List ℕ)) → pages ≡ [] → (i : ℕ) → byte_at pages i ≡ 0
-unfolding byte_at page_at
-byte_none pages none i = rw none refl
-
 pub bytes_none : (pages : List (List ℕ)) → bytes_of pages 0 ≡ []
 unfolding bytes_of
 bytes_none pages = refl
@@ -62,6 +58,41 @@ byte_push pages i =
       ]
     ] in
     ap (λ page. get_or page (i % 4096) 0) same
+
+-- one page, that stores nothing
+pub byte_none : (pages : List (List ℕ)) → pages ≡ [] ∷ [] → (i : ℕ) → byte_at pages i ≡ 0
+unfolding byte_at page_at
+byte_none pages none i = rw none (byte_push [] i)
+
+-- one page: what it stores, and zeros behind
+module _ (pages : List (List ℕ)) (page : List ℕ) (is : pages ≡ page ∷ []) (fits : length page ≤ 4096) where
+  pub zero_behind : IsZeroFrom pages (length page)
+  unfolding byte_at page_at
+  zero_behind i behind = rw is (at (i / 4096) refl) where
+    at : (k : ℕ) → i / 4096 ≡ k → get_or (get_or (page ∷ []) k []) (i % 4096) 0 ≡ 0
+    at zero here = get_or_past page (i % 4096) 0 (omega arith)
+    at (suc k) here = refl
+
+  byte_of_one : (i : ℕ) → i < length page → get_or page i 0 ≡ byte_at pages i
+  unfolding byte_at page_at
+  byte_of_one i within =
+      let first : i / 4096 ≡ 0 = omega arith in
+      let same : i % 4096 ≡ i = omega arith in
+      rw (is, first, same) refl
+
+  pub bytes_of_one : bytes_of pages (length page) ≡ page
+  bytes_of_one = bytes_are pages (length page) page refl byte_of_one
+
+-- the same bytes behind the same page
+pub bytes_behind : (first : List ℕ) (now before : List (List ℕ)) → SameBytes now before → SameBytes (first ∷ now) (first ∷ before)
+unfolding byte_at page_at
+bytes_behind first now before same i = at (i / 4096) where
+  at : (k : ℕ) → get_or (get_or (first ∷ now) k []) (i % 4096) 0 ≡ get_or (get_or (first ∷ before) k []) (i % 4096) 0
+  at zero = refl
+  at (suc k) =
+      let place : (k * 4096 + i % 4096) / 4096 ≡ k = omega arith in
+      let within : (k * 4096 + i % 4096) % 4096 ≡ i % 4096 = omega arith in
+      rw (place, within) at (same (k * 4096 + i % 4096))
 
 -- a page that is set, and the others
 page_here : (pages : List (List ℕ)) (page : List ℕ) (k i : ℕ) → i / 4096 ≡ k → k < length pages → page_at (set pages k page) i ≡ page
@@ -466,20 +497,33 @@ all_are pages len bytes = (
       (size, λ i within. ap (λ l. get_or l i 0) same ∙ (get_or-bytes_of pages len i (omega arith) ∙ ap (λ k. byte_at pages k) (sym (zero-add i))))),
 )
 
-pub written_none : (bytes : List ℕ) → written [] 0 bytes ≡ bytes
-written_none [] = refl
-written_none (x ∷ xs) =
-    let none : drop {A = ℕ} (0 + length (x ∷ xs)) [] ≡ [] = drop_all (0 + length (x ∷ xs)) [] (omega arith) in
-    let some : (length (x ∷ xs) == 0) ≡ false = grind (arith, nat_tests) in
-    rw (some, none) (append-nil (x ∷ xs))
+-- the bytes of the first page, and the others written behind them
+pub written_rest : (bytes : List ℕ) (count : ℕ) → count ≡ min (length bytes) 4096 → written (take count bytes) 4096 (drop count bytes) ≡ bytes
+written_rest bytes count is =
+    let front : length (take count bytes) ≡ count = length-take count bytes ∙ omega arith in
+    let rest : length (drop count bytes) ≡ length bytes - count = length-drop count bytes in
+    elim (cases_lt 4096 (length bytes)) [
+      | inl long ↦
+          let some : (length (drop count bytes) == 0) ≡ false = grind (arith, nat_tests) in
+          let all : length (written (take count bytes) 4096 (drop count bytes)) ≡ length bytes =
+          length-written (take count bytes) (drop count bytes) 4096 some count (sym front) ∙ omega arith in
+          ext_get_or 0 (written (take count bytes) 4096 (drop count bytes)) bytes all
+          (λ i within. elim (cases_lt i 4096) [
+            | inl first ↦ written_front (take count bytes) (drop count bytes) 4096 some i first ∙ get_or-take count bytes i 0 (omega arith)
+            | inr behind ↦
+                let sum : count + (i - 4096) ≡ i = omega arith in
+                written_inside (take count bytes) (drop count bytes) 4096 some i behind (omega arith)
+                ∙ (get_or-drop count bytes (i - 4096) 0 ∙ ap (λ k. get_or bytes k 0) sum)
+          ])
+      | inr short ↦
+          let none : (length (drop count bytes) == 0) ≡ true = grind (arith, nat_tests) in
+          rw none (ext_get_or 0 (take count bytes) bytes (front ∙ omega arith) (λ i within. get_or-take count bytes i 0 (omega arith)))
+    ]
 
--- a page that is found at its place, and none
-pub page_found : (pages : List (List ℕ)) (page : List ℕ) (at : ℕ) → at / 4096 < length pages → page ≡ get_or pages (at / 4096) page → page_at pages at ≡ page
+-- the page at a place of the list
+pub page_there : (pages : List (List ℕ)) (at : ℕ) → page_at pages at ≡ get_or pages (at / 4096) []
 unfolding page_at
-page_found pages page at within is = sym (get_or_read pages (at / 4096) page within is [])
-
-pub page_none : (pages : List (List ℕ)) (at : ℕ) → length pages ≤ at / 4096 → page_at pages at ≡ []
-page_none pages at past = page_past pages at past
+page_there pages at = refl
 
 -- a page stores what is stored of it
 pub room_of_page : (pages : List (List ℕ)) (page : List ℕ) (start end at count : ℕ) → IsStored pages start end → start ≤ at → 0 < count → at + count ≤ end

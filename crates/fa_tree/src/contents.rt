@@ -1,10 +1,11 @@
 //! The bytes of a file.
 
-ghost use Rattle.std.specs.Prelude.{◌≡◌, ◌↔◌, ◌+◌, ◌%◌, ◌^◌, ◌<◌, ◌≤◌, [], length, IsTrue, IfOk, OnOk, OnErr};
+ghost use Rattle.std.specs.Prelude.{◌≡◌, ◌↔◌, ◌+◌, ◌^◌, ◌<◌, [], length, IsTrue, IfOk, OnOk, OnErr};
 ghost use Rattle.fa_tree.specs.Contents.{IsReadAs, readable, resized, written};
-ghost use Rattle.fa_tree.specs.parts.PageParts.{IsPart, page_at, IsZeroFrom, SameBytes, IsStored, AreFrom, AreWritten, AreCut};
+ghost use Rattle.fa_tree.specs.parts.PageParts.{IsZeroFrom, SameBytes, IsStored, AreFrom, AreWritten, AreCut};
 
-use crate::page::{PAGE, Page, are_zeros};
+use crate::page::PAGE;
+use crate::pages::Pages;
 use std::alloc::{AllocError, Global};
 use std::marker::Model;
 
@@ -15,7 +16,7 @@ pub(crate) struct Contents {
     /// How many there are.
     len: usize,
     /// They are in pages, one after the other. A byte that its page does not store, or whose page is not in the list, is zero.
-    pages: Vec<Page>,
+    pages: Pages,
 }
 
 impl Model for Contents {
@@ -24,10 +25,10 @@ impl Model for Contents {
 
     ghost Value = { List ℕ };
 
-    ghost view = { λ c. bytes_of c.pages.items c.len };
+    ghost view = { λ c. bytes_of c.pages c.len };
 
     // What is stored behind the end are zeros, so that growing changes the length alone.
-    ghost invariant = { λ c. IsZeroFrom c.pages.items c.len };
+    ghost invariant = { λ c. IsZeroFrom c.pages c.len };
 }
 
 impl Contents {
@@ -38,7 +39,7 @@ impl Contents {
         Contents {
             alloc,
             len: 0,
-            pages: Vec::new(alloc),
+            pages: Pages::new(alloc),
         }
     }
 
@@ -47,12 +48,13 @@ impl Contents {
     pub fn from_slice(alloc: Global, bytes: &[u8]) -> Result<Self, AllocError>
         ensures { IfOk result (λ contents. contents ≡ bytes.now) }
     {
+        let (first, rest) = bytes.split_at(bytes.len().min(PAGE));
         let mut contents = Contents {
             alloc,
-            len: 0,
-            pages: Vec::with_capacity(alloc, bytes.len().div_ceil(PAGE))?,
+            len: first.len(),
+            pages: Pages::from_slice(alloc, first, bytes.len().div_ceil(PAGE))?,
         };
-        contents.write(0, bytes)?;
+        contents.write(PAGE as u64, rest)?;
         Ok(contents)
     }
 
@@ -131,7 +133,7 @@ impl Contents {
 
 /// Whether these are the bytes of the pages from this place on. Takes no memory, and time in their number: each page is compared
 /// as a whole.
-fn are_from(pages: &[Page], start: usize, bytes: &[u8]) -> bool
+fn are_from(pages: &Pages, start: usize, bytes: &[u8]) -> bool
     requires { start + length bytes.now < 2 ^ 64 }
     ensures { IsTrue result ↔ AreFrom pages.now start bytes.now }
 {
@@ -139,7 +141,7 @@ fn are_from(pages: &[Page], start: usize, bytes: &[u8]) -> bool
     while done < bytes.len() {
         let at = start + done;
         let count = (PAGE - at % PAGE).min(bytes.len() - done);
-        if !has(pages, at, &bytes[done..done + count]) {
+        if !pages.has(at / PAGE, at % PAGE, &bytes[done..done + count]) {
             return false;
         }
         done += count;
@@ -147,61 +149,35 @@ fn are_from(pages: &[Page], start: usize, bytes: &[u8]) -> bool
     true
 }
 
-/// Whether these are the bytes from this place on, in one page.
-fn has(pages: &[Page], at: usize, part: &[u8]) -> bool
-    ensures { IsTrue result ↔ IsPart (page_at pages.now at) (at % 4096) part.now }
-{
-    match pages.get(at / PAGE) {
-        Some(page) => page.has(at % PAGE, part),
-        None => are_zeros(part),
-    }
-}
-
-/// Adds pages up to so many. They store nothing: all bytes are as they were, after an error too. Time in the pages that are added.
-fn add_pages(alloc: Global, pages: &mut Vec<Page>, count: usize) -> Result<(), AllocError>
-    ensures same { SameBytes pages.new.items pages.old.items }
-    ensures added { OnOk result (count ≤ length pages.new.items) }
-{
-    if pages.len() < count {
-        pages.reserve(count - pages.len())?;
-    }
-    while pages.len() < count {
-        pages.push(Page::new(alloc))?;
-    }
-    Ok(())
-}
-
 /// Makes pages store the bytes from one place up to another. All are as they were, after an error too. Time in the bytes that were
 /// not stored, and in the pages that are added.
-fn store(alloc: Global, pages: &mut Vec<Page>, start: usize, end: usize) -> Result<(), AllocError>
-    ensures same { SameBytes pages.new.items pages.old.items }
-    ensures stored { OnOk result (IsStored pages.new.items start end) }
+fn store(alloc: Global, pages: &mut Pages, start: usize, end: usize) -> Result<(), AllocError>
+    ensures same { SameBytes pages.new pages.old }
+    ensures stored { OnOk result (IsStored pages.new start end) }
 {
-    add_pages(alloc, pages, end.div_ceil(PAGE))?;
+    pages.add(alloc, end.div_ceil(PAGE))?;
     let mut at = start;
     while at < end {
         let from = at % PAGE;
         let count = (PAGE - from).min(end - at);
-        let page = &mut pages[at / PAGE];
-        page.store(from + count)?;
+        pages.store(at / PAGE, from + count)?;
         at += count;
     }
     Ok(())
 }
 
 /// Puts these bytes at this place, where as many are stored. Takes no memory, and time in their number.
-fn put(pages: &mut Vec<Page>, start: usize, bytes: &[u8])
+fn put(pages: &mut Pages, start: usize, bytes: &[u8])
     requires fits { start + length bytes.now < 2 ^ 64 }
-    requires stored { IsStored pages.old.items start (start + length bytes.now) }
-    ensures { AreWritten pages.new.items pages.old.items start bytes.now (length bytes.now) }
+    requires stored { IsStored pages.old start (start + length bytes.now) }
+    ensures { AreWritten pages.new pages.old start bytes.now (length bytes.now) }
 {
     let mut done = 0;
     while done < bytes.len() {
         let at = start + done;
         let from = at % PAGE;
         let count = (PAGE - from).min(bytes.len() - done);
-        let page = &mut pages[at / PAGE];
-        page.put(from, &bytes[done..done + count]);
+        pages.put(at / PAGE, from, &bytes[done..done + count]);
         done += count;
     }
 }
@@ -209,20 +185,18 @@ fn put(pages: &mut Vec<Page>, start: usize, bytes: &[u8])
 /// Takes the bytes from this place on away, up to the length before: zeros follow. The page that goes on behind the place is cut
 /// there, each further one stores nothing; all stay in the list and keep their memory for what is written next. Takes no memory.
 /// Constant time, and a constant for each page that is cut: those behind the length store zeros alone, and are not walked.
-fn cut(pages: &mut Vec<Page>, size: usize, len: usize)
-    requires { IsZeroFrom pages.old.items len }
-    ensures { AreCut pages.new.items pages.old.items size }
+fn cut(pages: &mut Pages, size: usize, len: usize)
+    requires { IsZeroFrom pages.old len }
+    ensures { AreCut pages.new pages.old size }
 {
     let last = size / PAGE;
     if last < pages.len() {
-        let page = &mut pages[last];
-        page.cut(size % PAGE);
+        pages.cut(last, size % PAGE);
     }
     let end = len.div_ceil(PAGE).min(pages.len());
     let mut at = last + 1;
     while at < end {
-        let page = &mut pages[at];
-        page.cut(0);
+        pages.cut(at, 0);
         at += 1;
     }
 }

@@ -26,6 +26,7 @@ mod nodes;
 mod open;
 mod orderly;
 mod page;
+mod pages;
 mod queries;
 mod renaming;
 mod replay;

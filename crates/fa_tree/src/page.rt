@@ -1,6 +1,6 @@
 //! Pages of the bytes of a file.
 
-ghost use Rattle.std.specs.Prelude.{◌≡◌, ◌↔◌, ◌+◌, ◌<◌, ◌≤◌, ℕ, List, [], get_or, length, take, IsTrue, OnOk, OnErr};
+ghost use Rattle.std.specs.Prelude.{◌≡◌, ◌↔◌, ◌+◌, ◌<◌, ◌≤◌, ℕ, List, [], get_or, length, take, IsTrue, IfOk, OnOk, OnErr};
 ghost use Rattle.fa_tree.specs.parts.PageParts.{IsPart, with_part};
 
 use std::alloc::{AllocError, Global};
@@ -33,6 +33,16 @@ impl Page {
         Page {
             bytes: Vec::new(alloc),
         }
+    }
+
+    /// These bytes, and no memory beside them. Time and memory in their number.
+    pub fn from_slice(alloc: Global, bytes: &[u8]) -> Result<Self, AllocError>
+        requires { length bytes.now ≤ 4096 }
+        ensures { IfOk result (λ page. page ≡ bytes.now) }
+    {
+        Ok(Page {
+            bytes: bytes.to_vec(alloc)?,
+        })
     }
 
     /// Stores so many bytes at least, where those that were not stored are zeros still. An error says that memory was refused, and

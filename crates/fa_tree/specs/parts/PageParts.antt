@@ -1,5 +1,5 @@
 -- The bytes of a file in pages: each stores its first bytes, and those that it does not store are zeros.
-use Rattle.std.specs.Prelude.{◌≡◌, ℕ, ◌+◌, ◌<◌, ◌≤◌, ◌/◌, ◌%◌, List, [], ◌++◌, get_or, length, take, drop, map}
+use Rattle.std.specs.Prelude.{◌≡◌, ℕ, ◌+◌, ◌<◌, ◌≤◌, ◌/◌, ◌%◌, List, [], ◌++◌, get_or, length, set, take, drop, map}
 use Rattle.std.specs.List.{range_with_len}
 
 -- the bytes of a page from this place on are these
@@ -48,3 +48,10 @@ pub record AreWritten (now before : List (List ℕ)) (start : ℕ) (bytes : List
 pub record AreCut (now before : List (List ℕ)) (size : ℕ) : Type 0 where
   pub in_front : (i : ℕ) → i < size → byte_at now i ≡ byte_at before i
   pub behind : IsZeroFrom now size
+
+-- pages in which another stands at this place: it has the same bytes, and stores as many at least
+pub record IsGrown (now before : List (List ℕ)) (place : ℕ) : Type 0 where
+  pub page : List ℕ
+  pub is : now ≡ set before place page
+  pub same : (i : ℕ) → get_or page i 0 ≡ get_or (get_or before place []) i 0
+  pub kept : length (get_or before place []) ≤ length page

@@ -5,6 +5,7 @@ use Rattle.fa_tree.proofs.ContentsLemmas.{piece_same, piece_from}
 use Rattle.fa_tree.proofs.contents.are_from.Goals as goal
 
 pub returns-then-not-has : goal.returns-then-not-has
+unfolding page_at
 returns-then-not-has c =
     let told : IsTrue c.has.result ↔ IsPart (page_at c.args.pages.now (c.args.start + c.loop-done.done)) ((c.args.start + c.loop-done.done) % 4096) (take (c.loop-done.done + c.min-count.result - c.loop-done.done) (drop c.loop-done.done c.args.bytes.now)) = c.has.ensures in
     let fits : c.loop-done.done + c.min-count.result ≤ length c.args.bytes.now = omega arith in (
@@ -14,6 +15,7 @@ returns-then-not-has c =
     )
 
 pub loop-done-preserved : goal.loop-done-preserved
+unfolding page_at
 loop-done-preserved c =
     let told : IsTrue c.has.result ↔ IsPart (page_at c.args.pages.now (c.args.start + c.loop-done.done)) ((c.args.start + c.loop-done.done) % 4096) (take (c.loop-done.done + c.min-count.result - c.loop-done.done) (drop c.loop-done.done c.args.bytes.now)) = c.has.ensures in
     let fits : c.loop-done.done + c.min-count.result ≤ length c.args.bytes.now = omega arith in

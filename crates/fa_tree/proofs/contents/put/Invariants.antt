@@ -5,8 +5,8 @@ use Rattle.fa_tree.proofs.contents.put.Given as goal
 abbrev pub invariant-loop-done : goal.invariant-loop-done
 invariant-loop-done l = record {
   within : l.done ≤ length l.bytes;
-  stored : IsStored l.pages.items l.start (l.start + length l.bytes);
-  written : AreWritten l.pages.items l.fn.pages.items l.start l.bytes l.done;
+  stored : IsStored l.pages l.start (l.start + length l.bytes);
+  written : AreWritten l.pages l.fn.pages l.start l.bytes l.done;
 }
 
 abbrev pub decreases-loop-done : goal.decreases-loop-done

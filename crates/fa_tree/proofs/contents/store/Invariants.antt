@@ -4,9 +4,9 @@ use Rattle.fa_tree.proofs.contents.store.Given as goal
 
 abbrev pub invariant-loop-at : goal.invariant-loop-at
 invariant-loop-at l = record {
-  added : l.end / 4096 + min 1 (l.end % 4096) ≤ length l.pages.items;
-  same : SameBytes l.pages.items l.fn.pages.items;
-  stored : IsStored l.pages.items l.start l.at;
+  added : l.end / 4096 + min 1 (l.end % 4096) ≤ length l.pages;
+  same : SameBytes l.pages l.fn.pages;
+  stored : IsStored l.pages l.start l.at;
 }
 
 abbrev pub decreases-loop-at : goal.decreases-loop-at

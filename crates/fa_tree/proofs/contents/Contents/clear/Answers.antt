@@ -5,4 +5,4 @@ pub invariant_of-self : goal.invariant_of-self
 invariant_of-self c = c.cut.ensures.behind
 
 pub returns : goal.returns
-returns c = bytes_none c.cut.new.pages.items
+returns c = bytes_none c.cut.new.pages

@@ -5,13 +5,13 @@ use Rattle.fa_tree.proofs.contents.Contents.is.Goals as goal
 
 pub returns-then-bytes-self : goal.returns-then-bytes-self
 returns-then-bytes-self c =
-    let told = all_are c.self.inside.pages.items c.self.inside.len c.args.bytes.now in
-    let from = rw c.deref.ensures.value at c.are_from.ensures in
+    let told = all_are c.self.inside.pages c.self.inside.len c.args.bytes.now in
+    let from = c.are_from.ensures in
     rw (sym c.self.view_is) ((λ yes. told.0 (c.if-bytes-self.true, from.0 yes)), (λ same. from.1 (told.1 same).1))
 
 pub returns-else-bytes-self : goal.returns-else-bytes-self
 returns-else-bytes-self c =
-    let told = all_are c.self.inside.pages.items c.self.inside.len c.args.bytes.now in
+    let told = all_are c.self.inside.pages c.self.inside.len c.args.bytes.now in
     rw (sym c.self.view_is) (
       (λ yes. absurd (c.if-bytes-self.false ((Decides-eqb (length c.args.bytes.now) c.self.inside.len).0 yes))),
       (λ same. absurd (c.if-bytes-self.false (told.1 same).0)),

@@ -2,7 +2,7 @@ use Rattle.fa_tree.proofs.ContentsLemmas.{byte_none, bytes_none}
 use Rattle.fa_tree.proofs.contents.Contents.new.Goals as goal
 
 pub invariant_of-result : goal.invariant_of-result
-invariant_of-result c i behind = byte_none c.new.result.items c.new.ensures.items i
+invariant_of-result c i behind = byte_none c.new.result c.new.ensures i
 
 pub returns : goal.returns
-returns c = bytes_none c.new.result.items
+returns c = bytes_none c.new.result
