@@ -16,6 +16,7 @@ use Rattle.fa_tree.specs.State.{place_cmp, file_eq}
 use Rattle.fa_tree.specs.declared.slots.Place.{Place}
 use Rattle.fa_tree.specs.declared.slots.Slot.{Slot}
 use Rattle.fa_tree.specs.declared.holders.Holder.{Holder}
+use Rattle.fa_tree.specs.declared.holders.Holders.{Holders}
 use Rattle.fa_tree.specs.parts.FileIdLaws.{file_equiv, file_self, file_tested, same_file}
 use Rattle.fa_tree.specs.parts.PlaceLaws.{place_cmp_total, places_apart, same_place}
 use Rattle.fa_tree.specs.parts.SlotParts.{place_of, file_in, put_or_not, names_shown}
@@ -192,14 +193,46 @@ module _ {A : Type 0} (old new : FileId → Holder) (at : FileId) (w : Holder) (
       by true test = same ∙ sym (ap (λ f. part (old f)) (same_file of at test))
       by false test = refl
 
+-- an entry is written
+module _ (old new : Holders) (at : FileId) (w : Holder) (wrote : (of : FileId) → entry_of new of ≡ cond (file_eq of at) (Some w) (entry_of old of)) where
+  pub held_written : (change : Holder → Holder) → w ≡ change (held old at) → (of : FileId) → held new of ≡ cond (file_eq of at) (change (held old at)) (held old of)
+  held_written change is of = ap (λ entry. unwrap_or entry no_holder) (wrote of) ∙ by (file_eq of at)
+    where
+      by : (b : Bool) → unwrap_or (cond b (Some w) (entry_of old of)) no_holder ≡ cond b (change (held old at)) (held old of)
+      by true = is
+      by false = refl
+
+  pub known_written : (of : FileId) → IsKnown old of → IsKnown new of
+  known_written of known = ap is_some (wrote of) ∙ by (file_eq of at)
+    where
+      by : (b : Bool) → is_some (cond b (Some w) (entry_of old of)) ≡ true
+      by true = refl
+      by false = known
+
+-- an entry comes, of which nothing is counted
+module _ (old new : Holders) (at : FileId) (none : entry_of old at ≡ None) (wrote : (of : FileId) → entry_of new of ≡ cond (file_eq of at) (Some no_holder) (entry_of old of)) where
+  pub held_made : (of : FileId) → held new of ≡ held old of
+  held_made of = ap (λ entry. unwrap_or entry no_holder) (wrote of) ∙ by (file_eq of at) refl
+    where
+      by : (b : Bool) → file_eq of at ≡ b → unwrap_or (cond b (Some no_holder) (entry_of old of)) no_holder ≡ held old of
+      by true test = sym (ap (λ f. held old f) (same_file of at test) ∙ ap (λ entry. unwrap_or entry no_holder) none)
+      by false test = refl
+
+  pub known_made : IsKnown new at
+  known_made = ap is_some (wrote at ∙ ap (λ b. cond b (Some no_holder) (entry_of old at)) (file_self at))
+
+-- what an entry holds is what is counted
+pub held_there : (holders : Holders) (file : FileId) (holder : Holder) → Some holder ≡ entry_of holders file → holder ≡ held holders file
+held_there holders file holder there = ap (λ entry. unwrap_or entry no_holder) there
+
 -- ---- names are counted
 
 -- nothing is counted where there is no name
-pub none_counted : AreCounted (names_shown []) (held [])
-none_counted = record {
-  links = λ file. sym (none (λ entry. file_eq entry.1 file));
-  inside = λ directory. sym (none (λ entry. file_eq entry.0.0 directory));
-  parent = λ file directory is. absurd (let clash : None ≡ Some directory = is in cc);
+pub none_counted : (holder : FileId → Holder) → ((file : FileId) → holder file ≡ no_holder) → AreCounted (names_shown []) holder
+none_counted holder zeros = record {
+  links = λ file. ap (λ h. h.links) (zeros file) ∙ sym (none (λ entry. file_eq entry.1 file));
+  inside = λ directory. ap (λ h. h.inside) (zeros directory) ∙ sym (none (λ entry. file_eq entry.0.0 directory));
+  parent = λ file directory is. absurd (let clash : None ≡ Some directory = sym (ap (λ h. h.parent) (zeros file)) ∙ is in cc);
 }
   where
     no_entry : (p : state.Place × FileId → Bool) (es : List (state.Place × FileId)) → length es ≡ 0 → count_by p es ≡ 0
@@ -369,15 +402,15 @@ module _ (names : FinMap place_cmp FileId) (holder : FileId → Holder) (counted
       omega (arith, few, is, all)
 
 -- what is counted of a file has an entry
-pub known_links : (table : List (FileId × Holder)) (file : FileId) → 0 < (held table file).links → IsKnown table file
-known_links table file some = by (entry_of table file) some
+pub known_links : (holders : Holders) (file : FileId) → 0 < (held holders file).links → IsKnown holders file
+known_links holders file some = by (entry_of holders file) some
   where
     by : (entry : Option Holder) → 0 < (unwrap_or entry no_holder).links → is_some entry ≡ true
     by None some = absurd (omega arith)
     by (Some holder) some = refl
 
-pub known_inside : (table : List (FileId × Holder)) (file : FileId) → 0 < (held table file).inside → IsKnown table file
-known_inside table file some = by (entry_of table file) some
+pub known_inside : (holders : Holders) (file : FileId) → 0 < (held holders file).inside → IsKnown holders file
+known_inside holders file some = by (entry_of holders file) some
   where
     by : (entry : Option Holder) → 0 < (unwrap_or entry no_holder).inside → is_some entry ≡ true
     by None some = absurd (omega arith)

@@ -4,6 +4,7 @@ pub mod ChangeLemmas
 pub mod ChangedLemmas
 pub mod ContentsLemmas
 pub mod EditedLemmas
+pub mod EntryLemmas
 pub mod ExchangeLemmas
 pub mod FileLemmas
 pub mod HolderLemmas

@@ -1,12 +1,14 @@
 //! What is counted of each file, so that it need not be looked for among all names: how many names it has, how many are in
 //! it, and a directory that has a name for it.
 
-ghost use Rattle.std.specs.Prelude.{◌≡◌, ◌<◌, ◌^◌, cond, [], ℕ, List, Option, Some, None, OnOk};
+ghost use Rattle.std.specs.Prelude.{◌≡◌, ◌<◌, ◌^◌, cond, ℕ, List, Option, Some, None, is_some, OnOk};
+ghost use Rattle.std.specs.Borrow.{sem};
+ghost use Rattle.std.specs.Option.{option_copied_mut};
 ghost use Rattle.std.specs.FinMap as map;
 ghost use Rattle.std.specs.FinMap.{FinMap};
 ghost use Rattle.fa_tree.specs.declared.id.FileId.{FileId};
 ghost use Rattle.fa_tree.specs.State.{place_cmp, file_eq};
-ghost use Rattle.fa_tree.specs.parts.HolderParts.{one_link_more, one_link_less, one_inside_more, one_inside_less, of_parent, held, IsKnown, AreCounted, IsCountedAt};
+ghost use Rattle.fa_tree.specs.parts.HolderParts.{index_of, tabled, entry_of, LendsHolder, one_link_more, one_link_less, one_inside_more, one_inside_less, of_parent, held, IsKnown, AreCounted, IsCountedAt};
 
 use crate::id::FileId;
 use indexmap::IndexMap;
@@ -23,9 +25,31 @@ pub(crate) struct Holder {
     pub parent: Option<FileId>,
 }
 
+/// What is counted of a file that never had a name, nor one in it.
+const NOTHING: Holder = Holder {
+    links: 0,
+    inside: 0,
+    parent: None,
+};
+
+/// Where a file stands in the list, if the list comes that far. No two files stand at one place.
+fn index_of(file: FileId) -> Option<usize>
+    ensures { result ≡ index_of file }
+{
+    match file {
+        FileId::Root => Some(0),
+        FileId::Added(n) => { if n == 0 { None } else { Some(n) } }
+        FileId::Made(_) => None,
+    }
+}
+
 /// What is counted of each file that a name was put for, or put into. Of any other nothing is.
 #[derive(Drop)]
 pub(crate) struct Holders {
+    /// The root, and behind it the files that were put in by name, as they come: the n-th at this index. Only so many of these as
+    /// came in turn.
+    pub list: Vec<Holder>,
+    /// All others.
     pub table: IndexMap<FileId, Holder>,
 }
 
@@ -34,9 +58,10 @@ impl Holders {
     ///
     /// Takes no memory, in constant time.
     pub fn new(alloc: Global) -> Self
-        ensures { result.table.entries ≡ [] }
+        ensures { (file : FileId) → entry_of result file ≡ None }
     {
         Holders {
+            list: Vec::new(alloc),
             table: IndexMap::new(alloc),
         }
     }
@@ -45,15 +70,60 @@ impl Holders {
     ///
     /// Takes no memory, in expected constant time.
     pub fn get(&self, file: FileId) -> Holder
-        ensures { result ≡ held self.now.table.entries file }
+        ensures { result ≡ held self.now file }
     {
-        match self.table.get(&file) {
-            Some(holder) => *holder,
-            None => Holder {
-                links: 0,
-                inside: 0,
-                parent: None,
-            },
+        self.entry(file).unwrap_or(NOTHING)
+    }
+
+    /// The entry of a file, if it has one.
+    ///
+    /// Takes no memory, in expected constant time.
+    fn entry(&self, file: FileId) -> Option<Holder>
+        ensures { result ≡ entry_of self.now file }
+    {
+        if let Some(index) = index_of(file) {
+            if index < self.list.len() {
+                return Some(self.list[index]);
+            }
+        }
+        self.tabled(file)
+    }
+
+    /// Whether a file has an entry.
+    ///
+    /// Takes no memory, in expected constant time.
+    fn has(&self, file: FileId) -> bool
+        ensures { result ≡ is_some (entry_of self.now file) }
+    {
+        match index_of(file) {
+            Some(index) if index < self.list.len() => true,
+            _ => self.tabled(file).is_some(),
+        }
+    }
+
+    /// The entry of a file in the table, if it has one there. In an empty one, as there is while a tree text is read, it is not
+    /// looked for.
+    ///
+    /// Takes no memory, in expected constant time.
+    fn tabled(&self, file: FileId) -> Option<Holder>
+        ensures { result ≡ tabled self.now.table.entries file }
+    {
+        if self.table.is_empty() {
+            return None;
+        }
+        self.table.get(&file).copied()
+    }
+
+    /// The entry of a file, if it has one, which can be written.
+    ///
+    /// Takes no memory, in expected constant time.
+    fn entry_mut(&mut self, file: FileId) -> Option<&mut Holder>
+        ensures* writes_back { sem 𝓛 (LendsHolder self.entry file result) }
+        ensures value { option_copied_mut result ≡ entry_of self.old file }
+    {
+        match index_of(file) {
+            Some(index) if index < self.list.len() => self.list.get_mut(index),
+            _ => self.table.get_mut(&file),
         }
     }
 
@@ -62,17 +132,20 @@ impl Holders {
     ///
     /// Expected constant time but for growing.
     pub fn make_room(&mut self, file: FileId) -> Result<(), AllocError>
-        ensures same { (of : FileId) → held self.new.table.entries of ≡ held self.old.table.entries of }
-        ensures kept { (of : FileId) → IsKnown self.old.table.entries of → IsKnown self.new.table.entries of }
-        ensures known { OnOk result (IsKnown self.new.table.entries file) }
+        ensures same { (of : FileId) → held self.new of ≡ held self.old of }
+        ensures kept { (of : FileId) → IsKnown self.old of → IsKnown self.new of }
+        ensures known { OnOk result (IsKnown self.new file) }
     {
-        if !self.table.contains_key(&file) {
-            let holder = Holder {
-                links: 0,
-                inside: 0,
-                parent: None,
-            };
-            self.table.insert(file, holder)?;
+        if self.has(file) {
+            return Ok(());
+        }
+        match index_of(file) {
+            Some(index) if index == self.list.len() => {
+                self.list.push(NOTHING)?;
+            }
+            _ => {
+                self.table.insert(file, NOTHING)?;
+            }
         }
         Ok(())
     }
@@ -81,12 +154,12 @@ impl Holders {
     ///
     /// Takes no memory, in expected constant time.
     fn add_link(&mut self, file: FileId, directory: FileId)
-        requires known { IsKnown self.old.table.entries file }
-        requires few { (held self.old.table.entries file).links < 2 ^ 63 }
-        ensures held { (of : FileId) → held self.new.table.entries of ≡ cond (file_eq of file) (one_link_more directory (held self.old.table.entries file)) (held self.old.table.entries of) }
-        ensures kept { (of : FileId) → IsKnown self.old.table.entries of → IsKnown self.new.table.entries of }
+        requires known { IsKnown self.old file }
+        requires few { (held self.old file).links < 2 ^ 63 }
+        ensures held { (of : FileId) → held self.new of ≡ cond (file_eq of file) (one_link_more directory (held self.old file)) (held self.old of) }
+        ensures kept { (of : FileId) → IsKnown self.old of → IsKnown self.new of }
     {
-        match self.table.get_mut(&file) {
+        match self.entry_mut(file) {
             Some(holder) => {
                 holder.links += 1;
                 holder.parent = Some(directory);
@@ -99,11 +172,11 @@ impl Holders {
     ///
     /// Takes no memory, in expected constant time.
     fn remove_link(&mut self, file: FileId)
-        requires { 0 < (held self.old.table.entries file).links }
-        ensures held { (of : FileId) → held self.new.table.entries of ≡ cond (file_eq of file) (one_link_less (held self.old.table.entries file)) (held self.old.table.entries of) }
-        ensures kept { (of : FileId) → IsKnown self.old.table.entries of → IsKnown self.new.table.entries of }
+        requires { 0 < (held self.old file).links }
+        ensures held { (of : FileId) → held self.new of ≡ cond (file_eq of file) (one_link_less (held self.old file)) (held self.old of) }
+        ensures kept { (of : FileId) → IsKnown self.old of → IsKnown self.new of }
     {
-        match self.table.get_mut(&file) {
+        match self.entry_mut(file) {
             Some(holder) => {
                 holder.links -= 1;
                 holder.parent = None;
@@ -116,12 +189,12 @@ impl Holders {
     ///
     /// Takes no memory, in expected constant time.
     fn add_inside(&mut self, directory: FileId)
-        requires known { IsKnown self.old.table.entries directory }
-        requires few { (held self.old.table.entries directory).inside < 2 ^ 63 }
-        ensures held { (of : FileId) → held self.new.table.entries of ≡ cond (file_eq of directory) (one_inside_more (held self.old.table.entries directory)) (held self.old.table.entries of) }
-        ensures kept { (of : FileId) → IsKnown self.old.table.entries of → IsKnown self.new.table.entries of }
+        requires known { IsKnown self.old directory }
+        requires few { (held self.old directory).inside < 2 ^ 63 }
+        ensures held { (of : FileId) → held self.new of ≡ cond (file_eq of directory) (one_inside_more (held self.old directory)) (held self.old of) }
+        ensures kept { (of : FileId) → IsKnown self.old of → IsKnown self.new of }
     {
-        match self.table.get_mut(&directory) {
+        match self.entry_mut(directory) {
             Some(holder) => holder.inside += 1,
             None => {}
         }
@@ -131,11 +204,11 @@ impl Holders {
     ///
     /// Takes no memory, in expected constant time.
     fn remove_inside(&mut self, directory: FileId)
-        requires { 0 < (held self.old.table.entries directory).inside }
-        ensures held { (of : FileId) → held self.new.table.entries of ≡ cond (file_eq of directory) (one_inside_less (held self.old.table.entries directory)) (held self.old.table.entries of) }
-        ensures kept { (of : FileId) → IsKnown self.old.table.entries of → IsKnown self.new.table.entries of }
+        requires { 0 < (held self.old directory).inside }
+        ensures held { (of : FileId) → held self.new of ≡ cond (file_eq of directory) (one_inside_less (held self.old directory)) (held self.old of) }
+        ensures kept { (of : FileId) → IsKnown self.old of → IsKnown self.new of }
     {
-        match self.table.get_mut(&directory) {
+        match self.entry_mut(directory) {
             Some(holder) => holder.inside -= 1,
             None => {}
         }
@@ -145,11 +218,11 @@ impl Holders {
     ///
     /// Takes no memory, in expected constant time.
     fn set_parent(&mut self, file: FileId, directory: FileId)
-        requires { IsKnown self.old.table.entries file }
-        ensures held { (of : FileId) → held self.new.table.entries of ≡ cond (file_eq of file) (of_parent directory (held self.old.table.entries file)) (held self.old.table.entries of) }
-        ensures kept { (of : FileId) → IsKnown self.old.table.entries of → IsKnown self.new.table.entries of }
+        requires { IsKnown self.old file }
+        ensures held { (of : FileId) → held self.new of ≡ cond (file_eq of file) (of_parent directory (held self.old file)) (held self.old of) }
+        ensures kept { (of : FileId) → IsKnown self.old of → IsKnown self.new of }
     {
-        match self.table.get_mut(&file) {
+        match self.entry_mut(file) {
             Some(holder) => holder.parent = Some(directory),
             None => {}
         }
@@ -159,11 +232,11 @@ impl Holders {
     ///
     /// Takes no memory, in expected constant time.
     fn add(&mut self, directory: FileId, file: FileId)
-        requires directory { IsKnown self.old.table.entries directory }
-        requires file { IsKnown self.old.table.entries file }
-        requires counted { (at : IsCountedAt (held self.old.table.entries) directory None) × (map.len at.names < 2 ^ 63) }
-        ensures counted { (names : FinMap place_cmp FileId) (name : List ℕ) → map.get names (directory, name) ≡ None → AreCounted names (held self.old.table.entries) → AreCounted (map.insert names (directory, name) file) (held self.new.table.entries) }
-        ensures kept { (of : FileId) → IsKnown self.old.table.entries of → IsKnown self.new.table.entries of }
+        requires directory { IsKnown self.old directory }
+        requires file { IsKnown self.old file }
+        requires counted { (at : IsCountedAt (held self.old) directory None) × (map.len at.names < 2 ^ 63) }
+        ensures counted { (names : FinMap place_cmp FileId) (name : List ℕ) → map.get names (directory, name) ≡ None → AreCounted names (held self.old) → AreCounted (map.insert names (directory, name) file) (held self.new) }
+        ensures kept { (of : FileId) → IsKnown self.old of → IsKnown self.new of }
     {
         self.add_link(file, directory);
         self.add_inside(directory);
@@ -173,9 +246,9 @@ impl Holders {
     ///
     /// Takes no memory, in expected constant time.
     pub fn remove(&mut self, directory: FileId, file: FileId)
-        requires { IsCountedAt (held self.old.table.entries) directory (Some file) }
-        ensures counted { (names : FinMap place_cmp FileId) (name : List ℕ) → map.get names (directory, name) ≡ Some file → AreCounted names (held self.old.table.entries) → AreCounted (map.remove names (directory, name)) (held self.new.table.entries) }
-        ensures kept { (of : FileId) → IsKnown self.old.table.entries of → IsKnown self.new.table.entries of }
+        requires { IsCountedAt (held self.old) directory (Some file) }
+        ensures counted { (names : FinMap place_cmp FileId) (name : List ℕ) → map.get names (directory, name) ≡ Some file → AreCounted names (held self.old) → AreCounted (map.remove names (directory, name)) (held self.new) }
+        ensures kept { (of : FileId) → IsKnown self.old of → IsKnown self.new of }
     {
         self.remove_link(file);
         self.remove_inside(directory);
@@ -185,11 +258,11 @@ impl Holders {
     ///
     /// Takes no memory, in expected constant time.
     pub fn put(&mut self, directory: FileId, old: Option<FileId>, file: FileId)
-        requires directory { IsKnown self.old.table.entries directory }
-        requires file { IsKnown self.old.table.entries file }
-        requires counted { (at : IsCountedAt (held self.old.table.entries) directory old) × (map.len at.names < 2 ^ 63) }
-        ensures counted { (names : FinMap place_cmp FileId) (name : List ℕ) → map.get names (directory, name) ≡ old → AreCounted names (held self.old.table.entries) → AreCounted (map.insert (map.remove names (directory, name)) (directory, name) file) (held self.new.table.entries) }
-        ensures kept { (of : FileId) → IsKnown self.old.table.entries of → IsKnown self.new.table.entries of }
+        requires directory { IsKnown self.old directory }
+        requires file { IsKnown self.old file }
+        requires counted { (at : IsCountedAt (held self.old) directory old) × (map.len at.names < 2 ^ 63) }
+        ensures counted { (names : FinMap place_cmp FileId) (name : List ℕ) → map.get names (directory, name) ≡ old → AreCounted names (held self.old) → AreCounted (map.insert (map.remove names (directory, name)) (directory, name) file) (held self.new) }
+        ensures kept { (of : FileId) → IsKnown self.old of → IsKnown self.new of }
     {
         if let Some(old) = old {
             self.remove(directory, old);
@@ -201,8 +274,8 @@ impl Holders {
     ///
     /// Takes no memory, in expected constant time.
     pub fn note_parent(&mut self, directory: FileId, file: FileId)
-        requires { IsCountedAt (held self.old.table.entries) directory (Some file) }
-        ensures { (names : FinMap place_cmp FileId) (name : List ℕ) → map.get names (directory, name) ≡ Some file → AreCounted names (held self.old.table.entries) → AreCounted names (held self.new.table.entries) }
+        requires { IsCountedAt (held self.old) directory (Some file) }
+        ensures { (names : FinMap place_cmp FileId) (name : List ℕ) → map.get names (directory, name) ≡ Some file → AreCounted names (held self.old) → AreCounted names (held self.new) }
     {
         self.set_parent(file, directory);
     }

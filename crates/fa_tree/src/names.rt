@@ -47,7 +47,7 @@ impl Model for Names {
 
     ghost view = { λ n. shown n.slots.table.entries n.openings };
 
-    ghost invariant = { λ n. AreStampsWithin (length n.openings) n.slots.table.entries × AreCounted (names_shown n.slots.table.entries) (held n.holders.table.entries) };
+    ghost invariant = { λ n. AreStampsWithin (length n.openings) n.slots.table.entries × AreCounted (names_shown n.slots.table.entries) (held n.holders) };
 }
 
 impl Names {

@@ -5,10 +5,10 @@ use Rattle.fa_tree.proofs.holders.Holders.note_parent.Goals as goal
 
 pub set_parent-requires : goal.set_parent-requires
 set_parent-requires c =
-    known_links c.args.self.now.table.entries c.args.file
-    (some_links c.requires.names (held c.args.self.now.table.entries) c.requires.counted (c.args.directory, c.requires.name) c.args.file c.requires.at)
+    known_links c.args.self.now c.args.file
+    (some_links c.requires.names (held c.args.self.now) c.requires.counted (c.args.directory, c.requires.name) c.args.file c.requires.at)
 
 pub returns : goal.returns
 returns c = λ names name there.
-    noted_counted (held c.args.self.now.table.entries) (held c.set_parent.new.self.table.entries) c.args.directory c.args.file _ c.set_parent.ensures.held
+    noted_counted (held c.args.self.now) (held c.set_parent.new.self) c.args.directory c.args.file _ c.set_parent.ensures.held
     refl refl refl names name there

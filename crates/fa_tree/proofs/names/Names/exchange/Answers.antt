@@ -22,21 +22,21 @@ is_one false is = absurd cc
 pub put-requires-clause-directory : goal.put-requires-clause-directory
 put-requires-clause-directory c =
     let names = names_shown c.self.inside.slots.table.entries in
-    let holder = held c.self.inside.holders.table.entries in
+    let holder = held c.self.inside.holders in
     let there = ap (λ n. get n.names (c.args.old_directory, c.args.old_name.now)) c.self.view_is ∙ c.requires.there in
-    known_inside c.self.inside.holders.table.entries c.args.old_directory (some_inside names holder c.self.invariant.1 (c.args.old_directory, c.args.old_name.now) c.args.file there)
+    known_inside c.self.inside.holders c.args.old_directory (some_inside names holder c.self.invariant.1 (c.args.old_directory, c.args.old_name.now) c.args.file there)
 
 pub put-requires-clause-file : goal.put-requires-clause-file
 put-requires-clause-file c =
     let names = names_shown c.self.inside.slots.table.entries in
-    let holder = held c.self.inside.holders.table.entries in
+    let holder = held c.self.inside.holders in
     let also = ap (λ n. get n.names (c.args.new_directory, c.args.new_name.now)) c.self.view_is ∙ c.requires.also in
-    known_links c.self.inside.holders.table.entries c.args.other (some_links names holder c.self.invariant.1 (c.args.new_directory, c.args.new_name.now) c.args.other also)
+    known_links c.self.inside.holders c.args.other (some_links names holder c.self.invariant.1 (c.args.new_directory, c.args.new_name.now) c.args.other also)
 
 pub put-requires-clause-counted : goal.put-requires-clause-counted
 put-requires-clause-counted c =
     let names = names_shown c.self.inside.slots.table.entries in
-    let holder = held c.self.inside.holders.table.entries in
+    let holder = held c.self.inside.holders in
     let there = ap (λ n. get n.names (c.args.old_directory, c.args.old_name.now)) c.self.view_is ∙ c.requires.there in
     let few = names_few c.self.inside.slots.table.entries in
     (record { names = names; name = c.args.old_name.now; at = there; counted = c.self.invariant.1 }, omega (arith, few, c.len.ensures.len, c.len.ensures.small))
@@ -44,16 +44,16 @@ put-requires-clause-counted c =
 pub put-requires-then-ne-clause-directory : goal.put-requires-then-ne-clause-directory
 put-requires-then-ne-clause-directory c =
     let names = names_shown c.self.inside.slots.table.entries in
-    let holder = held c.self.inside.holders.table.entries in
+    let holder = held c.self.inside.holders in
     let also = ap (λ n. get n.names (c.args.new_directory, c.args.new_name.now)) c.self.view_is ∙ c.requires.also in
-    c.put.ensures.kept c.args.new_directory (known_inside c.self.inside.holders.table.entries c.args.new_directory (some_inside names holder c.self.invariant.1 (c.args.new_directory, c.args.new_name.now) c.args.other also))
+    c.put.ensures.kept c.args.new_directory (known_inside c.self.inside.holders c.args.new_directory (some_inside names holder c.self.invariant.1 (c.args.new_directory, c.args.new_name.now) c.args.other also))
 
 pub put-requires-then-ne-clause-file : goal.put-requires-then-ne-clause-file
 put-requires-then-ne-clause-file c =
     let names = names_shown c.self.inside.slots.table.entries in
-    let holder = held c.self.inside.holders.table.entries in
+    let holder = held c.self.inside.holders in
     let there = ap (λ n. get n.names (c.args.old_directory, c.args.old_name.now)) c.self.view_is ∙ c.requires.there in
-    c.put.ensures.kept c.args.file (known_links c.self.inside.holders.table.entries c.args.file (some_links names holder c.self.invariant.1 (c.args.old_directory, c.args.old_name.now) c.args.file there))
+    c.put.ensures.kept c.args.file (known_links c.self.inside.holders c.args.file (some_links names holder c.self.invariant.1 (c.args.old_directory, c.args.old_name.now) c.args.file there))
 
 pub put-requires-then-ne-clause-counted : goal.put-requires-then-ne-clause-counted
 put-requires-then-ne-clause-counted c =
@@ -94,7 +94,7 @@ invariant_of-self c =
     let between = after_put names (c.args.old_directory, c.args.old_name.now) c.args.other in (
       within_exchanged c.self.inside.slots.table.entries c.replace.new.self.table.entries c.replace-then-ne.new.self.table.entries c.args.old_directory c.args.old_name.now c.args.new_directory c.args.new_name.now c.args.file c.args.other c.len-born.result
           there also c.replace.ensures c.replace-then-ne.ensures _ c.len-born.ensures c.self.invariant.0,
-      subst (λ names. AreCounted names (held c.note_parent.new.self.table.entries))
+      subst (λ names. AreCounted names (held c.note_parent.new.self))
           (sym (names_exchanged c.self.inside.slots.table.entries c.replace.new.self.table.entries c.replace-then-ne.new.self.table.entries c.args.old_directory c.args.old_name.now c.args.new_directory c.args.new_name.now c.args.file c.args.other c.len-born.result
           there also c.replace.ensures c.replace-then-ne.ensures))
           (c.note_parent.ensures (after_put between (c.args.new_directory, c.args.new_name.now) c.args.file) c.args.old_name.now (one_there names (c.args.old_directory, c.args.old_name.now) (c.args.new_directory, c.args.new_name.now) c.args.file c.args.other there also)

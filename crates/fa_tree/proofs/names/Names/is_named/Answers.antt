@@ -5,6 +5,6 @@ use Rattle.fa_tree.proofs.names.Names.is_named.Goals as goal
 
 pub returns : goal.returns
 returns c =
-    let holder = held c.self.inside.holders.table.entries in
+    let holder = held c.self.inside.holders in
     tells_named c.args.self.now.names holder (subst (λ n. AreCounted n.names holder) c.self.view_is c.self.invariant.1) c.get.result.links c.args.file
     (ap (λ h. h.links) c.get.ensures)

@@ -1,5 +1,8 @@
+use Rattle.std.proofs.Common.{ap}
+use Rattle.std.specs.Option.{unwrap_or}
+use Rattle.fa_tree.specs.parts.HolderParts.{no_holder, held}
 use Rattle.fa_tree.proofs.HolderLemmas.{none_counted}
 use Rattle.fa_tree.proofs.names.Names.new.Goals as goal
 
 pub invariant_of-result : goal.invariant_of-result
-invariant_of-result c = rw (c.new.ensures, c.new-3.ensures) (λ place. tt, none_counted)
+invariant_of-result c = rw (c.new.ensures) (λ place. tt, none_counted (held c.new-3.result) (λ file. ap (λ entry. unwrap_or entry no_holder) (c.new-3.ensures file)))

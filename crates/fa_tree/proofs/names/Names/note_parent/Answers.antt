@@ -4,7 +4,7 @@ use Rattle.fa_tree.proofs.names.Names.note_parent.Goals as goal
 
 pub note_parent-requires : goal.note_parent-requires
 note_parent-requires c =
-    let holder = held c.self.inside.holders.table.entries in
+    let holder = held c.self.inside.holders in
     record {
       names = c.args.self.now.names;
       name = c.requires.0;

@@ -13,8 +13,8 @@ invariant_of-self-in_err-old c =
     let names = names_shown c.self.inside.slots.table.entries in
     rw (c.in_err-old.ensures.unchanged) (
       c.self.invariant.0,
-      same_counted names (held c.make_room.new.self.table.entries) (held c.make_room-2.new.self.table.entries) c.make_room-2.ensures.same
-          (same_counted names (held c.self.inside.holders.table.entries) (held c.make_room.new.self.table.entries) c.make_room.ensures.same c.self.invariant.1),
+      same_counted names (held c.make_room.new.self) (held c.make_room-2.new.self) c.make_room-2.ensures.same
+          (same_counted names (held c.self.inside.holders) (held c.make_room.new.self) c.make_room.ensures.same c.self.invariant.1),
     )
 
 pub put-requires-clause-counted : goal.put-requires-clause-counted
@@ -27,8 +27,8 @@ put-requires-clause-counted c =
         name = c.args.name.now;
         at = sym c.in_ok-old.ensures.file;
         counted =
-            same_counted names (held c.make_room.new.self.table.entries) (held c.make_room-2.new.self.table.entries) c.make_room-2.ensures.same
-            (same_counted names (held c.self.inside.holders.table.entries) (held c.make_room.new.self.table.entries) c.make_room.ensures.same c.self.invariant.1);
+            same_counted names (held c.make_room.new.self) (held c.make_room-2.new.self) c.make_room-2.ensures.same
+            (same_counted names (held c.self.inside.holders) (held c.make_room.new.self) c.make_room.ensures.same c.self.invariant.1);
       },
       omega (arith, few, c.len.ensures.len, c.len.ensures.small),
     )
@@ -39,10 +39,10 @@ invariant_of-self-2 c =
     let new = c.insert.new.self.table.entries in
     let names = names_shown old in (
       within_put _ old new (c.args.directory, c.args.name.now) c.args.file c.len-born.result c.len-born.ensures c.in_ok-old.ensures.put c.self.invariant.0,
-      subst (λ names. AreCounted names (held c.put.new.self.table.entries)) (sym (names_put old new c.args.directory c.args.name.now c.args.file c.len-born.result c.in_ok-old.ensures.put))
+      subst (λ names. AreCounted names (held c.put.new.self)) (sym (names_put old new c.args.directory c.args.name.now c.args.file c.len-born.result c.in_ok-old.ensures.put))
           (c.put.ensures.counted names c.args.name.now (sym c.in_ok-old.ensures.file)
-          (same_counted names (held c.make_room.new.self.table.entries) (held c.make_room-2.new.self.table.entries) c.make_room-2.ensures.same
-          (same_counted names (held c.self.inside.holders.table.entries) (held c.make_room.new.self.table.entries) c.make_room.ensures.same c.self.invariant.1))),
+          (same_counted names (held c.make_room.new.self) (held c.make_room-2.new.self) c.make_room-2.ensures.same
+          (same_counted names (held c.self.inside.holders) (held c.make_room.new.self) c.make_room.ensures.same c.self.invariant.1))),
     )
 
 pub returns-clause-put : goal.returns-clause-put

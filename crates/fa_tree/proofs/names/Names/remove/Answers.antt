@@ -21,7 +21,7 @@ invariant_of-self c =
     let old = c.self.inside.slots.table.entries in
     let new = c.remove-old.new.self.table.entries in (
       within_removed _ old new (c.args.directory, c.args.name.now) c.len-at.result c.len-at.ensures c.remove-old.ensures.gone c.self.invariant.0,
-      subst (λ names. AreCounted names (held c.remove.new.self.table.entries)) (sym (names_removed old new c.args.directory c.args.name.now c.len-at.result c.remove-old.ensures.gone))
+      subst (λ names. AreCounted names (held c.remove.new.self)) (sym (names_removed old new c.args.directory c.args.name.now c.len-at.result c.remove-old.ensures.gone))
           (c.remove.ensures.counted (names_shown old) c.args.name.now
           (sym c.remove-old.ensures.file ∙ c.in-Some.is) c.self.invariant.1),
     )
@@ -31,7 +31,7 @@ invariant_of-self-in_default c =
     let old = c.self.inside.slots.table.entries in
     let new = c.remove-old.new.self.table.entries in (
       within_removed _ old new (c.args.directory, c.args.name.now) c.len-at.result c.len-at.ensures c.remove-old.ensures.gone c.self.invariant.0,
-      subst (λ names. AreCounted names (held c.self.inside.holders.table.entries))
+      subst (λ names. AreCounted names (held c.self.inside.holders))
           (sym (names_removed old new c.args.directory c.args.name.now c.len-at.result c.remove-old.ensures.gone
           ∙ remove_none place_cmp_total places_apart (names_shown old) (c.args.directory, c.args.name.now)
           (sym c.remove-old.ensures.file ∙ c.in_default.is)))
