@@ -16,6 +16,7 @@ pub mod HolderParts
 pub mod OpenParts
 -- what was listed so far
 pub mod TallyParts
+pub mod KeptParts
 pub mod ReplayParts
 -- pages of the bytes of a file
 pub mod PageParts

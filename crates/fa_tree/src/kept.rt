@@ -4,6 +4,7 @@ ghost use Rattle.std.specs.Prelude.{◌≡◌, ◌⊎◌, ◌<◌, ◌≤◌, �
 ghost use Rattle.std.specs.Map.{lookup};
 ghost use Rattle.fa_tree.specs.declared.kept.ListedSoFar.{ListedSoFar as TheListed};
 ghost use Rattle.fa_tree.specs.declared.kept.TheConstants.{MAX_KEPT};
+ghost use Rattle.fa_tree.specs.parts.KeptParts.{AreAmong};
 
 use crate::tally::Tally;
 use indexmap::IndexMap;
@@ -22,8 +23,8 @@ pub(crate) struct ListedSoFar<'c> {
 
 /// For handles of directories, by the numbers of the requests that opened them, what was listed so far for a call on them.
 ///
-/// Which handles are closed no call tells. So it is kept for a few alone, those that were listed on last: no more listings take
-/// memory than at most so many.
+/// No call tells that a handle is closed, so what is kept for all of them would grow without end. It is kept for [`MAX_KEPT`]
+/// handles at most, those that were listed on last.
 #[derive(Drop)]
 pub(crate) struct Kept<'c> {
     /// What was kept earlier before what was kept later.
@@ -48,7 +49,7 @@ impl<'c> Kept<'c> {
     /// Takes no memory, in constant time.
     pub fn take(&mut self, handle: u32) -> Option<ListedSoFar<'c>>
         ensures taken { result ≡ lookup (nat_eq handle) self.old.by_handle.entries }
-        ensures left { (other : ℕ) (listed : TheListed) → lookup (nat_eq other) self.new.by_handle.entries ≡ Some listed → lookup (nat_eq other) self.old.by_handle.entries ≡ Some listed }
+        ensures left { AreAmong self.new.by_handle.entries self.old.by_handle.entries }
     {
         self.by_handle.shift_remove(&handle)
     }
@@ -69,7 +70,7 @@ impl<'c> Kept<'c> {
     /// Takes no memory, in constant time.
     fn make_room(&mut self)
         ensures room { length self.new.by_handle.entries < MAX_KEPT }
-        ensures left { (other : ℕ) (listed : TheListed) → lookup (nat_eq other) self.new.by_handle.entries ≡ Some listed → lookup (nat_eq other) self.old.by_handle.entries ≡ Some listed }
+        ensures left { AreAmong self.new.by_handle.entries self.old.by_handle.entries }
     {
         if self.by_handle.len() >= MAX_KEPT {
             self.by_handle.shift_remove_index(0);

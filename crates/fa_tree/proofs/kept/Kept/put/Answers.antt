@@ -1,4 +1,4 @@
-use Rattle.std.proofs.Common.{◌≡◌, ◌⊎◌, Some, inl, inr}
+use Rattle.std.proofs.Common.{inl, inr}
 use Rattle.fa_tree.proofs.ReplayLemmas.{put_or_there}
 use Rattle.fa_tree.proofs.kept.Kept.put.Goals as goal
 
