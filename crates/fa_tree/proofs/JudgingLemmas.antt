@@ -4,7 +4,7 @@ use Rattle.std.specs.Prelude.{replicate, ◌-◌, ◌≢◌, ◌↔◌, IsTrue, 
 use Rattle.std.specs.Option.{option_map_or}
 use Rattle.std.specs.Ordering.{is_eq}
 use Rattle.std.specs.declared.cmp.Ordering.TheVariants.{Less, Equal, Greater}
-use Rattle.std.specs.FinMap.{FinMap, get, insert, entries, find, put, get-insert, get-entries, entries-insert}
+use Rattle.std.specs.FinMap.{FinMap, get, insert, entries, find, put, get-entries, entries-insert}
 use Rattle.std.specs.FinMap.Entries.{by_order}
 use Rattle.std.proofs.lemmas.List.{length-take, length-append, length-replicate}
 use Rattle.std.proofs.lemmas.List.Sums.{sum_by-cons}
@@ -35,7 +35,6 @@ use Rattle.fa_tree.specs.parts.FileIdLaws.{file_self}
 use Rattle.fa_tree.specs.parts.FactParts.{size_set, AreOpenedFacts, AreFactsOf, AreFit, AreFactsIfAny, AreNewFacts, AreFurtherFacts, AreSetFacts, AreCreatedFacts, IsFoundOrMade, SpokenFit, FitIfAny}
 use Rattle.fa_tree.specs.parts.ShapeParts.{parent_in, parent_of}
 use Rattle.fa_tree.specs.parts.StoredParts.{StoredShown}
-use Rattle.fa_tree.proofs.PlaceOrderLemmas.{place_self}
 use Rattle.fa_tree.specs.parts.PlaceLaws.{place_cmp_total}
 use Rattle.fa_tree.proofs.StoredChangeLemmas.{with_there, with_none}
 use Rattle.fa_tree.proofs.WalkLemmas.{parent_is}

@@ -12,7 +12,7 @@ use Rattle.fa_ledger.specs.Operations.PlainAction.{Setattr, Symlink, Mknod, Mkdi
 use Rattle.fa_ledger.specs.Operations.PlainOperation.{Acts}
 use Rattle.fa_tree.specs.declared.id.FileId.{FileId}
 use Rattle.fa_tree.specs.declared.id.FileId.TheVariants as file_id
-use Rattle.fa_tree.specs.parts.FileIdLaws.{file_cmp_total, same_file, file_self, other_file}
+use Rattle.fa_tree.specs.parts.FileIdLaws.{file_cmp_total, same_file, other_file}
 use Rattle.fa_tree.specs.parts.StoredParts.{IsMadeOrNext}
 use Rattle.fa_tree.specs.State.{File, Store, IsFile, file_cmp, file_eq, Place, place_cmp, root, HasName, IsOfKind, IsDirectory, IsLinked, IsParent, IsBelow}
 use Rattle.fa_tree.specs.State.IsBelow.{child, further}

@@ -1,5 +1,4 @@
-use Rattle.std.proofs.Common.{◌≡◌, fold, ℕ, ◌+◌, ◌<◌, ◌≤◌, length, List, [], ◌∷◌, take, drop, refl, sym, ap, ◌∙◌, arith, rules}
-use Rattle.std.specs.Hash.{HashWrites}
+use Rattle.std.proofs.Common.{◌≡◌, fold, ℕ, ◌<◌, ◌≤◌, length, List, [], ◌∷◌, take, drop, refl, sym, ap, ◌∙◌, arith, rules}
 use Rattle.fa_tree.specs.parts.NameFed.{name_fed}
 use Rattle.fa_tree.proofs.name_hash.feed_name.Goals as goal
 

@@ -1,4 +1,4 @@
-use Rattle.std.proofs.Common.{Some, false, sym, ap, ◌∙◌}
+use Rattle.std.proofs.Common.{false, sym, ap, ◌∙◌}
 use Rattle.std.specs.Option.{option_map_or, option_and_then}
 use Rattle.fa_tree.specs.parts.NameViews.{was_since, has_stayed}
 use Rattle.fa_tree.proofs.NameLemmas.{contains-since_shown, get-stayed_shown}
