@@ -97,20 +97,30 @@ fn told_both(
     }
 }
 
-/// How many calls step on the large directory, in their order, and what the next one is told, if there is one. None where memory was
-/// refused, or where one is told otherwise along a replay than by itself.
-fn steps_along(alloc: Global, calls: &Calls<'_>) -> Option<(u32, Option<StepError>)> {
-    let mut along = large(alloc)?;
-    let mut alone = large(alloc)?;
+/// How many calls step, in their order, and what the next one is told, if there is one. None where one is told otherwise along a replay
+/// than by itself.
+fn steps_told(
+    alloc: Global,
+    along: &mut Tree,
+    alone: &mut Tree,
+    calls: &Calls<'_>,
+) -> Option<(u32, Option<StepError>)> {
     let mut replay = Replay::new(alloc, calls);
     let mut steps = 0u32;
     for call in &calls.list {
-        match told_both(&mut along, &mut alone, &mut replay, call.asked)? {
+        match told_both(along, alone, &mut replay, call.asked)? {
             Ok(()) => steps = steps.saturating_add(1),
             Err(error) => return Some((steps, Some(error))),
         }
     }
     Some((steps, None))
+}
+
+/// The same on the large directory. None also where memory was refused.
+fn steps_along(alloc: Global, calls: &Calls<'_>) -> Option<(u32, Option<StepError>)> {
+    let mut along = large(alloc)?;
+    let mut alone = large(alloc)?;
+    steps_told(alloc, &mut along, &mut alone, calls)
 }
 
 /// The same of the calls of a sample. None also where a message is refused.
@@ -252,14 +262,19 @@ fn told_alike(
     Some((steps, refused))
 }
 
-/// The same of the calls of a sample. None also where a message is refused, or memory was.
+/// The same on trees of these files. None also where memory was refused.
+fn told_alike_on(alloc: Global, files: &[Added], calls: &Calls<'_>) -> Option<(u32, u32)> {
+    let mut along = tree_of(alloc, files)?;
+    let mut alone = tree_of(alloc, files)?;
+    told_alike(alloc, &mut along, &mut alone, calls)
+}
+
+/// The same of the calls of a sample. None also where a message is refused.
 fn listed_alike(alloc: Global, files: &[Added], sample: Sample) -> Option<(u32, u32)> {
     let bytes = sample.capture().ok()?;
     let capture = read_capture(alloc, &bytes).ok()?;
     let calls = calls_of(alloc, &capture.packets)?;
-    let mut along = tree_of(alloc, files)?;
-    let mut alone = tree_of(alloc, files)?;
-    told_alike(alloc, &mut along, &mut alone, &calls)
+    told_alike_on(alloc, files, &calls)
 }
 
 /// The five files of the root as entries, in pieces, each with the offset that it is asked for at.
