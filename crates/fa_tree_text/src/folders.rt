@@ -9,7 +9,7 @@ ghost use Rattle.fa_tree.specs.State.{Store};
 ghost use Rattle.fa_tree_text.specs.parts.Ways.{Reaches, IsFileAt};
 ghost use Rattle.fa_tree_text.specs.parts.Folders.{IsFound, AreFound};
 
-use crate::paths::{decode_name, find_file, find_parent};
+use crate::paths::{decode_name, find_file};
 use fa_bodies::Kind;
 use fa_tree::{FileId, Tree};
 use std::alloc::AllocError;
@@ -50,6 +50,19 @@ fn directory_of(folder: Option<Folder<'_>>, path: &[u8]) -> Option<FileId>
         Some(folder.directory)
     } else {
         None
+    }
+}
+
+/// The root, to which a path of one name leads, if it is spelled as a name is. It is decoded into `name`.
+fn root_of(tree: &Tree, path: &[u8], name: &mut Vec<u8>) -> Result<Option<FileId>, AllocError>
+    requires { LacksByte 47 path.now }
+    ensures found { IfOk result (λ found. IfSome found (λ parent. Reaches tree.now.store state.root path.now parent name.new.items)) }
+    ensures none { IfOk result (λ found. IfNone found ((parent : FileId) (last : List ℕ) → Reaches tree.now.store state.root path.now parent last → ⊥)) }
+{
+    if decode_name(path, name)? {
+        Ok(Some(tree.root()))
+    } else {
+        Ok(None)
     }
 }
 
@@ -105,7 +118,7 @@ impl<'a> Folders<'a> {
         ensures none { IfOk result (λ found. IfNone found ((parent : FileId) (last : List ℕ) → Reaches tree.now.store state.root path.now parent last → ⊥)) }
     {
         let Some((folder, last)) = split_at_last_slash(path) else {
-            return find_parent(tree, path, name);
+            return root_of(tree, path, name);
         };
         let Some(directory) = self.directory_at(tree, folder, name)? else {
             return Ok(None);
@@ -138,6 +151,9 @@ impl<'a> Folders<'a> {
     pub(crate) fn keep_parent(&mut self, path: &'a [u8], directory: FileId)
         ensures { (s : Store) (last : List ℕ) → AreFound s self.old → Reaches s state.root path.now directory last → AreFound s self.new }
     {
+        if directory == FileId::Root {
+            return;
+        }
         if let Some((folder, _)) = split_at_last_slash(path) {
             self.parent = Some(Folder {
                 path: folder,

@@ -67,11 +67,7 @@ pub(crate) fn decode_name(spelled: &[u8], name: &mut Vec<u8>) -> Result<bool, Al
 
 /// The directory to which the directories of a path lead, from the root on, if it is a path and they are there. Its last name is
 /// decoded into `name`.
-pub(crate) fn find_parent(
-    tree: &Tree,
-    path: &[u8],
-    name: &mut Vec<u8>,
-) -> Result<Option<FileId>, AllocError>
+fn find_parent(tree: &Tree, path: &[u8], name: &mut Vec<u8>) -> Result<Option<FileId>, AllocError>
     ensures found { IfOk result (λ found. IfSome found (λ parent. Reaches tree.now.store state.root path.now parent name.new.items)) }
     ensures none { IfOk result (λ found. IfNone found ((parent : FileId) (last : List ℕ) → Reaches tree.now.store state.root path.now parent last → ⊥)) }
 {
