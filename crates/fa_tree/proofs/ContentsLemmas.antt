@@ -94,6 +94,16 @@ bytes_behind first now before same i = at (i / 4096) where
       let within : (k * 4096 + i % 4096) % 4096 ≡ i % 4096 = omega arith in
       rw (place, within) at (same (k * 4096 + i % 4096))
 
+-- a page in the place of the first of pages that store nothing, by itself and with those behind it
+pub bytes_first : (page : List ℕ) (pages : List (List ℕ)) → SameBytes pages [] → 0 < length pages → SameBytes (set pages 0 page) (page ∷ [])
+unfolding byte_at page_at
+bytes_first page pages none within i = at (i / 4096) refl where
+  at : (k : ℕ) → i / 4096 ≡ k → get_or (get_or (set pages 0 page) k []) (i % 4096) 0 ≡ get_or (get_or (page ∷ []) k []) (i % 4096) 0
+  at zero here = ap (λ p. get_or p (i % 4096) 0) (get_or-set_same pages 0 page [] within)
+  at (suc k) here =
+      ap (λ p. get_or p (i % 4096) 0) (get_or-set_other pages 0 (suc k) page [] (λ same. omega (arith, same)))
+      ∙ rw here at (none i)
+
 -- a page that is set, and the others
 page_here : (pages : List (List ℕ)) (page : List ℕ) (k i : ℕ) → i / 4096 ≡ k → k < length pages → page_at (set pages k page) i ≡ page
 unfolding page_at

@@ -1,15 +1,17 @@
 -- What places have after a write at one.
-use Rattle.std.proofs.Common.{◌≡◌, ◌≢◌, Bool, true, false, cond, List, Option, None, Some, refl, sym, ap, subst, ◌∙◌}
+use Rattle.std.proofs.Common.{◌≡◌, ◌≢◌, ℕ, Bool, true, false, cond, List, Option, None, Some, refl, sym, ap, subst, ◌∙◌}
 use Rattle.std.specs.Map.{lookup, KeepsOthers}
-use Rattle.std.specs.Option.{option_map}
+use Rattle.std.specs.Option.{option_map, option_and_then}
 use Rattle.std.specs.Ordering.{eq_by_cmp}
 use Rattle.fa_capture.proofs.CallerLemmas.{found_alike}
+use Rattle.fa_tree.specs.declared.id.FileId.{FileId}
 use Rattle.fa_tree.specs.State as state
 use Rattle.fa_tree.specs.State.{place_cmp}
 use Rattle.fa_tree.specs.declared.slots.Place.{Place}
 use Rattle.fa_tree.specs.declared.slots.Slot.{Slot}
+use Rattle.fa_tree.specs.declared.slots.Slot.TheVariants.{There}
 use Rattle.fa_tree.specs.parts.PlaceLaws.{same_place, place_equiv, place_test}
-use Rattle.fa_tree.specs.parts.SlotParts.{place_of, is_at, slot_at, IsChangedAt}
+use Rattle.fa_tree.specs.parts.SlotParts.{place_of, is_at, slot_at, file_in, IsChangedAt, AreAllThere}
 
 -- a key that one place has, another has not
 apart : (q place : state.Place) (key : Place) → eq_by_cmp place_cmp q place ≡ false → is_at place key ≡ true → is_at q key ≡ false
@@ -57,6 +59,15 @@ replaced_at old new place slot there wrote q = wrote q ∙ by (eq_by_cmp place_c
     by : (b : Bool) → eq_by_cmp place_cmp q place ≡ b → cond b (option_map (λ _. slot) (slot_at old q)) (slot_at old q) ≡ cond b (Some slot) (slot_at old q)
     by true test = is_there (slot_at old q) (λ none. there (ap (slot_at old) (sym (same_place q place test)) ∙ none))
     by false test = refl
+
+-- places that all have their names still have them after a name is put
+pub all_there_put : (old new : List (Place × Slot)) (place : state.Place) (file : FileId) (born : ℕ)
+    → IsChangedAt place (λ _. Some (There file born)) old new → AreAllThere old → AreAllThere new
+all_there_put old new place file born wrote there q none = by (eq_by_cmp place_cmp q place) (wrote q)
+  where
+    by : (b : Bool) → slot_at new q ≡ cond b (Some (There file born)) (slot_at old q) → slot_at new q ≡ None
+    by true is = absurd (let clash : Some file ≡ None = sym (ap (option_and_then file_in) is) ∙ none in cc)
+    by false is = is ∙ there q (sym (ap (option_and_then file_in) is) ∙ none)
 
 -- keys are equal where their places are
 pub keys_same : (x y : Place) → Rattle.fa_tree.specs.contracts.slots.PlacePartialEq.TheImpl.eq-value.it x y ≡ eq_by_cmp place_cmp (place_of x) (place_of y)

@@ -20,6 +20,7 @@ pub mod KeptParts
 pub mod ReplayParts
 -- pages of the bytes of a file
 pub mod PageParts
+pub mod PagesView
 -- files
 pub mod FileParts
 pub mod FactParts

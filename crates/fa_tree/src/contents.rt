@@ -48,11 +48,14 @@ impl Contents {
     pub fn from_slice(alloc: Global, bytes: &[u8]) -> Result<Self, AllocError>
         ensures { IfOk result (λ contents. contents ≡ bytes.now) }
     {
+        if bytes.is_empty() {
+            return Ok(Contents::new(alloc));
+        }
         let (first, rest) = bytes.split_at(bytes.len().min(PAGE));
         let mut contents = Contents {
             alloc,
             len: first.len(),
-            pages: Pages::from_slice(alloc, first, bytes.len().div_ceil(PAGE))?,
+            pages: Pages::from_slice(alloc, first)?,
         };
         contents.write(PAGE as u64, rest)?;
         Ok(contents)

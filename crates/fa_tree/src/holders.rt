@@ -33,6 +33,7 @@ const NOTHING: Holder = Holder {
 };
 
 /// Where a file stands in the list, if the list comes that far. No two files stand at one place.
+#[inline(always)]
 fn index_of(file: FileId) -> Option<usize>
     ensures { result ≡ index_of file }
 {
@@ -92,6 +93,7 @@ impl Holders {
     /// Whether a file has an entry.
     ///
     /// Takes no memory, in expected constant time.
+    #[inline(always)]
     fn has(&self, file: FileId) -> bool
         ensures { result ≡ is_some (entry_of self.now file) }
     {
@@ -117,6 +119,7 @@ impl Holders {
     /// The entry of a file, if it has one, which can be written.
     ///
     /// Takes no memory, in expected constant time.
+    #[inline(always)]
     fn entry_mut(&mut self, file: FileId) -> Option<&mut Holder>
         ensures* writes_back { sem 𝓛 (LendsHolder self.entry file result) }
         ensures value { option_copied_mut result ≡ entry_of self.old file }
@@ -131,6 +134,7 @@ impl Holders {
     /// memory was refused.
     ///
     /// Expected constant time but for growing.
+    #[inline(always)]
     pub fn make_room(&mut self, file: FileId) -> Result<(), AllocError>
         ensures same { (of : FileId) → held self.new of ≡ held self.old of }
         ensures kept { (of : FileId) → IsKnown self.old of → IsKnown self.new of }

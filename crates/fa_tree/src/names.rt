@@ -13,7 +13,7 @@ ghost use Rattle.fa_tree.specs.parts.OpenParts.{open_of};
 use crate::holders::Holders;
 use crate::id::FileId;
 use crate::open::{OpenNames, Opening, Openings};
-use crate::slots::{Slot, Slots};
+use crate::slots::Slots;
 use std::alloc::{AllocError, Global};
 use std::marker::Model;
 
@@ -138,10 +138,27 @@ impl Names {
         let _ = self.slots.len();
         self.holders.make_room(directory)?;
         self.holders.make_room(file)?;
-        let old = self
-            .slots
-            .insert(directory, name, Slot::There { file, born })?;
+        let old = self.slots.insert(directory, name, file, born)?;
         self.holders.put(directory, old, file);
+        Ok(())
+    }
+
+    /// Puts a name into a directory that has none like it, for a file. An error says that memory was refused, and nothing is
+    /// changed.
+    ///
+    /// Takes memory as [`put`](Names::put) does. Expected constant time but for reading the name and for growing.
+    pub fn add(&mut self, directory: FileId, name: &[u8], file: FileId) -> Result<(), AllocError>
+        requires { get self.old.names (directory, name.now) ≡ None }
+        ensures added { OnOk result (self.new ≡ edited (Added directory name.now file ∷ []) self.old) }
+        ensures unchanged { OnErr result (self.new ≡ self.old) }
+    {
+        let born = self.openings.len();
+        // `len` is called for its clause that slots are few, as in `put`.
+        let _ = self.slots.len();
+        self.holders.make_room(directory)?;
+        self.holders.make_room(file)?;
+        self.slots.insert_free(directory, name, file, born)?;
+        self.holders.put(directory, None, file);
         Ok(())
     }
 
@@ -213,10 +230,8 @@ impl Names {
             let born = self.openings.len();
             // `len` is called for its clause that slots are few, as in `put`.
             let _ = self.slots.len();
-            self.slots
-                .replace(old_directory, old_name, Slot::There { file: other, born });
-            self.slots
-                .replace(new_directory, new_name, Slot::There { file, born });
+            self.slots.replace(old_directory, old_name, other, born);
+            self.slots.replace(new_directory, new_name, file, born);
             self.holders.put(old_directory, Some(file), other);
             self.holders.put(new_directory, Some(other), file);
             self.holders.note_parent(old_directory, other);

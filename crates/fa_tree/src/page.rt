@@ -41,7 +41,7 @@ impl Page {
         ensures { IfOk result (λ page. page ≡ bytes.now) }
     {
         Ok(Page {
-            bytes: bytes.to_vec(alloc)?,
+            bytes: Vec::from_slice(alloc, bytes)?,
         })
     }
 

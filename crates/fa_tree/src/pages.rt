@@ -6,20 +6,28 @@ ghost use Rattle.fa_tree.specs.parts.PageParts.{IsPart, with_part, SameBytes, Is
 use crate::page::{Page, are_zeros};
 use std::alloc::{AllocError, Global};
 use std::marker::Model;
+use std::mem;
 
-/// Pages, one after the other, and one at least. The first stands here, so that a file of one page takes no memory for a list.
+/// One page by itself, which takes no memory for a list, or a list of them.
+#[derive(Drop)]
+pub(crate) enum PageList {
+    One(Page),
+    Many(Vec<Page>),
+}
+
+/// Pages, one after the other.
 #[derive(Drop)]
 pub(crate) struct Pages {
-    first: Page,
-    rest: Vec<Page>,
+    list: PageList,
 }
 
 impl Model for Pages {
-    ghost use Rattle.std.specs.Prelude.{List, ℕ, ◌∷◌};
+    ghost use Rattle.std.specs.Prelude.{List, ℕ};
+    ghost use Rattle.fa_tree.specs.parts.PagesView.{pages_shown};
 
     ghost Value = { List (List ℕ) };
 
-    ghost view = { λ p. p.first ∷ p.rest.items };
+    ghost view = { λ p. pages_shown p.list };
 }
 
 impl Pages {
@@ -28,20 +36,17 @@ impl Pages {
         ensures { result ≡ [] ∷ [] }
     {
         Pages {
-            first: Page::new(alloc),
-            rest: Vec::new(alloc),
+            list: PageList::One(Page::new(alloc)),
         }
     }
 
-    /// One page, that stores these bytes, with room in the list for so many pages. Takes no memory for the list where it is for
-    /// one.
-    pub fn from_slice(alloc: Global, bytes: &[u8], count: usize) -> Result<Self, AllocError>
+    /// One page, that stores these bytes. Time in the bytes.
+    pub fn from_slice(alloc: Global, bytes: &[u8]) -> Result<Self, AllocError>
         requires { length bytes.now ≤ 4096 }
         ensures { IfOk result (λ pages. pages ≡ bytes.now ∷ []) }
     {
         Ok(Pages {
-            first: Page::from_slice(alloc, bytes)?,
-            rest: Vec::with_capacity(alloc, count.saturating_sub(1))?,
+            list: PageList::One(Page::from_slice(alloc, bytes)?),
         })
     }
 
@@ -49,7 +54,10 @@ impl Pages {
     pub fn len(&self) -> usize
         ensures { result ≡ length self.now }
     {
-        1 + self.rest.len()
+        match &self.list {
+            PageList::One(_) => 1,
+            PageList::Many(pages) => pages.len(),
+        }
     }
 
     /// Adds pages up to so many. They store nothing: all bytes are as they were, after an error too. Time in the pages that are
@@ -58,7 +66,18 @@ impl Pages {
         ensures same { SameBytes self.new self.old }
         ensures added { OnOk result (count ≤ length self.new) }
     {
-        add_pages(alloc, &mut self.rest, count.saturating_sub(1))
+        match &mut self.list {
+            PageList::One(page) => {
+                if count > 1 {
+                    let mut pages = Vec::new(alloc);
+                    add_pages(alloc, &mut pages, count)?;
+                    mem::swap(&mut pages[0], page);
+                    self.list = PageList::Many(pages);
+                }
+                Ok(())
+            }
+            PageList::Many(pages) => add_pages(alloc, pages, count),
+        }
     }
 
     /// Whether these are the bytes from this place on in the page at a place of the list; where there is none, they are zeros.
@@ -66,12 +85,13 @@ impl Pages {
     pub fn has(&self, place: usize, at: usize, part: &[u8]) -> bool
         ensures { IsTrue result ↔ IsPart (get_or self.now place []) at part.now }
     {
-        if place == 0 {
-            return self.first.has(at, part);
-        }
-        match self.rest.get(place - 1) {
-            Some(page) => page.has(at, part),
-            None => are_zeros(part),
+        match &self.list {
+            PageList::One(page) if place == 0 => page.has(at, part),
+            PageList::One(_) => are_zeros(part),
+            PageList::Many(pages) => match pages.get(place) {
+                Some(page) => page.has(at, part),
+                None => are_zeros(part),
+            },
         }
     }
 
@@ -82,11 +102,13 @@ impl Pages {
         ensures grown { IsGrown self.new self.old place }
         ensures stored { OnOk result (size ≤ length (get_or self.new place [])) }
     {
-        if place == 0 {
-            return self.first.store(size);
+        match &mut self.list {
+            PageList::One(page) => page.store(size),
+            PageList::Many(pages) => {
+                let page = &mut pages[place];
+                page.store(size)
+            }
         }
-        let page = &mut self.rest[place - 1];
-        page.store(size)
     }
 
     /// Puts these bytes at this place of the page at a place, where as many are stored, as `Page::put` does.
@@ -95,11 +117,12 @@ impl Pages {
         requires stored { at + length part.now ≤ length (get_or self.old place []) }
         ensures { self.new ≡ set self.old place (with_part (get_or self.old place []) at part.now) }
     {
-        if place == 0 {
-            self.first.put(at, part);
-        } else {
-            let page = &mut self.rest[place - 1];
-            page.put(at, part);
+        match &mut self.list {
+            PageList::One(page) => page.put(at, part),
+            PageList::Many(pages) => {
+                let page = &mut pages[place];
+                page.put(at, part);
+            }
         }
     }
 
@@ -108,11 +131,12 @@ impl Pages {
         requires { place < length self.old }
         ensures { self.new ≡ set self.old place (take size (get_or self.old place [])) }
     {
-        if place == 0 {
-            self.first.cut(size);
-        } else {
-            let page = &mut self.rest[place - 1];
-            page.cut(size);
+        match &mut self.list {
+            PageList::One(page) => page.cut(size),
+            PageList::Many(pages) => {
+                let page = &mut pages[place];
+                page.cut(size);
+            }
         }
     }
 }

@@ -1,11 +1,12 @@
 //! The table of places: for each place that a name was put at, the slot that says what is there.
 
-ghost use Rattle.std.specs.Prelude.{◌≡◌, ◌<◌, ◌^◌, [], ℕ, List, length, ◌==◌, IfSome, IfNone, Some, None, IfOk, OnOk, OnErr};
+ghost use Rattle.std.specs.Prelude.{◌≡◌, ◌<◌, ◌^◌, [], ℕ, List, length, ◌==◌, IsTrue, IfSome, IfNone, Some, None, IfOk, OnOk, OnErr};
 ghost use Rattle.fa_tree.specs.declared.id.FileId.{FileId};
+ghost use Rattle.fa_tree.specs.declared.slots.Slot.TheVariants.{There};
 ghost use Rattle.std.specs.FinMap as map;
 ghost use Rattle.std.specs.Map.{keys_of};
 ghost use Rattle.std.specs.Option.{option_map};
-ghost use Rattle.fa_tree.specs.parts.SlotParts.{slot_at, gone_at, file_in, is_of, names_shown, IsChangedAt};
+ghost use Rattle.fa_tree.specs.parts.SlotParts.{slot_at, gone_at, file_in, is_of, names_shown, IsChangedAt, AreAllThere};
 ghost use Rattle.fa_tree.specs.parts.MemberParts.{AreMembers};
 
 use crate::id::FileId;
@@ -46,7 +47,10 @@ pub(crate) struct Slots {
     pub table: IndexMap<Place, Slot>,
     /// For each directory the indexes of its places in the table.
     pub members: Members,
+    /// Set while no name went: a place that has no name has no slot then.
+    all_there: bool,
     ghost complete: { AreMembers (keys_of table.entries) members.table.entries },
+    ghost there: { IsTrue all_there → AreAllThere table.entries },
 }
 
 impl Hash for Place {
@@ -101,6 +105,7 @@ impl Slots {
             alloc,
             table: IndexMap::new(alloc),
             members: Members::new(alloc),
+            all_there: true,
         }
     }
 
@@ -128,56 +133,85 @@ impl Slots {
         self.table.len()
     }
 
-    /// Puts a slot at a place, and answers the file that the place had a name for, if it had one. An error says that memory was
-    /// refused for a place that had no slot, and nothing is changed.
+    /// Puts a name at a place, for a file, since so many directories had been opened, and answers the file that the place had a
+    /// name for, if it had one. An error says that memory was refused for a place that had no slot, and nothing is changed.
     ///
     /// The name is copied where the place had no slot. Expected constant time, but for what growing costs.
     pub fn insert(
         &mut self,
         directory: FileId,
         name: &[u8],
-        slot: Slot,
+        file: FileId,
+        born: usize,
     ) -> Result<Option<FileId>, AllocError>
         ensures file { IfOk result (λ file. file ≡ map.get (names_shown self.old.table.entries) (directory, name.now)) }
-        ensures put { OnOk result (IsChangedAt (directory, name.now) (λ _. Some slot) self.old.table.entries self.new.table.entries) }
+        ensures put { OnOk result (IsChangedAt (directory, name.now) (λ _. Some (There file born)) self.old.table.entries self.new.table.entries) }
         ensures unchanged { OnErr result (self.new.table.entries ≡ self.old.table.entries) }
     {
         match self.table.get_mut(&PlaceAt { directory, name }) {
-            Some(old) => {
-                let file = old.file();
-                *old = slot;
-                Ok(file)
+            Some(slot) => {
+                let old = slot.file();
+                *slot = Slot::There { file, born };
+                Ok(old)
             }
             None => {
-                self.insert_new(directory, name, slot)?;
+                self.insert_new(directory, name, file, born)?;
                 Ok(None)
             }
         }
     }
 
-    /// Puts a slot at a place that has none. An error says that memory was refused, and nothing is changed.
+    /// Puts a name at a place that has none, as [`insert`](Slots::insert) does. While no name went, the place is not looked for.
+    pub fn insert_free(
+        &mut self,
+        directory: FileId,
+        name: &[u8],
+        file: FileId,
+        born: usize,
+    ) -> Result<(), AllocError>
+        requires { map.get (names_shown self.old.table.entries) (directory, name.now) ≡ None }
+        ensures put { OnOk result (IsChangedAt (directory, name.now) (λ _. Some (There file born)) self.old.table.entries self.new.table.entries) }
+        ensures unchanged { OnErr result (self.new.table.entries ≡ self.old.table.entries) }
+    {
+        if self.all_there {
+            return self.insert_new(directory, name, file, born);
+        }
+        self.insert(directory, name, file, born)?;
+        Ok(())
+    }
+
+    /// Puts a name at a place that has no slot. An error says that memory was refused, and nothing is changed.
     ///
     /// Copies the name. Expected constant time, but for what growing costs. What may be refused comes before the place and its
     /// index, which come together.
-    fn insert_new(&mut self, directory: FileId, name: &[u8], slot: Slot) -> Result<(), AllocError>
+    fn insert_new(
+        &mut self,
+        directory: FileId,
+        name: &[u8],
+        file: FileId,
+        born: usize,
+    ) -> Result<(), AllocError>
         requires { slot_at self.old.table.entries (directory, name.now) ≡ None }
-        ensures put { OnOk result (IsChangedAt (directory, name.now) (λ _. Some slot) self.old.table.entries self.new.table.entries) }
+        ensures put { OnOk result (IsChangedAt (directory, name.now) (λ _. Some (There file born)) self.old.table.entries self.new.table.entries) }
         ensures unchanged { OnErr result (self.new.table.entries ≡ self.old.table.entries) }
     {
         let name = name.to_vec(self.alloc)?;
         let index = self.table.len();
         self.table.reserve(1)?;
         self.members.add(directory, index)?;
-        self.table.insert(Place { directory, name }, slot).unwrap();
+        self.table
+            .insert(Place { directory, name }, Slot::There { file, born })
+            .unwrap();
         Ok(())
     }
 
-    /// Puts a slot in the place of what a place has, if it has one. Takes no memory, in expected constant time.
-    pub fn replace(&mut self, directory: FileId, name: &[u8], slot: Slot)
-        ensures { IsChangedAt (directory, name.now) (option_map (λ _. slot)) self.old.table.entries self.new.table.entries }
+    /// Makes the name of a place one for this file, since so many directories had been opened, if the place has a slot. Takes no
+    /// memory, in expected constant time.
+    pub fn replace(&mut self, directory: FileId, name: &[u8], file: FileId, born: usize)
+        ensures { IsChangedAt (directory, name.now) (option_map (λ _. There file born)) self.old.table.entries self.new.table.entries }
     {
         match self.table.get_mut(&PlaceAt { directory, name }) {
-            Some(old) => *old = slot,
+            Some(slot) => *slot = Slot::There { file, born },
             None => {}
         }
     }
@@ -192,6 +226,7 @@ impl Slots {
             Some(slot) => {
                 let file = slot.file();
                 slot.remove(at);
+                self.all_there = false;
                 file
             }
             None => None,

@@ -88,7 +88,7 @@ impl Stored {
         ensures linked { OnOk result (self.new ≡ stored_of (tree_linked (as_tree self.old) directory name.now file)) }
         ensures unchanged { OnErr result (self.new ≡ self.old) }
     {
-        self.names.put(directory, name, file)
+        self.names.add(directory, name, file)
     }
 
     /// Makes a file in a directory under a name, which is to be known by this.
@@ -106,7 +106,7 @@ impl Stored {
         ensures unchanged { OnErr result (self.new ≡ self.old) }
     {
         self.files.insert(id, file)?;
-        match self.names.put(directory, name, id) {
+        match self.names.add(directory, name, id) {
             Ok(()) => Ok(()),
             Err(error) => {
                 self.files.remove(id);

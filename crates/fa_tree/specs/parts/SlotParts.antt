@@ -3,6 +3,7 @@ use Rattle.std.specs.Prelude.{◌≡◌, cond, ℕ, Bool, false, List, [], ◌�
 use Rattle.std.specs.FinMap as map
 use Rattle.std.specs.FinMap.{FinMap}
 use Rattle.std.specs.Map.{lookup}
+use Rattle.std.specs.Option.{option_and_then}
 use Rattle.std.specs.Ordering.{eq_by_cmp}
 use Rattle.std.specs.declared.cmp.Ordering.{Ordering}
 use Rattle.fa_tree.specs.declared.id.FileId.{FileId}
@@ -43,6 +44,10 @@ file_in (Gone at) = None
 abbrev pub is_of : FileId → Slot → Bool
 is_of file (There of born) = file_eq of file
 is_of file (Gone at) = false
+
+-- each place that has a slot has its name
+abbrev pub AreAllThere : List (Place × Slot) → Type 0
+AreAllThere slots = (place : state.Place) → option_and_then file_in (slot_at slots place) ≡ None → slot_at slots place ≡ None
 
 -- the key with the value, or without one
 abbrev pub put_or_not : {K X : Type 0} {R : K → K → Ordering} → FinMap R X → K → Option X → FinMap R X

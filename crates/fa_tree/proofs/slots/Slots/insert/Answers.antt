@@ -1,28 +1,39 @@
 use Rattle.std.proofs.Common.{Some, refl, sym, ap, subst, ◌∙◌, is_some}
 use Rattle.std.specs.Map.{keys_of}
 use Rattle.std.specs.Option.{option_and_then}
+use Rattle.fa_tree.specs.declared.slots.Slot.TheVariants.{There}
 use Rattle.fa_tree.specs.parts.MemberParts.{AreMembers}
-use Rattle.fa_tree.specs.parts.SlotParts.{file_in}
+use Rattle.fa_tree.specs.parts.SlotParts.{file_in, AreAllThere}
 use Rattle.fa_tree.proofs.NameLemmas.{get-names_shown}
-use Rattle.fa_tree.proofs.SlotLemmas.{after_write, keys_same}
+use Rattle.fa_tree.proofs.SlotLemmas.{after_write, keys_same, all_there_put}
 use Rattle.fa_tree.proofs.slots.Slots.insert.Goals as goal
 
 pub returns-in-Some-clause-put : goal.returns-in-Some-clause-put
 returns-in-Some-clause-put c =
-    let wrote = (c.get_mut.follows.holds c.args.slot).3 (ap is_some (sym c.in-Some.ensures.value)) in
-    after_write _ keys_same (c.args.directory, c.args.name.now) _ (λ k. refl) c.args.self.now.table.entries (c.get_mut.follows.lender c.args.slot).entries (Some c.args.slot) wrote.1 wrote.3
+    let wrote = (c.get_mut.follows.holds (There c.args.file c.args.born)).3 (ap is_some (sym c.in-Some.ensures.value)) in
+    after_write _ keys_same (c.args.directory, c.args.name.now) _ (λ k. refl) c.args.self.now.table.entries (c.get_mut.follows.lender (There c.args.file c.args.born)).entries (Some (There c.args.file c.args.born)) wrote.1 wrote.3
 
 pub invariant_of-self-in-None : goal.invariant_of-self-in-None
 invariant_of-self-in-None c = record {
   complete = subst (λ table. AreMembers (keys_of table.entries) c.args.self.now.members.table.entries) (sym c.get_mut.follows.holds-at-none) c.args.self.now.complete;
+  there = λ all. subst (λ table. AreAllThere table.entries) (sym c.get_mut.follows.holds-at-none) (c.args.self.now.there all);
 }
 
 pub returns-in-Some-clause-file : goal.returns-in-Some-clause-file
 returns-in-Some-clause-file c =
-    c.file-file.ensures ∙ ap (option_and_then file_in) c.in-Some.ensures.value
+    c.file-old.ensures ∙ ap (option_and_then file_in) c.in-Some.ensures.value
     ∙ sym (get-names_shown c.args.self.now.table.entries (c.args.directory, c.args.name.now))
 
 pub returns-in_ok-insert_new-in-None-clause-file : goal.returns-in_ok-insert_new-in-None-clause-file
 returns-in_ok-insert_new-in-None-clause-file c =
     ap (option_and_then file_in) c.in-None.ensures.value
     ∙ sym (get-names_shown c.args.self.now.table.entries (c.args.directory, c.args.name.now))
+
+pub invariant_of-self-clause-there : goal.invariant_of-self-clause-there
+invariant_of-self-clause-there c = λ all.
+    let slot = There c.args.file c.args.born in
+    let new = (c.get_mut.follows.lender slot).entries in
+    let wrote = (c.get_mut.follows.holds slot).3 (ap is_some (sym c.in-Some.ensures.value)) in
+    all_there_put c.args.self.now.table.entries new (c.args.directory, c.args.name.now) c.args.file c.args.born
+    (after_write _ keys_same (c.args.directory, c.args.name.now) _ (λ k. refl) c.args.self.now.table.entries new (Some slot) wrote.1 wrote.3)
+    (c.args.self.now.there all)

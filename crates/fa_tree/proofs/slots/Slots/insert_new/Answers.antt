@@ -10,10 +10,12 @@ use Rattle.fa_ledger.proofs.CallerLemmas.{wrote_ok}
 use Rattle.fa_tree.specs.State as state
 use Rattle.fa_tree.specs.State.{place_cmp, file_eq}
 use Rattle.fa_tree.specs.declared.slots.Place.{Place}
+use Rattle.fa_tree.specs.declared.slots.Slot.{Slot}
 use Rattle.fa_tree.specs.contracts.slots.PlacePartialEq.TheImpl as derived
-use Rattle.fa_tree.specs.parts.SlotParts.{is_at, slot_at}
+use Rattle.fa_tree.specs.declared.slots.Slot.TheVariants.{There}
+use Rattle.fa_tree.specs.parts.SlotParts.{is_at, slot_at, IsChangedAt}
 use Rattle.fa_tree.specs.parts.MemberParts.{members_of, AreMembers}
-use Rattle.fa_tree.proofs.SlotLemmas.{after_write, keys_same}
+use Rattle.fa_tree.proofs.SlotLemmas.{after_write, keys_same, all_there_put}
 use Rattle.fa_tree.proofs.MemberLemmas.{members_added}
 use Rattle.fa_tree.proofs.slots.Slots.insert_new.Goals as goal
 
@@ -28,8 +30,8 @@ returns-clause-put c = λ q.
     let copied = c.in_ok-name.ensures.items_if_clones_equal (λ x y e. e) in
     let wrote = wrote_ok c.insert.result _ c.unwrap.result c.unwrap.ensures c.insert.ensures.updates in
     after_write _ keys_same place _ (λ k. keys_same key k ∙ ap (λ items. is_at (c.args.directory, items) k) copied)
-    c.reserve.new.self.entries c.insert.new.self.entries (Some c.args.slot) wrote.1 wrote.3 q
-    ∙ ap (λ slots. cond (eq_by_cmp place_cmp q place) (Some c.args.slot) (slot_at slots q)) c.in_ok-reserve.ensures.entries
+    c.reserve.new.self.entries c.insert.new.self.entries (Some (There c.args.file c.args.born)) wrote.1 wrote.3 q
+    ∙ ap (λ slots. cond (eq_by_cmp place_cmp q place) (Some (There c.args.file c.args.born)) (slot_at slots q)) c.in_ok-reserve.ensures.entries
 
 pub invariant_of-self-2 : goal.invariant_of-self-2
 invariant_of-self-2 c =
@@ -45,13 +47,20 @@ invariant_of-self-2 c =
     ∙ c.requires in
     let last =
     ok_holds c.insert.result _ (c.insert.ensures.succeeds c.in_ok-reserve.ensures.ok) c.insert.ensures.entries
-    ∙ insert_entry-new derived.eq-value.it c.reserve.new.self key c.args.slot absent in
+    ∙ insert_entry-new derived.eq-value.it c.reserve.new.self key (There c.args.file c.args.born) absent in
+    let wrote = ok_holds c.insert.result _ (c.insert.ensures.succeeds c.in_ok-reserve.ensures.ok) c.insert.ensures.updates in
+    let slot : Slot = There c.args.file c.args.born in
+    let put : IsChangedAt place (λ _. Some slot) old c.insert.new.self.entries = (λ q.
+    after_write _ keys_same place _ (λ k. keys_same key k ∙ ap (λ items. is_at (c.args.directory, items) k) copied)
+    c.reserve.new.self.entries c.insert.new.self.entries (Some slot) wrote.1 wrote.3 q
+    ∙ ap (λ slots. cond (eq_by_cmp place_cmp q place) (Some slot) (slot_at slots q)) same) in
     let count : c.len-index.result ≡ length (keys_of old) = c.len-index.ensures.len ∙ sym (length-keys_of old) in
     record {
       complete =
           subst (λ keys. AreMembers keys c.add.new.self.table.entries)
-          (sym (ap keys_of last ∙ map-append (λ e. e.0) c.reserve.new.self.entries ((key, c.args.slot) ∷ []) ∙ ap (λ slots. keys_of slots ++ key ∷ []) same))
+          (sym (ap keys_of last ∙ map-append (λ e. e.0) c.reserve.new.self.entries ((key, (There c.args.file c.args.born)) ∷ []) ∙ ap (λ slots. keys_of slots ++ key ∷ []) same))
           (members_added (keys_of old) members c.add.new.self.table.entries c.args.self.now.complete key
           (λ of. c.in_ok-add.ensures.added of
           ∙ ap (λ index. cond (file_eq of c.args.directory) (members_of members of ++ index ∷ []) (members_of members of)) count));
+      there = λ all. all_there_put old c.insert.new.self.entries place c.args.file c.args.born put (c.args.self.now.there all);
     }

@@ -4,7 +4,7 @@ use Rattle.std.specs.Option.{option_and_then}
 use Rattle.fa_tree.specs.State as state
 use Rattle.fa_tree.specs.State.{place_cmp}
 use Rattle.fa_tree.specs.parts.MemberParts.{AreMembers}
-use Rattle.fa_tree.specs.parts.SlotParts.{slot_at, gone_at, file_in}
+use Rattle.fa_tree.specs.parts.SlotParts.{slot_at, gone_at, file_in, AreAllThere}
 use Rattle.fa_tree.proofs.NameLemmas.{get-names_shown}
 use Rattle.fa_tree.proofs.SlotLemmas.{after_write, changed_at, keys_same, unchanged_at}
 use Rattle.fa_tree.proofs.slots.Slots.remove.Goals as goal
@@ -27,6 +27,7 @@ returns-in-None-clause-gone c = λ q.
 pub invariant_of-self-in-None : goal.invariant_of-self-in-None
 invariant_of-self-in-None c = record {
   complete = subst (λ table. AreMembers (keys_of table.entries) c.args.self.now.members.table.entries) (sym c.get_mut.follows.holds-at-none) c.args.self.now.complete;
+  there = λ all. subst (λ table. AreAllThere table.entries) (sym c.get_mut.follows.holds-at-none) (c.args.self.now.there all);
 }
 
 pub returns-in-Some-clause-file : goal.returns-in-Some-clause-file

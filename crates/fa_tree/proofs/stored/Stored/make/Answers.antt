@@ -8,8 +8,8 @@ invariant_of-self-in-Ok c =
     let may = still_made (stored_shown c.self.inside) c.args.self.now c.args.directory c.args.name.now c.self.view_is c.requires.free in
     let none = still_new (stored_shown c.self.inside) c.args.self.now c.args.id c.self.view_is c.requires.new in
     let comes = still_comes (stored_shown c.self.inside) c.args.self.now c.args.id c.self.view_is c.requires.made in
-    made_tree c.self.inside.names c.put.new.self c.self.inside.files c.insert.new.self c.args.directory c.args.name.now c.args.id (file_shown c.args.file)
-    c.self.invariant may none comes (c.in-Ok.ensures.fresh may.1) c.in_ok-insert.ensures.inserted
+    made_tree c.self.inside.names c.add.new.self c.self.inside.files c.insert.new.self c.args.directory c.args.name.now c.args.id (file_shown c.args.file)
+    c.self.invariant may none comes c.in-Ok.ensures.added c.in_ok-insert.ensures.inserted
 
 pub invariant_of-self-in-Err : goal.invariant_of-self-in-Err
 invariant_of-self-in-Err c =
