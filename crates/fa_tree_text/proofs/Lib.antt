@@ -2,6 +2,7 @@ pub mod SplitLemmas
 pub mod FieldLemmas
 pub mod WayLemmas
 pub mod PathLemmas
+pub mod PlainLemmas
 pub mod FolderLemmas
 pub mod BodyLemmas
 pub mod AdditionLemmas

@@ -5,6 +5,7 @@ ghost use Rattle.percent_encoding.specs.Percent.{percent_decode};
 ghost use Rattle.fa_tree.specs.declared.id.FileId.{FileId};
 ghost use Rattle.fa_tree.specs.State as state;
 ghost use Rattle.fa_tree_text.specs.Paths.{IsSpelledByte, HasHexDigit, HasWholeEscapes, IsSpelledName};
+ghost use Rattle.fa_tree_text.specs.parts.Plain.{IsPlainByte};
 ghost use Rattle.fa_tree_text.specs.parts.Ways.{Reaches, IsFileAt};
 
 use fa_bodies::{is_name, split_at_byte};
@@ -55,12 +56,25 @@ fn has_spelled_bytes(spelled: &[u8]) -> bool
     spelled.iter().all(|byte| is_spelled_byte(*byte))
 }
 
+/// Whether each byte of a spelled name may stand there, and stands for itself.
+fn is_plain(spelled: &[u8]) -> bool
+    ensures { IsTrue result ↔ All IsPlainByte spelled.now }
+{
+    spelled
+        .iter()
+        .all(|byte| is_spelled_byte(*byte) && *byte != b'%')
+}
+
 /// Decodes a name into `name`, in the place of what stands there, and answers whether it is spelled as a name is.
 pub(crate) fn decode_name(spelled: &[u8], name: &mut Vec<u8>) -> Result<bool, AllocError>
     ensures decoded { OnOk result (name.new.items ≡ percent_decode spelled.now) }
     ensures spelled { IfOk result (λ is_spelled. IsTrue is_spelled ↔ IsSpelledName spelled.now) }
 {
     name.clear();
+    if is_plain(spelled) {
+        name.extend_from_slice(spelled)?;
+        return Ok(is_name(name));
+    }
     percent_decode(spelled).append_to(name)?;
     Ok(has_spelled_bytes(spelled) && has_whole_escapes(spelled) && is_name(name))
 }
