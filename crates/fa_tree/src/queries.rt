@@ -21,11 +21,13 @@ impl Stored {
         }
     }
 
-    /// Whether a file is a directory.
+    /// Whether a file is a directory. The root is, and is not looked up.
     pub(crate) fn is_directory(&self, file: FileId) -> bool
         ensures { IsTrue result ↔ IsDirectory self.now.store file }
     {
-        self.kind(file) == Some(Kind::Directory)
+        // A field is named for the invariant, by which the root is a directory.
+        let _ = &self.files;
+        file == self.root() || self.kind(file) == Some(Kind::Directory)
     }
 
     /// Whether there is this file, and it is no directory.
