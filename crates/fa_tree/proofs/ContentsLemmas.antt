@@ -1,5 +1,5 @@
 -- The bytes of a file as they are read and written, and the pages that they are in.
-use Rattle.std.proofs.Common.{◌≡◌, ◌↔◌, ℕ, zero, suc, ◌+◌, ◌*◌, ◌-◌, ◌<◌, ◌≤◌, ◌/◌, ◌%◌, ◌⊎◌, ◌==◌, true, false, List, [], ◌∷◌, ◌++◌, length, replicate, take, drop, set, get_or, min, max, inl, inr, refl, sym, ap, ◌∙◌, arith, zero-add, length-append}
+use Rattle.std.proofs.Common.{◌≡◌, ◌↔◌, ℕ, zero, suc, ◌+◌, ◌-◌, ◌<◌, ◌≤◌, ◌/◌, ◌%◌, ◌⊎◌, ◌==◌, true, false, List, [], ◌∷◌, ◌++◌, length, replicate, take, drop, set, get_or, min, max, inl, inr, refl, sym, ap, ◌∙◌, arith, zero-add, length-append}
 use Rattle.std.proofs.lemmas.List.{length-take, take-append-drop, length-replicate, length-drop, get_or-take, get_or-drop, get_or_past, get_or-replicate, get_or_append_left, get_or-append_right, get_or-set_same, get_or-set_other, get_or_push, length_push, ext_get_or}
 use Rattle.std.proofs.lemmas.List.FromFn.{length-map-range_with_len, get_or-map-range_with_len}
 use Rattle.std.proofs.lemmas.Bool.{cases_lt, cases_eq}
@@ -83,18 +83,7 @@ module _ (pages : List (List ℕ)) (page : List ℕ) (is : pages ≡ page ∷ []
   pub bytes_of_one : bytes_of pages (length page) ≡ page
   bytes_of_one = bytes_are pages (length page) page refl byte_of_one
 
--- the same bytes behind the same page
-pub bytes_behind : (first : List ℕ) (now before : List (List ℕ)) → SameBytes now before → SameBytes (first ∷ now) (first ∷ before)
-unfolding byte_at page_at
-bytes_behind first now before same i = at (i / 4096) where
-  at : (k : ℕ) → get_or (get_or (first ∷ now) k []) (i % 4096) 0 ≡ get_or (get_or (first ∷ before) k []) (i % 4096) 0
-  at zero = refl
-  at (suc k) =
-      let place : (k * 4096 + i % 4096) / 4096 ≡ k = omega arith in
-      let within : (k * 4096 + i % 4096) % 4096 ≡ i % 4096 = omega arith in
-      rw (place, within) at (same (k * 4096 + i % 4096))
-
--- a page in the place of the first of pages that store nothing, by itself and with those behind it
+-- a page put in the place of the first of pages that store nothing has the bytes that it has by itself
 pub bytes_first : (page : List ℕ) (pages : List (List ℕ)) → SameBytes pages [] → 0 < length pages → SameBytes (set pages 0 page) (page ∷ [])
 unfolding byte_at page_at
 bytes_first page pages none within i = at (i / 4096) refl where

@@ -15,7 +15,7 @@ pub(crate) struct Contents {
     alloc: Global,
     /// How many there are.
     len: usize,
-    /// They are in pages, one after the other. A byte that its page does not store, or whose page is not in the list, is zero.
+    /// They are in pages, one after the other. A byte that its page does not store, or whose page is not there, is zero.
     pages: Pages,
 }
 

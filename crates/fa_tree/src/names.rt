@@ -129,7 +129,6 @@ impl Names {
     /// Takes no memory where the directory ever had the name and the file one, and copies the name where it is new. Expected
     /// constant time but for reading the name and for growing.
     pub fn put(&mut self, directory: FileId, name: &[u8], file: FileId) -> Result<(), AllocError>
-        ensures fresh { get self.old.names (directory, name.now) ≡ None → OnOk result (self.new ≡ edited (Added directory name.now file ∷ []) self.old) }
         ensures put { OnOk result (self.new ≡ edited (Removed directory name.now ∷ Added directory name.now file ∷ []) self.old) }
         ensures unchanged { OnErr result (self.new ≡ self.old) }
     {

@@ -69,7 +69,7 @@ impl Pages {
         match &mut self.list {
             PageList::One(page) => {
                 if count > 1 {
-                    let mut pages = Vec::new(alloc);
+                    let mut pages = Vec::with_capacity(alloc, count)?;
                     add_pages(alloc, &mut pages, count)?;
                     mem::swap(&mut pages[0], page);
                     self.list = PageList::Many(pages);

@@ -133,8 +133,8 @@ impl Slots {
         self.table.len()
     }
 
-    /// Puts a name at a place, for a file, since so many directories had been opened, and answers the file that the place had a
-    /// name for, if it had one. An error says that memory was refused for a place that had no slot, and nothing is changed.
+    /// Puts a name at a place, for a file, and answers the file that the place had a name for, if it had one; `born` is how many
+    /// directories had been opened. An error says that memory was refused for a place that had no slot, and nothing is changed.
     ///
     /// The name is copied where the place had no slot. Expected constant time, but for what growing costs.
     pub fn insert(
@@ -161,7 +161,8 @@ impl Slots {
         }
     }
 
-    /// Puts a name at a place that has none, as [`insert`](Slots::insert) does. While no name went, the place is not looked for.
+    /// Puts a name at a place that has none, as [`insert`](Slots::insert) does. While no name went, the place is looked for once
+    /// less.
     pub fn insert_free(
         &mut self,
         directory: FileId,
@@ -205,8 +206,7 @@ impl Slots {
         Ok(())
     }
 
-    /// Makes the name of a place one for this file, since so many directories had been opened, if the place has a slot. Takes no
-    /// memory, in expected constant time.
+    /// Puts a name at a place that has a slot, as [`insert`](Slots::insert) does. Takes no memory, in expected constant time.
     pub fn replace(&mut self, directory: FileId, name: &[u8], file: FileId, born: usize)
         ensures { IsChangedAt (directory, name.now) (option_map (λ _. There file born)) self.old.table.entries self.new.table.entries }
     {

@@ -2,7 +2,7 @@ pub mod SplitLemmas
 pub mod FieldLemmas
 pub mod WayLemmas
 pub mod PathLemmas
-pub mod PlainLemmas
+pub mod UnescapedLemmas
 pub mod FolderLemmas
 pub mod BodyLemmas
 pub mod AdditionLemmas

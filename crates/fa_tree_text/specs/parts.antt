@@ -1,7 +1,7 @@
 -- The vocabulary of the crate's private contracts.
 
 -- bytes that stand for themselves
-pub mod Plain
+pub mod Unescaped
 -- ways down a tree
 pub mod Ways
 -- directories that are kept

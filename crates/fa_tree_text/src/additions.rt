@@ -59,12 +59,12 @@ fn decode_body(
     }
 }
 
-/// Adds a new file to a tree, and answers whether it may be added. The last name of its path is decoded into `last`.
+/// Adds a new file to a tree, and answers whether it may be added. The last name of its path is decoded into `last_name`.
 fn add_file<'a>(
     alloc: Global,
     tree: &mut Tree,
     folders: &mut Folders<'a>,
-    last: &mut Vec<u8>,
+    last_name: &mut Vec<u8>,
     file: &FileFields<'a>,
 ) -> Result<bool, AllocError>
     requires in_range { file.now.bits ≤ all_bits }
@@ -72,13 +72,13 @@ fn add_file<'a>(
     ensures added { IfOk result (λ added. IsFileAdded added tree.old tree.new file.now.kind file.now.bits file.now.path.now (option_copied file.now.body)) }
     ensures kept { OnOk result (AreFound tree.new.store folders.new) }
 {
-    let Some(parent) = folders.parent_of(tree, file.path, last)? else {
+    let Some(parent) = folders.parent_of(tree, file.path, last_name)? else {
         return Ok(false);
     };
     let Some(body) = decode_body(alloc, file.kind, file.body)? else {
         return Ok(false);
     };
-    match tree.add(parent, last, file.kind, file.bits, &body) {
+    match tree.add(parent, last_name, file.kind, file.bits, &body) {
         Ok(added) => {
             folders.keep_parent(file.path, parent);
             folders.keep_added(file.path, file.kind, added);
@@ -89,24 +89,24 @@ fn add_file<'a>(
     }
 }
 
-/// Adds a further name to a tree, and answers whether it may be added. The last name of each path is decoded into `last`.
+/// Adds a further name to a tree, and answers whether it may be added. The last name of each path is decoded into `last_name`.
 fn add_name<'a>(
     tree: &mut Tree,
     folders: &mut Folders<'a>,
-    last: &mut Vec<u8>,
+    last_name: &mut Vec<u8>,
     name: &NameFields<'a>,
 ) -> Result<bool, AllocError>
     requires { AreFound tree.old.store folders.old }
     ensures added { IfOk result (λ added. IsNameAdded added tree.old tree.new name.now.path.now name.now.older.now) }
     ensures kept { OnOk result (AreFound tree.new.store folders.new) }
 {
-    let Some(file) = folders.file_at(tree, name.older, last)? else {
+    let Some(file) = folders.file_at(tree, name.older, last_name)? else {
         return Ok(false);
     };
-    let Some(parent) = folders.parent_of(tree, name.path, last)? else {
+    let Some(parent) = folders.parent_of(tree, name.path, last_name)? else {
         return Ok(false);
     };
-    match tree.add_link(parent, last, file) {
+    match tree.add_link(parent, last_name, file) {
         Ok(()) => {
             folders.keep_parent(name.path, parent);
             Ok(true)
@@ -117,12 +117,12 @@ fn add_name<'a>(
 }
 
 /// Adds what a line says, which stands without its line feed, and answers whether it may be added. The last names of paths are
-/// decoded into `last`.
+/// decoded into `last_name`.
 fn add_fields<'a>(
     alloc: Global,
     tree: &mut Tree,
     folders: &mut Folders<'a>,
-    last: &mut Vec<u8>,
+    last_name: &mut Vec<u8>,
     line: &'a [u8],
 ) -> Result<bool, AllocError>
     requires { AreFound tree.old.store folders.old }
@@ -130,19 +130,19 @@ fn add_fields<'a>(
     ensures kept { OnOk result (AreFound tree.new.store folders.new) }
 {
     match fields_of(line) {
-        Some(Fields::File(file)) => add_file(alloc, tree, folders, last, &file),
-        Some(Fields::Name(name)) => add_name(tree, folders, last, &name),
+        Some(Fields::File(file)) => add_file(alloc, tree, folders, last_name, &file),
+        Some(Fields::Name(name)) => add_name(tree, folders, last_name, &name),
         None => Ok(false),
     }
 }
 
 /// Adds what the line at the front says, and answers what stands behind it. None where no line stands there that may be added;
-/// the tree is then as it was. The last names of paths are decoded into `last`, whose memory serves from line to line.
+/// the tree is then as it was. The last names of paths are decoded into `last_name`, whose memory serves from line to line.
 pub(crate) fn add_line<'a>(
     alloc: Global,
     tree: &mut Tree,
     folders: &mut Folders<'a>,
-    last: &mut Vec<u8>,
+    last_name: &mut Vec<u8>,
     left: &'a [u8],
 ) -> Result<Option<&'a [u8]>, AllocError>
     requires { AreFound tree.old.store folders.old }
@@ -154,7 +154,7 @@ pub(crate) fn add_line<'a>(
     let Some((line, rest)) = split_at_byte(left, b'\n') else {
         return Ok(None);
     };
-    if add_fields(alloc, tree, folders, last, line)? {
+    if add_fields(alloc, tree, folders, last_name, line)? {
         Ok(Some(rest))
     } else {
         Ok(None)

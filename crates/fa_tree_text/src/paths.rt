@@ -5,7 +5,7 @@ ghost use Rattle.percent_encoding.specs.Percent.{percent_decode};
 ghost use Rattle.fa_tree.specs.declared.id.FileId.{FileId};
 ghost use Rattle.fa_tree.specs.State as state;
 ghost use Rattle.fa_tree_text.specs.Paths.{IsSpelledByte, HasHexDigit, HasWholeEscapes, IsSpelledName};
-ghost use Rattle.fa_tree_text.specs.parts.Plain.{IsPlainByte};
+ghost use Rattle.fa_tree_text.specs.parts.Unescaped.{IsUnescapedByte};
 ghost use Rattle.fa_tree_text.specs.parts.Ways.{Reaches, IsFileAt};
 
 use fa_bodies::{is_name, split_at_byte};
@@ -57,8 +57,8 @@ fn has_spelled_bytes(spelled: &[u8]) -> bool
 }
 
 /// Whether each byte of a spelled name may stand there, and stands for itself.
-fn is_plain(spelled: &[u8]) -> bool
-    ensures { IsTrue result ↔ All IsPlainByte spelled.now }
+fn is_unescaped(spelled: &[u8]) -> bool
+    ensures { IsTrue result ↔ All IsUnescapedByte spelled.now }
 {
     spelled
         .iter()
@@ -71,7 +71,7 @@ pub(crate) fn decode_name(spelled: &[u8], name: &mut Vec<u8>) -> Result<bool, Al
     ensures spelled { IfOk result (λ is_spelled. IsTrue is_spelled ↔ IsSpelledName spelled.now) }
 {
     name.clear();
-    if is_plain(spelled) {
+    if is_unescaped(spelled) {
         name.extend_from_slice(spelled)?;
         return Ok(is_name(name));
     }

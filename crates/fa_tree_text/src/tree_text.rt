@@ -75,9 +75,9 @@ pub fn read_tree(alloc: Global, bytes: &[u8]) -> Result<Tree, TextError>
     };
     let mut tree = Tree::empty(alloc, bits)?;
     let mut folders = Folders::new();
-    let mut last = Vec::new(alloc);
+    let mut last_name = Vec::new(alloc);
     let mut line = 3;
-    while let Some(rest) = add_line(alloc, &mut tree, &mut folders, &mut last, left)? {
+    while let Some(rest) = add_line(alloc, &mut tree, &mut folders, &mut last_name, left)? {
         left = rest;
         line += 1;
     }

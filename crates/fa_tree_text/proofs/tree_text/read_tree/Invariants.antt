@@ -3,8 +3,8 @@ use Rattle.fa_tree_text.specs.parts.Folders.{AreFound}
 use Rattle.fa_tree_text.proofs.TreeLemmas.{IsTreeSoFar}
 use Rattle.fa_tree_text.proofs.tree_text.read_tree.Given as goal
 
-abbrev pub invariant-loop-last : goal.invariant-loop-last
-invariant-loop-last l = record { so_far : IsTreeSoFar l.bytes l.bits l.tree l.left l.line; found : AreFound l.tree.store l.folders }
+abbrev pub invariant-loop-last_name : goal.invariant-loop-last_name
+invariant-loop-last_name l = record { so_far : IsTreeSoFar l.bytes l.bits l.tree l.left l.line; found : AreFound l.tree.store l.folders }
 
-abbrev pub decreases-loop-last : goal.decreases-loop-last
-decreases-loop-last l = length l.left
+abbrev pub decreases-loop-last_name : goal.decreases-loop-last_name
+decreases-loop-last_name l = length l.left

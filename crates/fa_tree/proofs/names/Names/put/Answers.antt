@@ -1,11 +1,10 @@
 use Rattle.std.proofs.Common.{◌∷◌, [], ap, subst, sym, ◌∙◌, arith}
 use Rattle.fa_tree.specs.Edits.Edit.{Added, Removed}
-use Rattle.fa_tree.specs.parts.NameParts.{edited, StaysThere}
+use Rattle.fa_tree.specs.parts.NameParts.{edited}
 use Rattle.fa_tree.specs.parts.SlotParts.{names_shown}
 use Rattle.fa_tree.specs.parts.HolderParts.{held, AreCounted}
-use Rattle.fa_tree.proofs.EditedLemmas.{edited_put_free}
 use Rattle.fa_tree.proofs.HolderLemmas.{names_few, same_counted}
-use Rattle.fa_tree.proofs.ViewLemmas.{names_put, shown_put, shown_stays, within_put}
+use Rattle.fa_tree.proofs.ViewLemmas.{names_put, shown_put, within_put}
 use Rattle.fa_tree.proofs.names.Names.put.Goals as goal
 
 pub invariant_of-self-in_err-old : goal.invariant_of-self-in_err-old
@@ -50,8 +49,3 @@ returns-clause-put c =
     shown_put c.self.inside.slots.table.entries c.insert.new.self.table.entries c.args.directory c.args.name.now c.args.file c.len-born.result c.in_ok-old.ensures.put
     c.self.inside.openings (omega arith)
     ∙ ap (edited (Removed c.args.directory c.args.name.now ∷ Added c.args.directory c.args.name.now c.args.file ∷ [])) c.self.view_is
-
-pub returns-clause-fresh : goal.returns-clause-fresh
-returns-clause-fresh c = λ free.
-    let stays = subst StaysThere c.self.view_is (shown_stays c.self.inside.slots.table.entries c.self.inside.openings) in
-    returns-clause-put c ∙ edited_put_free c.args.self.now stays c.args.directory c.args.name.now c.args.file free

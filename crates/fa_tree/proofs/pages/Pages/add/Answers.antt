@@ -10,4 +10,4 @@ returns-in_ok-add_pages-in-One-clause-same c =
     let now : c.match-self-2.self ≡ set pages 0 c.swap.new.x = search rules in
     let before : page ∷ [] ≡ c.args.self.now = search rules in
     let many : 0 < length pages = omega (arith, c.in_ok-add_pages-in-One.ensures.added, c.if-count-gt1.true) in
-    rw (now, c.swap.ensures.x_after, sym before) (bytes_first page pages (subst (SameBytes pages) c.new-pages.ensures.items c.in_ok-add_pages-in-One.ensures.same) many)
+    rw (now, c.swap.ensures.x_after, sym before) (bytes_first page pages (subst (SameBytes pages) c.in_ok-pages-in-One.ensures.items c.in_ok-add_pages-in-One.ensures.same) many)

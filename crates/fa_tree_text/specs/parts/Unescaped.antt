@@ -4,5 +4,5 @@ use Rattle.percent_encoding.specs.Percent.{percent_sign}
 use Rattle.fa_tree_text.specs.Paths.{IsSpelledByte}
 
 -- a byte that a spelled name may have, and that begins no escape
-abbrev pub IsPlainByte : ℕ → Type 0
-IsPlainByte b = IsSpelledByte b × (b ≢ percent_sign)
+abbrev pub IsUnescapedByte : ℕ → Type 0
+IsUnescapedByte b = IsSpelledByte b × (b ≢ percent_sign)
