@@ -21,7 +21,7 @@ pub struct ReplyHead {
 pub enum Reply<'a> {
     /// The request failed with this error number, which is below 0.
     Refused(i32),
-    /// It is done, and there is no more to say: UNLINK, RMDIR, RENAME, RELEASE, RELEASEDIR, FLUSH.
+    /// It is done, and there is no more to say: UNLINK, RMDIR, RENAME, RENAME2, RELEASE, RELEASEDIR, FLUSH.
     Empty,
     /// The file of a name: LOOKUP, SYMLINK, MKNOD, MKDIR, LINK. To LOOKUP the node id 0 says that the
     /// name is not there.
