@@ -20,7 +20,7 @@ equal_or_not a b = elim (nat_eq a b) as (λ t. nat_eq a b ≡ t → ((t ≡ true
 nothing_is_none : (w : Waiting) → ◌≡◌ {A = Option Waiting} None (Some w) → ⊥
 nothing_is_none w is = absurd cc
 
--- the newest one has the unique that is asked for
+-- the request of the highest unique has the unique that is asked for
 pub newest_there : (newest : Option Waiting) (unique : ℕ) → option_map_or (λ w. nat_eq w.request.unique unique) newest false ≡ true
     → (w : Waiting) × (newest ≡ Some w) × (w.request.unique ≡ unique)
 newest_there None unique is = absurd cc
@@ -34,7 +34,7 @@ newest_other (Some newest) unique not w is =
     let same : newest ≡ w = same_Some newest w is in
     subst (λ (x : Waiting). x.request.unique ≡ unique → ⊥) same (eqb-false newest.request.unique unique not)
 
--- without the newest one
+-- without the one of the highest unique
 pub without_newest : (o p : Outstanding) → AreOutstanding o → p.newest ≡ None → p.earlier ≡ o.earlier → p.highest ≡ o.highest → AreOutstanding p
 without_newest o p are none earlier highest = record {
   own = subst (λ t. (unique : ℕ) (w : Waiting) → lookup (nat_eq unique) t.entries ≡ Some w → w.request.unique ≡ unique) (sym earlier) are.own;
@@ -91,7 +91,7 @@ module _ (o p : Outstanding) (are : AreOutstanding o) where
     | inr apart ↦ law ∙ ap (λ b. cond b (Some n) (lookup (nat_eq other) o.earlier.entries)) apart.0 ∙ none
   ]
 
-  -- a request with a unique above all, where the newest one so far comes into the table
+  -- a request with a unique above all, where the one of the highest unique so far comes into the table
   pub above_moved : (n w : Waiting) → o.newest ≡ Some n → o.highest < w.request.unique → p.newest ≡ Some w → p.highest ≡ w.request.unique
       → ((other : ℕ) → lookup (nat_eq other) p.earlier.entries ≡ cond (nat_eq n.request.unique other) (Some n) (lookup (nat_eq other) o.earlier.entries))
       → AreOutstanding p
@@ -113,7 +113,7 @@ module _ (o p : Outstanding) (are : AreOutstanding o) where
     newest_within = λ x is. subst (λ (y : Waiting). y.request.unique ≤ p.highest) (same_Some w x (sym newest ∙ is)) (omega (arith, highest));
   }
 
-  -- a request in the place of the newest one
+  -- a request in the place of the one of the highest unique
   pub newest_replaced : (w : Waiting) → option_map_or (λ x. nat_eq x.request.unique w.request.unique) o.newest false ≡ true → w.request.unique ≤ o.highest
       → p.newest ≡ Some w → p.highest ≡ o.highest → p.earlier ≡ o.earlier → AreOutstanding p
   newest_replaced w has below newest highest earlier =

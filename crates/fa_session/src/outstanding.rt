@@ -13,16 +13,16 @@ use std::marker::Model;
 
 /// The requests that wait for their answers, by their uniques.
 ///
-/// That of the highest unique so far is kept apart from the table of the others. The kernel gives rising uniques, so it is the
-/// newest one then: the table is empty, and is not asked, where each request is answered before the next one is sent. And a
+/// That of the highest unique so far is kept apart from the table of the others. Where uniques rise, as the kernel gives them, it
+/// is the newest one too: the table is empty, and is not asked, where each request is answered before the next one is sent. And a
 /// unique above all before is not looked for.
 #[derive(Drop)]
 pub(crate) struct Outstanding<'a> {
-    /// The request of the highest unique, if it waits.
+    /// The request of the highest unique so far, if it waits. It is the newest one only where uniques rise.
     newest: Option<Waiting<'a>>,
-    /// The others, nearly all of which came earlier.
+    /// Those of lower uniques, which came earlier where uniques rise.
     earlier: IndexMap<u64, Waiting<'a>>,
-    /// The highest unique that a request had.
+    /// The highest unique that a request had, or 0.
     highest: u64,
 }
 
