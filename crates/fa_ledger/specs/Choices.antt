@@ -6,8 +6,8 @@ use Rattle.fa_ledger.specs.Operations.{PlainOperation}
 use Rattle.fa_ledger.specs.Operations.PlainAction.{Write}
 use Rattle.fa_ledger.specs.Operations.PlainOperation.{Acts}
 
--- An order may take an unanswered request as done so: a WRITE with a count of at most its size, any other that changes the tree without
--- one. What only reads changes nothing and is left out.
+-- An order may take an unanswered request as done so: a WRITE with a count of at most its size, any other that may change what is stored
+-- without one. What only reads changes nothing of it and is left out.
 abbrev pub MayBePlaced : PlainOperation → Option ℕ → Type 0
 MayBePlaced (Acts (Write offset size payload o)) wrote = (count : ℕ) × (wrote ≡ Some count) × (count ≤ size)
 MayBePlaced o wrote = (OnlyReads o → ⊥) × (wrote ≡ None)

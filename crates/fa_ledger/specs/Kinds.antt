@@ -1,4 +1,4 @@
--- Kinds of requests: which act on the tree, and which of those leave it as it is (this profile).
+-- Kinds of requests: which act on the tree, and which of those leave what is stored, the names and the files, as it is (this profile).
 use Rattle.std.specs.Prelude.{◌⊎◌, Option, None, IsSome}
 use Rattle.fa_bodies.specs.Requests.{PlainBody}
 use Rattle.fa_ledger.specs.declared.operation.Outcome.{Outcome}
@@ -11,7 +11,8 @@ use Rattle.fa_ledger.specs.Operations.PlainOperation.{Lists, Acts}
 abbrev pub IsTreeRequest : PlainBody → Type 0
 IsTreeRequest body = IsSome (operation_of body None)
 
--- an action that only asks, and leaves the tree as it is, whatever came of it
+-- An action that only asks, and leaves what is stored as it is, whatever came of it. The nodes that are known and the open directories are
+-- not stored: LOOKUP may add one of the first, OPENDIR one of the second.
 abbrev pub Reads : PlainAction → Type 0
 Reads (Lookup name o) = Unit {0}
 Reads (Getattr o) = Unit {0}
@@ -30,6 +31,6 @@ abbrev pub IsFailure : Outcome (Unit {0}) → Type 0
 IsFailure (Fails error) = Unit {0}
 IsFailure other = ⊥
 
--- a request that came to this leaves the tree as it is: it failed, or it only reads
+-- a request that came to this leaves what is stored as it is: it failed, or it only reads
 abbrev pub KeepsTree : PlainOperation → Type 0
 KeepsTree o = IsFailure (ended o) ⊎ OnlyReads o

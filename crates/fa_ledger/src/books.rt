@@ -57,7 +57,7 @@ pub(crate) struct Books<'a> {
 pub(crate) struct Names {
     /// That of the node of its header.
     pub node: NodeName,
-    /// That of the new directory of RENAME, and of the file of LINK.
+    /// That of the new directory of RENAME and RENAME2, and of the file of LINK.
     pub other: Option<NodeName>,
 }
 

@@ -88,8 +88,8 @@ pub struct Call<'a> {
 
 impl Call<'_> {
     /// Whether an order may name the request with this count of bytes written, or without one: an answered request
-    /// without one; one that was not answered and changes the tree without one as well, but for a WRITE, which has a
-    /// count of at most its size; one that only reads, and was not answered, not at all (this profile).
+    /// without one; one that was not answered and may change what is stored without one as well, but for a WRITE, which
+    /// has a count of at most its size; one that only reads, and was not answered, not at all (this profile).
     ///
     /// Takes no memory, in constant time.
     pub fn allows(&self, wrote: Option<u32>) -> bool

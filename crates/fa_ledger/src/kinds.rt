@@ -7,7 +7,8 @@ ghost use Rattle.fa_ledger.specs.Operations.{operation_shown};
 use crate::operation::{Action, Operation, Outcome};
 
 impl Operation<'_> {
-    /// Whether it asks, and leaves the tree as it is, whatever came of it (this profile).
+    /// Whether it only asks, and leaves what is stored, the names and the files, as it is, whatever came of it (this profile).
+    /// Nodes and open directories are not stored: a LOOKUP may add one of the first, an OPENDIR one of the second.
     ///
     /// Takes no memory, in constant time.
     pub fn only_reads(&self) -> bool
@@ -26,7 +27,7 @@ impl Operation<'_> {
         }
     }
 
-    /// Whether a request that came to this leaves the tree as it is: it failed, or it only reads.
+    /// Whether a request that came to this leaves what is stored, the names and the files, as it is: it failed, or it only reads.
     ///
     /// Takes no memory, in constant time.
     pub fn keeps_tree(&self) -> bool

@@ -60,8 +60,8 @@ impl<'a> Ledger<'a> {
     /// node id: the node's lookup count rises by one. FORGET and each item of BATCH_FORGET, in their order, take `nlookup`
     /// back (`struct fuse_forget_in` and `struct fuse_forget_one` of `fuse.h`). The root, node 1, is always known, and a
     /// forget of it takes nothing. A node has the name of the reply since which its count has been positive. A request names
-    /// the node of its header, RENAME `newdir` and LINK `oldnodeid` too; FORGET, BATCH_FORGET, INIT and
-    /// [`RequestBody::Passed`](fa_bodies::RequestBody::Passed) name none.
+    /// the node of its header, RENAME and RENAME2 `newdir` and LINK `oldnodeid` too; FORGET, BATCH_FORGET, INIT and
+    /// [`RequestBody::Passed`](fa_bodies::RequestBody::Passed), as a RENAME2 with flags that are not judged, name none.
     ///
     /// **File handles.** A key is a node's name, a number `fh` and whether a file or a directory is open. A success of OPEN
     /// or OPENDIR opens the key under the name that its node had when it was asked, CREATE under that of the node which it
