@@ -91,8 +91,9 @@ impl Contents {
     }
 
     /// Writes bytes at an offset, with zeros between the end and the offset; writing none changes nothing. An error says that
-    /// memory was refused, and nothing is changed. Time in the bytes written, and a constant for each page in front of them that
-    /// was not there yet: of the zeros only those are stored that are in one page with bytes written, less than a page of them.
+    /// memory was refused, or that the bytes would end at 2^64 or behind it, which no memory holds; nothing is changed. Time in the
+    /// bytes written, and a constant for each page in front of them that was not there yet: of the zeros only those are stored that
+    /// are in one page with bytes written, less than a page of them.
     pub fn write(&mut self, offset: u64, payload: &[u8]) -> Result<(), AllocError>
         ensures written { OnOk result (self.new ≡ written self.old offset payload.now) }
         ensures unchanged { OnErr result (self.new ≡ self.old) }
@@ -109,8 +110,8 @@ impl Contents {
         Ok(())
     }
 
-    /// Cuts the bytes to this length, or fills them with zeros up to it. An error would say that memory was refused, and nothing
-    /// is changed; there is none, since it takes no memory. Constant time, and a constant for each page that is cut: at most those
+    /// Cuts the bytes to this length, or fills them with zeros up to it. No length is refused, since it takes no memory; an error
+    /// would leave all as it was. Constant time, and a constant for each page that is cut: at most those
     /// that were written or grown over. These keep their memory for what is written next, as a `Vec` keeps its capacity.
     pub fn resize(&mut self, size: u64) -> Result<(), AllocError>
         ensures resized { OnOk result (self.new ≡ resized self.old size) }

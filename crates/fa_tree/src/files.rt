@@ -98,7 +98,8 @@ impl Files {
     }
 
     /// Writes bytes at an offset of a file, if it is there, with zeros between its end and the offset. An error says that
-    /// memory was refused, and nothing is changed. Time in the bytes written.
+    /// memory was refused, or that the bytes would end at 2^64 or behind it, which no memory holds; nothing is changed. Time as
+    /// `Contents::write` has it.
     pub fn write(&mut self, id: FileId, offset: u64, payload: &[u8]) -> Result<(), AllocError>
         ensures written { OnOk result (self.new ≡ with_file self.old id (with_bytes (λ bytes. written bytes offset payload.now))) }
         ensures unchanged { OnErr result (self.new ≡ self.old) }
@@ -109,8 +110,8 @@ impl Files {
         }
     }
 
-    /// Cuts a file to this length, or fills it with zeros up to it, if it is there. An error says that memory was refused, and
-    /// nothing is changed.
+    /// Cuts a file to this length, or fills it with zeros up to it, if it is there. No length is refused: it takes no memory, as
+    /// `Contents::resize` does. An error would leave all as it was.
     pub fn resize(&mut self, id: FileId, size: u64) -> Result<(), AllocError>
         ensures resized { OnOk result (self.new ≡ with_file self.old id (with_bytes (λ bytes. resized bytes size))) }
         ensures unchanged { OnErr result (self.new ≡ self.old) }

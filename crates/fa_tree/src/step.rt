@@ -79,7 +79,8 @@ impl Tree {
     /// [`LISTING`](fa_capture::codes::LISTING) that entries are not what the rule of listings allows.
     /// `Memory` tells that memory was refused. The tree is then as it was.
     ///
-    /// Errors, GETATTR, READLINK, READ, OPEN, UNLINK, RMDIR and SETATTR without a size take no memory. Time and memory otherwise
+    /// Errors, GETATTR, READLINK, READ, OPEN, UNLINK, RMDIR, SETATTR without a size and RENAME2 with `RENAME_EXCHANGE` take no
+    /// memory. Time and memory otherwise
     /// in the bytes of names and targets, and in those that are read and written; where a directory is moved, time in the
     /// directories on the way up too. READDIR and READDIRPLUS take time and memory in the names that were listed so far (this
     /// profile), and at the end of a listing time in the places that the directory ever had.
