@@ -30,7 +30,7 @@ abbrev pub wrote_without : PlainOperation → Option ℕ → Option ℕ
 wrote_without (Acts (Write offset size payload (Succeeds count))) wrote = Some count
 wrote_without other wrote = wrote
 
--- The entry goes: it names no tree request, or one that was answered late and leaves the tree as it is.
+-- The entry goes: it names no tree request, or one that was answered late and leaves what is stored as it is.
 abbrev pub Goes : List Message → (m : ℕ) → Entry → Type 0
 Goes c m e =
     (IsTreeRequestAt c e.at → ⊥) ⊎ ((o : PlainOperation) × IsAnsweredLate c m e.at o × KeepsTree o)
@@ -39,7 +39,7 @@ Goes c m e =
 abbrev pub StaysSame : List Message → (m : ℕ) → (e left : Entry) → Type 0
 StaysSame c m e left = ((q : ℕ) → IsAnsweredBy c e.at q → q < m) × (left ≡ e)
 
--- The entry stays without its request's answer, which is late: with that the request may have changed the tree.
+-- The entry stays without its request's answer, which is late: with that the request may have changed what is stored.
 abbrev pub StaysUnanswered : List Message → (m : ℕ) → (e left : Entry) → Type 0
 StaysUnanswered c m e left =
     (o : PlainOperation) × IsAnsweredLate c m e.at o × (KeepsTree o → ⊥) × (left ≡ record { at = e.at; wrote = wrote_without o e.wrote })
