@@ -45,7 +45,7 @@ pub record IsCandidate (c : List Message) (es : List Entry) (call : PlainCall) :
 
 -- ---- in which order they are tried
 
--- The rank of a call. Answered calls that leave the tree as it is are tried first, then the other answered ones, both by the
+-- The rank of a call. Answered calls that leave what is stored as it is are tried first, then the other answered ones, both by the
 -- places of their answers; and last those without an answer, by their own places.
 abbrev pub IsRankIn : Group → (position : ℕ) → PlainCall → Type 0
 IsRankIn Unchanging position call = (answer : PlainAnswer) × (call.answer ≡ Some answer) × KeepsTree call.operation × (position ≡ answer.at)

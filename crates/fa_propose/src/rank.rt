@@ -8,7 +8,7 @@ use fa_ledger::Call;
 /// The groups of calls, in the order in which they are tried.
 #[derive(Clone, Copy, Debug, PartialEq, Eq, PartialOrd, Ord, Hash)]
 pub(crate) enum Group {
-    /// Answered, and it leaves the tree as it is: it only reads, or it was refused.
+    /// Answered, and it leaves what is stored as it is: it only reads, or it was refused.
     Unchanging,
     /// Answered with the success of a changing request.
     Changing,
