@@ -9,8 +9,7 @@ pub enum StepError {
     /// The tree does not allow it: the code of the first check that fails, one of [`codes`](fa_capture::codes).
     #[error("not allowed, by code {0}")]
     Refused(u16),
-    /// Memory for a file, its bytes, a name, a node or an open directory, or for what was listed so far, was refused; so is a
-    /// WRITE whose bytes would end at 2^64 or behind it, which no memory holds.
+    /// Memory for a file, its bytes, a name, a node or an open directory, or for what was listed so far, was refused.
     #[error("out of memory")]
     Memory,
 }
