@@ -1,5 +1,5 @@
 #!/usr/bin/env bash
-# Records servers that are installed, has each capture judged, and prints the table of the recorder's page:
+# Records servers that are installed, has each capture judged, and prints a table of what came of it:
 # recorder/servers.sh [PROGRAM]. It needs root and /dev/fuse, and is no part of the gate. A server that is not installed has no row.
 set -uo pipefail
 here="$(cd "$(dirname "$0")" && pwd)"
