@@ -1,5 +1,5 @@
 -- The bytes of a file as they are read and written, and the pages that they are in.
-use Rattle.std.proofs.Common.{◌≡◌, ◌↔◌, ℕ, zero, suc, ◌+◌, ◌-◌, ◌<◌, ◌≤◌, ◌/◌, ◌%◌, ◌⊎◌, ◌==◌, true, false, List, [], ◌∷◌, ◌++◌, length, replicate, take, drop, set, get_or, min, max, inl, inr, refl, sym, ap, ◌∙◌, arith, zero-add, length-append}
+use Rattle.std.proofs.Common.{◌≡◌, ◌↔◌, ℕ, zero, suc, ◌+◌, ◌-◌, ◌*◌, ◌<◌, ◌≤◌, ◌/◌, ◌%◌, ◌⊎◌, ◌==◌, true, false, List, [], ◌∷◌, ◌++◌, length, replicate, take, drop, set, get_or, min, max, inl, inr, refl, sym, ap, ◌∙◌, arith, zero-add, length-append}
 use Rattle.std.proofs.lemmas.List.{length-take, take-append-drop, length-replicate, length-drop, get_or-take, get_or-drop, get_or_past, get_or-replicate, get_or_append_left, get_or-append_right, get_or-set_same, get_or-set_other, get_or_push, length_push, ext_get_or}
 use Rattle.std.proofs.lemmas.List.FromFn.{length-map-range_with_len, get_or-map-range_with_len}
 use Rattle.std.proofs.lemmas.Bool.{cases_lt, cases_eq}
@@ -107,6 +107,10 @@ page_same : (pages : List (List ℕ)) (i k : ℕ) → i / 4096 ≡ k / 4096 → 
 unfolding page_at
 page_same pages i k same = ap (λ n. get_or pages n []) same
 
+page_of : (pages : List (List ℕ)) (i k : ℕ) → i / 4096 ≡ k → page_at pages i ≡ get_or pages k []
+unfolding page_at
+page_of pages i k here = ap (λ n. get_or pages n []) here
+
 byte_in : (pages : List (List ℕ)) (page : List ℕ) (i : ℕ) → page_at pages i ≡ page → byte_at pages i ≡ get_or page (i % 4096) 0
 unfolding byte_at
 byte_in pages page i is = ap (λ p. get_or p (i % 4096) 0) is
@@ -117,6 +121,44 @@ byte_here pages page k i here within = byte_in (set pages k page) page i (page_h
 byte_other : (pages : List (List ℕ)) (page : List ℕ) (k i : ℕ) → (i / 4096 ≡ k → ⊥) → byte_at (set pages k page) i ≡ byte_at pages i
 unfolding byte_at
 byte_other pages page k i other = ap (λ p. get_or p (i % 4096) 0) (page_other pages page k i other)
+
+-- a page that has the same bytes as the one in whose place it stands
+pub page_alike : (pages : List (List ℕ)) (page : List ℕ) (k : ℕ) → k < length pages → ((i : ℕ) → get_or page i 0 ≡ get_or (get_or pages k []) i 0) → SameBytes (set pages k page) pages
+page_alike pages page k within same i = elim (cases_eq (i / 4096) k) [
+  | inl here ↦ byte_here pages page k i here within ∙ (same (i % 4096) ∙ sym (byte_in pages (get_or pages k []) i (page_of pages i k here)))
+  | inr other ↦ byte_other pages page k i other
+]
+
+-- behind the pages that there are all bytes are zeros
+pub zero_past : (pages : List (List ℕ)) → IsZeroFrom pages (length pages * 4096)
+unfolding byte_at page_at
+zero_past pages i behind =
+    let past : length pages ≤ i / 4096 = omega arith in
+    ap (λ page. get_or page (i % 4096) 0) (get_or_past pages (i / 4096) [] past)
+
+-- pages behind which all bytes are zeros have the same bytes without what is behind them
+pub front_same : (pages : List (List ℕ)) (count : ℕ) → IsZeroFrom pages (count * 4096) → SameBytes (take count pages) pages
+unfolding byte_at page_at
+front_same pages count zeros i = elim (cases_lt (i / 4096) count) [
+  | inl front ↦ ap (λ page. get_or page (i % 4096) 0) (get_or-take count pages (i / 4096) [] front)
+  | inr behind ↦
+      let few : length (take count pages) ≤ i / 4096 = simp length-take (omega arith) in
+      let none : get_or (get_or (take count pages) (i / 4096) []) (i % 4096) 0 ≡ 0 = ap (λ page. get_or page (i % 4096) 0) (get_or_past (take count pages) (i / 4096) [] few) in
+      none ∙ sym (zeros i (omega arith))
+]
+
+-- what is left of them, and what has the bytes of that
+pub left_same : (pages before left now : List (List ℕ)) (count : ℕ) → pages ≡ before → IsZeroFrom before (count * 4096) → left ≡ take count pages → SameBytes now left → SameBytes now before
+left_same pages before left now count is zeros front same i =
+    same i ∙ ap (λ p. byte_at p i) (front ∙ ap (take count) is) ∙ front_same before count zeros i
+
+-- where a page is taken from the end of no more than one, it is all of them
+pub last_alone : (page : List ℕ) (left all : List (List ℕ)) → all ≡ left ++ page ∷ [] → length all ≤ 1 → page ∷ [] ≡ all
+last_alone page [] all is few = sym is
+last_alone page (first ∷ left) all is few =
+    let long = length_push left page in
+    let size : length all ≡ length (first ∷ (left ++ page ∷ [])) = ap length is in
+    absurd (omega (arith, few, size, long))
 
 -- a byte that is stored is in a page that there is
 pub stored_within : (pages : List (List ℕ)) (i : ℕ) → i % 4096 < length (page_at pages i) → i / 4096 < length pages

@@ -153,9 +153,24 @@ fn are_from(pages: &Pages, start: usize, bytes: &[u8]) -> bool
     true
 }
 
-/// Makes pages store the bytes from one place up to another. All are as they were, after an error too. Time in the bytes that were
-/// not stored, and in the pages that are added.
+/// Makes pages store the bytes from one place up to another. All are as they were, after an error too, which gives back the memory
+/// that was taken before it. Time in the bytes that were not stored, and in the pages that are added.
 fn store(alloc: Global, pages: &mut Pages, start: usize, end: usize) -> Result<(), AllocError>
+    ensures same { SameBytes pages.new pages.old }
+    ensures stored { OnOk result (IsStored pages.new start end) }
+{
+    let count = pages.len();
+    match store_each(alloc, pages, start, end) {
+        Ok(()) => Ok(()),
+        Err(error) => {
+            pages.give_back(count, start / PAGE);
+            Err(error)
+        }
+    }
+}
+
+/// Makes pages store the bytes from one place up to another, page by page, as [`store`] does. What was taken before an error is kept.
+fn store_each(alloc: Global, pages: &mut Pages, start: usize, end: usize) -> Result<(), AllocError>
     ensures same { SameBytes pages.new pages.old }
     ensures stored { OnOk result (IsStored pages.new start end) }
 {

@@ -74,6 +74,15 @@ impl Page {
         self.bytes.truncate(size);
     }
 
+    /// Stores no zeros at the end, and gives back the memory behind what is left: the bytes are the same. Takes no memory but to move
+    /// what is left into less of it, and time in the bytes that are stored.
+    pub fn give_back(&mut self)
+        ensures { (i : ℕ) → get_or self.new i 0 ≡ get_or self.old i 0 }
+    {
+        drop_zeros(&mut self.bytes);
+        self.bytes.shrink_to_fit();
+    }
+
     /// Whether these are the bytes from this place on. Takes no memory, and time in their number.
     pub fn has(&self, at: usize, part: &[u8]) -> bool
         ensures { IsTrue result ↔ IsPart self.now at part.now }
@@ -82,6 +91,16 @@ impl Page {
         let rest = &bytes[bytes.len().min(at)..];
         let stored = rest.len().min(part.len());
         part[..stored] == rest[..stored] && are_zeros(&part[stored..])
+    }
+}
+
+/// Takes the zeros at the end away. Takes no memory, and time in their number.
+fn drop_zeros(bytes: &mut Vec<u8>)
+    ensures same { (i : ℕ) → get_or bytes.new.items i 0 ≡ get_or bytes.old.items i 0 }
+    ensures fewer { length bytes.new.items ≤ length bytes.old.items }
+{
+    while bytes.last() == Some(&0) {
+        bytes.pop();
     }
 }
 

@@ -1,7 +1,7 @@
 //! The pages that the bytes of a file are in.
 
-ghost use Rattle.std.specs.Prelude.{◌≡◌, ◌↔◌, ◌+◌, ◌<◌, ◌≤◌, [], ◌∷◌, get_or, length, set, take, IfOk, IsTrue, OnOk};
-ghost use Rattle.fa_tree.specs.parts.PageParts.{IsPart, with_part, SameBytes, IsGrown};
+ghost use Rattle.std.specs.Prelude.{◌≡◌, ◌↔◌, ◌+◌, ◌*◌, ◌<◌, ◌≤◌, [], ◌∷◌, get_or, length, set, take, IfOk, IsTrue, OnOk};
+ghost use Rattle.fa_tree.specs.parts.PageParts.{IsPart, with_part, IsZeroFrom, SameBytes, IsGrown};
 
 use crate::page::{Page, are_zeros};
 use std::alloc::{AllocError, Global};
@@ -138,6 +138,41 @@ impl Pages {
                 page.cut(size);
             }
         }
+    }
+
+    /// Leaves so many pages, where those behind them store zeros alone, and gives back what a page at this place or behind it stores
+    /// of zeros at its end: all bytes are as they were. Where one page is left, it takes no memory for a list. Takes no memory but to
+    /// move what a page stores into less of it, and time in the bytes that the pages store.
+    pub fn give_back(&mut self, count: usize, from: usize)
+        requires { IsZeroFrom self.old (count * 4096) }
+        ensures { SameBytes self.new self.old }
+    {
+        match &mut self.list {
+            PageList::One(page) => page.give_back(),
+            PageList::Many(pages) => {
+                pages.truncate(count);
+                pages.shrink_to_fit();
+                give_back_from(pages, from);
+                if count == 1 {
+                    if let Some(page) = pages.pop() {
+                        self.list = PageList::One(page);
+                    }
+                }
+            }
+        }
+    }
+}
+
+/// Gives back what the pages from this place on store of zeros at their ends, as `Pages::give_back` does.
+fn give_back_from(pages: &mut Vec<Page>, from: usize)
+    ensures same { SameBytes pages.new.items pages.old.items }
+    ensures as_many { length pages.new.items ≡ length pages.old.items }
+{
+    let mut place = from;
+    while place < pages.len() {
+        let page = &mut pages[place];
+        page.give_back();
+        place += 1;
     }
 }
 

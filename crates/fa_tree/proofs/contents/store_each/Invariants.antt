@@ -1,6 +1,6 @@
 use Rattle.std.proofs.Common.{◌-◌, ◌≤◌, ◌+◌, ◌/◌, ◌%◌, length, min}
 use Rattle.fa_tree.specs.parts.PageParts.{SameBytes, IsStored}
-use Rattle.fa_tree.proofs.contents.store.Given as goal
+use Rattle.fa_tree.proofs.contents.store_each.Given as goal
 
 abbrev pub invariant-loop-at : goal.invariant-loop-at
 invariant-loop-at l = record {
