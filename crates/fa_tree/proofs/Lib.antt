@@ -10,6 +10,7 @@ pub mod FileLemmas
 pub mod HolderLemmas
 pub mod JudgeLemmas
 pub mod JudgingLemmas
+pub mod KeptLemmas
 pub mod KnownLemmas
 pub mod LawLemmas
 pub mod ListingLemmas

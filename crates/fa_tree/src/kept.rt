@@ -1,17 +1,16 @@
-//! What was listed so far on the handles that were listed last.
+//! What was listed so far on the handles that are being listed.
 
-ghost use Rattle.std.specs.Prelude.{◌≡◌, ◌⊎◌, ◌<◌, ◌≤◌, ℕ, nat_eq, [], Some, length};
+ghost use Rattle.std.specs.Prelude.{◌≡◌, ◌⊎◌, ◌+◌, ◌<◌, ◌≤◌, ℕ, nat_eq, [], Some, length};
 ghost use Rattle.std.specs.Map.{lookup};
 ghost use Rattle.fa_tree.specs.declared.kept.ListedSoFar.{ListedSoFar as TheListed};
-ghost use Rattle.fa_tree.specs.declared.kept.TheConstants.{MAX_KEPT};
-ghost use Rattle.fa_tree.specs.parts.KeptParts.{AreAmong};
+ghost use Rattle.fa_tree.specs.parts.KeptParts.{AreAmong, size_of_listing, size_of_listings};
 
 use crate::tally::Tally;
 use indexmap::IndexMap;
 use std::alloc::Global;
 
-/// It is kept for so many handles at most.
-pub(crate) const MAX_KEPT: usize = 16;
+/// A listing takes as much memory as so many names, beside its own.
+const PER_LISTING: usize = 16;
 
 /// What was listed so far for a call, without its own answer.
 #[derive(Drop)]
@@ -21,15 +20,25 @@ pub(crate) struct ListedSoFar<'c> {
     pub tally: Tally<'c>,
 }
 
+impl ListedSoFar<'_> {
+    /// For how many names it takes room: its own, and [`PER_LISTING`]. Takes no memory, in constant time.
+    fn size(&self) -> usize
+        ensures { result ≡ size_of_listing self.now }
+    {
+        self.tally.len() + PER_LISTING
+    }
+}
+
 /// For handles of directories, by the numbers of the requests that opened them, what was listed so far for a call on them.
 ///
-/// No call tells that a handle is closed, so what is kept for all of them would grow without end. It is kept for [`MAX_KEPT`]
-/// handles at most, those that were listed on last.
+/// No call tells that a handle is closed, so what is kept for all of them would grow without end. Whoever keeps something says for
+/// how many names there is room in all, where each listing counts as some more.
 #[derive(Drop)]
 pub(crate) struct Kept<'c> {
-    /// What was kept earlier before what was kept later.
     pub by_handle: IndexMap<u32, ListedSoFar<'c>>,
-    ghost few: { length by_handle.entries ≤ MAX_KEPT },
+    /// For how many names it takes room.
+    pub size: usize,
+    ghost counted: { size_of_listings by_handle.entries ≤ size },
 }
 
 impl<'c> Kept<'c> {
@@ -41,39 +50,51 @@ impl<'c> Kept<'c> {
     {
         Kept {
             by_handle: IndexMap::new(alloc),
+            size: 0,
         }
     }
 
     /// Takes away what is kept for a handle, if it is.
     ///
-    /// Takes no memory, in constant time.
+    /// Takes no memory, in expected constant time.
     pub fn take(&mut self, handle: u32) -> Option<ListedSoFar<'c>>
         ensures taken { result ≡ lookup (nat_eq handle) self.old.by_handle.entries }
         ensures left { AreAmong self.new.by_handle.entries self.old.by_handle.entries }
     {
-        self.by_handle.shift_remove(&handle)
+        let listed = self.by_handle.swap_remove(&handle)?;
+        self.size -= listed.size();
+        Some(listed)
     }
 
-    /// Keeps what was listed so far on a handle for which nothing is kept, in the place of what is kept longest where there is no
-    /// room. Where memory is refused it is not kept.
+    /// Keeps what was listed so far on a handle for which nothing is kept, where there is room for so many names in all. Where there
+    /// is no room beside the others, these go. Where there is none without them, or memory is refused, it is not kept.
     ///
-    /// Constant time, but for growing up to that room, and for giving back the names that go.
-    pub fn put(&mut self, handle: u32, listed: ListedSoFar<'c>)
-        ensures { (other : ℕ) (kept : TheListed) → lookup (nat_eq other) self.new.by_handle.entries ≡ Some kept → ((handle ≡ other) × (listed.entry ≡ kept)) ⊎ (lookup (nat_eq other) self.old.by_handle.entries ≡ Some kept) }
+    /// Expected constant time, but for growing by a handle, and for giving back the names that go.
+    pub fn put(&mut self, handle: u32, listed: ListedSoFar<'c>, room: usize)
+        ensures kept { (other : ℕ) (kept : TheListed) → lookup (nat_eq other) self.new.by_handle.entries ≡ Some kept → ((handle ≡ other) × (listed.entry ≡ kept)) ⊎ (lookup (nat_eq other) self.old.by_handle.entries ≡ Some kept) }
+        ensures few { size_of_listings self.new.by_handle.entries ≤ room }
     {
-        self.make_room();
-        let _ = self.by_handle.insert(handle, listed);
+        let size = listed.size();
+        self.make_room(size, room);
+        if size > room {
+            return;
+        }
+        match self.by_handle.insert(handle, listed) {
+            Ok(_) => self.size += size,
+            Err(_) => {}
+        }
     }
 
-    /// Where there is no room for one more, what is kept longest goes.
+    /// Where there is no room for a listing of this size beside them, all that are kept go.
     ///
-    /// Takes no memory, in constant time.
-    fn make_room(&mut self)
-        ensures room { length self.new.by_handle.entries < MAX_KEPT }
+    /// Takes no memory, in constant time, but for giving back the names that go.
+    fn make_room(&mut self, size: usize, room: usize)
+        ensures room { (self.new.size ≡ 0) ⊎ (self.new.size + size ≤ room) }
         ensures left { AreAmong self.new.by_handle.entries self.old.by_handle.entries }
     {
-        if self.by_handle.len() >= MAX_KEPT {
-            self.by_handle.shift_remove_index(0);
+        if self.size > room.saturating_sub(size) {
+            self.by_handle.clear();
+            self.size = 0;
         }
     }
 }

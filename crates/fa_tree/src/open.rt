@@ -116,6 +116,13 @@ impl OpenNames<'_> {
         self.directory
     }
 
+    /// How many places the tree has or had, in all directories.
+    ///
+    /// Takes no memory, in constant time.
+    pub fn places(&self) -> usize {
+        self.slots.len()
+    }
+
     /// Whether a name was in the directory at some moment since it was opened, and the file that stayed in it under that name
     /// since then, if one did.
     ///

@@ -23,6 +23,10 @@ use std::alloc::{AllocError, Global};
 /// (`struct fuse_dirent`) and the longest name.
 const ROOM_FOR_ANY: usize = 128 + 24 + MAX_NAME;
 
+/// A replay keeps so many names of listings more than the tree has or had places: each of twenty handles that are listed in turn has
+/// room for the names of a directory of common size.
+const MORE_KEPT: usize = 16_384;
+
 /// Whether an answer of this size has no entry, though it had room for any.
 fn is_end(entries: Entries<'_>, size: u32) -> bool
     ensures { IsTrue result ↔ ((entries_left entries.entry ≡ []) × (room_for_any ≤ size)) }
@@ -129,6 +133,6 @@ pub(crate) fn is_orderly(
         // Nothing goes on from the end.
         return Ok(true);
     }
-    replay.keep(k, so_far);
+    replay.keep(k, so_far, names.places().saturating_add(MORE_KEPT));
     Ok(is)
 }

@@ -17,12 +17,12 @@ use std::marker::Model;
 /// What was listed so far is kept from one step to the next, so that each answer of a listing that goes straight on is gone
 /// through once. Nothing that is kept shows in what a step answers: to its callers a `Replay` is its calls.
 ///
-/// It takes memory for the names of sixteen listings at most: those that did not reach their end, on the handles that were listed
-/// on last.
+/// It takes memory for names of listings that did not reach their end: in all for as many as the tree has or had places when one was
+/// kept last, and some thousands more, however many directories are opened and listed in part.
 #[derive(Drop)]
 pub struct Replay<'c> {
     calls: &'c Calls<'c>,
-    /// What was listed so far, for the handles that were listed on last.
+    /// What was listed so far, for the handles that are being listed.
     so_far: Kept<'c>,
     alloc: Global,
 }
@@ -81,18 +81,18 @@ impl<'c> Replay<'c> {
         }
     }
 
-    /// Keeps what was listed so far for the call at this place, if calls may come that need it. Where memory is refused it is
-    /// not kept.
+    /// Keeps what was listed so far for the call at this place, if calls may come that need it and there is room for so many names
+    /// in all. Where memory is refused it is not kept.
     ///
     /// Takes memory and time as [`Kept::put`].
-    pub(crate) fn keep(&mut self, k: usize, tally: Tally<'c>)
+    pub(crate) fn keep(&mut self, k: usize, tally: Tally<'c>, room: usize)
         requires there { k < length self.old.list.items }
         requires told { IsTallyAt self.old k tally }
         ensures same { self.new ≡ self.old }
     {
         let calls = self.calls;
         if let Some(handle) = handle_gone_on(&calls.list[k]) {
-            self.so_far.put(handle, ListedSoFar { at: k, tally });
+            self.so_far.put(handle, ListedSoFar { at: k, tally }, room);
         }
     }
 

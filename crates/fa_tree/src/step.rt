@@ -103,9 +103,10 @@ impl Tree {
     ///
     /// Time and memory as `step`, but for READDIR and READDIRPLUS. These take time and memory in the names that they answer, and
     /// in those of the answer that they go on from, where the step before on the handle was that of this answer, or of a request
-    /// that goes on from the same and did not end the listing, and fewer than sixteen other handles were listed on since; elsewhere
-    /// in all names that were listed so far. The replay keeps these until the step that ends the listing, or until then. Time in the
-    /// names that were listed more than once comes on top, and at the end of a listing in the places that the directory ever had.
+    /// that goes on from the same and did not end the listing, and there was room for the names so far in what the replay keeps;
+    /// elsewhere in all names that were listed so far. The replay keeps these until the step that ends the listing, or until there is
+    /// no room for others beside them. Time in the names that were listed more than once comes on top, and at the end of a listing in
+    /// the places that the directory ever had.
     pub fn step_in(
         &mut self,
         replay: &mut Replay<'_>,

@@ -1,6 +1,6 @@
 //! How often names were listed.
 
-ghost use Rattle.std.specs.Prelude.{◌≡◌, ◌↔◌, ◌≤◌, ◌<◌, ◌+◌, cond, ℕ, true, false, List, None, is_some, IsTrue, OnOk, OnErr};
+ghost use Rattle.std.specs.Prelude.{◌≡◌, ◌↔◌, ◌≤◌, ◌<◌, ◌+◌, ◌^◌, cond, ℕ, true, false, List, length, None, is_some, IsTrue, OnOk, OnErr};
 ghost use Rattle.std.specs.Bool.{MatchBool};
 ghost use Rattle.std.specs.Fn.{FnReturnsAt};
 ghost use Rattle.std.specs.Str.{bytes_eq};
@@ -48,6 +48,14 @@ impl<'a> Tally<'a> {
             names: IndexMap::new(alloc),
             again: Vec::new(alloc),
         }
+    }
+
+    /// How many names were listed, each counted once. Takes no memory, in constant time.
+    pub fn len(&self) -> usize
+        ensures len { result ≡ length self.now.names.entries }
+        ensures small { result < 2 ^ 63 }
+    {
+        self.names.len()
     }
 
     /// Whether no name was listed.

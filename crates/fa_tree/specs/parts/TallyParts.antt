@@ -1,5 +1,5 @@
 -- How often names were listed, as a tally of them tells it.
-use Rattle.std.specs.Prelude.{◌≡◌, ◌+◌, ◌<◌, slice_get, ℕ, zero, suc, Bool, true, false, IsTrue, List, [], ◌∷◌, Option, None, Some, option_map, option_and_then}
+use Rattle.std.specs.Prelude.{◌≡◌, ◌+◌, ◌<◌, slice_get, ℕ, zero, suc, Bool, true, false, IsTrue, List, Option, None, Some, option_map, option_and_then}
 use Rattle.std.proofs.Common.{ap}
 use Rattle.std.specs.Cmp.Lexicographic.{bytes_decides}
 use Rattle.std.specs.Map.{lookup}

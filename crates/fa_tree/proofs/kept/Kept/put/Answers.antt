@@ -1,10 +1,9 @@
-use Rattle.std.proofs.Common.{inl, inr}
-use Rattle.fa_tree.proofs.ReplayLemmas.{put_or_there}
+use Rattle.std.proofs.Common.{nat_eq, arith}
+use Rattle.fa_tree.specs.parts.KeptParts.{size_of_listing}
+use Rattle.fa_tree.proofs.KeptLemmas.{sum_put}
 use Rattle.fa_tree.proofs.kept.Kept.put.Goals as goal
 
-pub returns : goal.returns
-returns c = λ other kept found.
-    elim (put_or_there c.insert.result c.make_room.new.self.by_handle.entries c.insert.new.self.entries c.args.handle c.args.listed _ (λ wrote. wrote.0) c.insert.ensures.updates c.insert.ensures.err other kept found) [
-      | inl this ↦ inl this
-      | inr there ↦ inr (c.make_room.ensures.left other kept there)
-    ]
+pub invariant_of-self : goal.invariant_of-self
+invariant_of-self c =
+    let more = sum_put size_of_listing nat_eq c.args.handle c.args.listed c.make_room.new.self.by_handle.entries in
+    record { counted = rw (c.in-Ok.ensures.entries) (omega (arith, more, c.size-size.ensures, c.make_room.new.self.counted)) }

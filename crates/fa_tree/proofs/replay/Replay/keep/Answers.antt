@@ -9,5 +9,5 @@ pub invariant_of-self : goal.invariant_of-self
 invariant_of-self c =
     let listed : ListedSoFar = record { at = c.args.k; tally = c.args.tally } in
     let told : IsTold c.args.self.now listed = record { within = c.requires.there; tally = c.requires.told } in
-    told_put c.self.inside.calls.now c.self.inside.so_far.by_handle.entries c.put.new.self.by_handle.entries c.in-Some.handle listed c.put.ensures
+    told_put c.self.inside.calls.now c.self.inside.so_far.by_handle.entries c.put.new.self.by_handle.entries c.in-Some.handle listed c.put.ensures.kept
     (subst (λ (calls : Calls). IsTold calls listed) (sym c.self.view_is) told) c.self.invariant
