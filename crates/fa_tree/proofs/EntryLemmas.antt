@@ -2,7 +2,7 @@
 use Rattle.std.proofs.Common.{◌≡◌, ◌≢◌, ℕ, ◌<◌, ◌≤◌, Bool, true, false, cond, List, [], ◌∷◌, ◌++◌, length, Option, None, Some, zero, suc, refl, sym, ap, subst, ◌∙◌, arith}
 use Rattle.std.specs.Prelude.{◌↔◌, slice_get, slice_set, slice_index_or, is_some, IsSome, IfSome, OnSome}
 use Rattle.std.specs.Borrow.{MutBor}
-use Rattle.std.specs.Option.{option_or, option_and_then, option_copied_mut}
+use Rattle.std.specs.Option.{option_or, option_and_then, option_copied_mut, unwrap_or}
 use Rattle.std.proofs.lemmas.Option.{slice_get_past, slice_get_read}
 use Rattle.fa_capture.proofs.CallerLemmas.{get_last, get_set_same}
 use Rattle.fa_tree.specs.State.{file_eq}
@@ -10,8 +10,8 @@ use Rattle.fa_tree.specs.declared.id.FileId.{FileId}
 use Rattle.fa_tree.specs.declared.id.FileId.TheVariants.{Root, Added, Made}
 use Rattle.fa_tree.specs.contracts.id.FileIdPartialEq.TheImpl as derived
 use Rattle.fa_tree.specs.declared.holders.Holder.{Holder}
-use Rattle.fa_tree.specs.parts.FileIdLaws.{same_file, file_self, file_ties, file_equiv}
-use Rattle.fa_tree.specs.parts.HolderParts.{index_of, listed, tabled}
+use Rattle.fa_tree.specs.parts.FileIdLaws.{same_file, same_equal, file_self, file_ties, file_equiv}
+use Rattle.fa_tree.specs.parts.HolderParts.{no_holder, index_of, listed, tabled}
 
 -- ---- places in the list
 
@@ -126,6 +126,25 @@ table_written list old new file holder none wrote of =
     by : (b : Bool) → file_eq of file ≡ b → option_or (listed list of) (cond b (Some holder) (tabled old of)) ≡ cond b (Some holder) (entry_in list old of)
     by true test = ap (λ e. option_or e (Some holder)) (ap (listed list) (same_file of file test) ∙ none)
     by false test = refl
+
+-- ---- an entry goes
+
+-- where nothing is counted in it, what is counted stays
+pub entry_gone : (list : List Holder) (old new : List (FileId × Holder)) (file : FileId) (holder : Holder) → tabled old file ≡ Some holder → holder ≡ no_holder
+    → ((of : FileId) → tabled new of ≡ cond (derived.eq-value.it file of) None (tabled old of))
+    → (of : FileId) → unwrap_or (entry_in list new of) no_holder ≡ unwrap_or (entry_in list old of) no_holder
+entry_gone list old new file holder there nothing wrote of = by (derived.eq-value.it file of) refl (listed list of)
+  where
+    by : (b : Bool) → derived.eq-value.it file of ≡ b → (first : Option Holder)
+        → unwrap_or (option_or first (tabled new of)) no_holder ≡ unwrap_or (option_or first (tabled old of)) no_holder
+    by b test (Some x) = refl
+    by true test None =
+        let gone : tabled new of ≡ None = wrote of ∙ ap (λ b. cond b None (tabled old of)) test in
+        let was : tabled old of ≡ Some no_holder = ap (tabled old) (sym (same_equal file of test)) ∙ (there ∙ ap (λ h. Some h) nothing) in
+        rw (gone, was) refl
+    by false test None =
+        let stays : tabled new of ≡ tabled old of = wrote of ∙ ap (λ b. cond b None (tabled old of)) test in
+        ap (λ e. unwrap_or (option_or None e) no_holder) stays
 
 -- ---- an entry comes
 

@@ -1,14 +1,14 @@
 //! What is counted of each file, so that it need not be looked for among all names: how many names it has, how many are in
 //! it, and a directory that has a name for it.
 
-ghost use Rattle.std.specs.Prelude.{◌≡◌, ◌<◌, ◌^◌, cond, ℕ, List, Option, Some, None, is_some, OnOk};
+ghost use Rattle.std.specs.Prelude.{◌≡◌, ◌<◌, ◌^◌, cond, ℕ, List, Option, Some, None, is_some, IsTrue, OnOk};
 ghost use Rattle.std.specs.Borrow.{sem};
 ghost use Rattle.std.specs.Option.{option_copied_mut};
 ghost use Rattle.std.specs.FinMap as map;
 ghost use Rattle.std.specs.FinMap.{FinMap};
 ghost use Rattle.fa_tree.specs.declared.id.FileId.{FileId};
 ghost use Rattle.fa_tree.specs.State.{place_cmp, file_eq};
-ghost use Rattle.fa_tree.specs.parts.HolderParts.{index_of, tabled, entry_of, LendsHolder, one_link_more, one_link_less, one_inside_more, one_inside_less, of_parent, held, IsKnown, AreCounted, IsCountedAt};
+ghost use Rattle.fa_tree.specs.parts.HolderParts.{no_holder, index_of, tabled, entry_of, LendsHolder, one_link_more, one_link_less, one_inside_more, one_inside_less, of_parent, held, IsKnown, AreCounted, IsCountedAt};
 
 use crate::id::FileId;
 use indexmap::IndexMap;
@@ -31,6 +31,15 @@ const NOTHING: Holder = Holder {
     inside: 0,
     parent: None,
 };
+
+impl Holder {
+    /// Whether nothing is counted.
+    fn is_nothing(self) -> bool
+        ensures { IsTrue result → self ≡ no_holder }
+    {
+        self.links == 0 && self.inside == 0 && self.parent.is_none()
+    }
+}
 
 /// Where a file stands in the list, if the list comes that far. No two files stand at one place.
 #[inline(always)]
@@ -152,6 +161,40 @@ impl Holders {
             }
         }
         Ok(())
+    }
+
+    /// Makes an entry for a directory and one for a file, as [`make_room`](Holders::make_room) does. After an error neither is new.
+    ///
+    /// Expected constant time but for growing.
+    #[inline(always)]
+    pub fn make_room_for(&mut self, directory: FileId, file: FileId) -> Result<(), AllocError>
+        ensures same { (of : FileId) → held self.new of ≡ held self.old of }
+        ensures directory { OnOk result (IsKnown self.new directory) }
+        ensures file { OnOk result (IsKnown self.new file) }
+    {
+        self.make_room(directory)?;
+        match self.make_room(file) {
+            Ok(()) => Ok(()),
+            Err(error) => {
+                self.forget(directory);
+                Err(error)
+            }
+        }
+    }
+
+    /// Takes the entry of a file away, if nothing is counted of it and it stands in the table: so that those are there that have a
+    /// name.
+    ///
+    /// Takes no memory, in expected constant time.
+    pub fn forget(&mut self, file: FileId)
+        ensures { (of : FileId) → held self.new of ≡ held self.old of }
+    {
+        match self.tabled(file) {
+            Some(holder) if holder.is_nothing() => {
+                self.table.swap_remove(&file);
+            }
+            _ => {}
+        }
     }
 
     /// Counts one name more of a file that has an entry, and notes the directory that the name is in.

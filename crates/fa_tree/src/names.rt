@@ -135,11 +135,21 @@ impl Names {
         let born = self.openings.len();
         // `len` is called for its clause that slots are few, so that no count of names is too large.
         let _ = self.slots.len();
-        self.holders.make_room(directory)?;
-        self.holders.make_room(file)?;
-        let old = self.slots.insert(directory, name, file, born)?;
-        self.holders.put(directory, old, file);
-        Ok(())
+        self.holders.make_room_for(directory, file)?;
+        match self.slots.insert(directory, name, file, born) {
+            Ok(old) => {
+                self.holders.put(directory, old, file);
+                if let Some(old) = old {
+                    self.holders.forget(old);
+                }
+                Ok(())
+            }
+            Err(error) => {
+                self.holders.forget(file);
+                self.holders.forget(directory);
+                Err(error)
+            }
+        }
     }
 
     /// Puts a name into a directory that has none like it, for a file. An error says that memory was refused, and nothing is
@@ -154,16 +164,24 @@ impl Names {
         let born = self.openings.len();
         // `len` is called for its clause that slots are few, as in `put`.
         let _ = self.slots.len();
-        self.holders.make_room(directory)?;
-        self.holders.make_room(file)?;
-        self.slots.insert_free(directory, name, file, born)?;
-        self.holders.put(directory, None, file);
-        Ok(())
+        self.holders.make_room_for(directory, file)?;
+        match self.slots.insert_free(directory, name, file, born) {
+            Ok(()) => {
+                self.holders.put(directory, None, file);
+                Ok(())
+            }
+            Err(error) => {
+                self.holders.forget(file);
+                self.holders.forget(directory);
+                Err(error)
+            }
+        }
     }
 
     /// Takes a name out of a directory, if it is there.
     ///
-    /// Takes no memory, and gives none back. Expected constant time but for reading the name.
+    /// Takes no memory, and what is counted of the file goes with its last name; the place stays. Expected constant time but for
+    /// reading the name.
     pub fn remove(&mut self, directory: FileId, name: &[u8])
         ensures { self.new ≡ edited (Removed directory name.now ∷ []) self.old }
     {
@@ -171,6 +189,7 @@ impl Names {
         let old = self.slots.remove(directory, name, at);
         if let Some(file) = old {
             self.holders.remove(directory, file);
+            self.holders.forget(file);
         }
     }
 

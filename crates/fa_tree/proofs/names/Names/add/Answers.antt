@@ -9,13 +9,13 @@ use Rattle.fa_tree.proofs.HolderLemmas.{names_few, same_counted}
 use Rattle.fa_tree.proofs.ViewLemmas.{names_put, shown_put, shown_stays, within_put}
 use Rattle.fa_tree.proofs.names.Names.add.Goals as goal
 
-pub invariant_of-self-in_err-insert_free : goal.invariant_of-self-in_err-insert_free
-invariant_of-self-in_err-insert_free c =
+pub invariant_of-self-in-Err : goal.invariant_of-self-in-Err
+invariant_of-self-in-Err c =
     let names = names_shown c.self.inside.slots.table.entries in
-    rw (c.in_err-insert_free.ensures.unchanged) (
+    rw (c.in-Err.ensures.unchanged) (
       c.self.invariant.0,
-      same_counted names (held c.make_room.new.self) (held c.make_room-2.new.self) c.make_room-2.ensures.same
-          (same_counted names (held c.self.inside.holders) (held c.make_room.new.self) c.make_room.ensures.same c.self.invariant.1),
+      same_counted names (held c.self.inside.holders) (held c.forget-in-Err.new.self)
+          (λ of. c.forget-in-Err.ensures of ∙ c.forget.ensures of ∙ c.make_room_for.ensures.same of) c.self.invariant.1,
     )
 
 pub put-requires-clause-counted : goal.put-requires-clause-counted
@@ -27,29 +27,26 @@ put-requires-clause-counted c =
         names = names;
         name = c.args.name.now;
         at = ap (λ n. get n.names (c.args.directory, c.args.name.now)) c.self.view_is ∙ c.requires;
-        counted =
-            same_counted names (held c.make_room.new.self) (held c.make_room-2.new.self) c.make_room-2.ensures.same
-            (same_counted names (held c.self.inside.holders) (held c.make_room.new.self) c.make_room.ensures.same c.self.invariant.1);
+        counted = same_counted names (held c.self.inside.holders) (held c.make_room_for.new.self) c.make_room_for.ensures.same c.self.invariant.1;
       },
       omega (arith, few, c.len.ensures.len, c.len.ensures.small),
     )
 
-pub invariant_of-self-2 : goal.invariant_of-self-2
-invariant_of-self-2 c =
+pub invariant_of-self-in-Ok : goal.invariant_of-self-in-Ok
+invariant_of-self-in-Ok c =
     let old = c.self.inside.slots.table.entries in
     let new = c.insert_free.new.self.table.entries in
     let names = names_shown old in (
-      within_put _ old new (c.args.directory, c.args.name.now) c.args.file c.len-born.result c.len-born.ensures c.in_ok-insert_free.ensures.put c.self.invariant.0,
-      subst (λ names. AreCounted names (held c.put.new.self)) (sym (names_put old new c.args.directory c.args.name.now c.args.file c.len-born.result c.in_ok-insert_free.ensures.put))
+      within_put _ old new (c.args.directory, c.args.name.now) c.args.file c.len-born.result c.len-born.ensures c.in-Ok.ensures.put c.self.invariant.0,
+      subst (λ names. AreCounted names (held c.put.new.self)) (sym (names_put old new c.args.directory c.args.name.now c.args.file c.len-born.result c.in-Ok.ensures.put))
           (c.put.ensures.counted names c.args.name.now (ap (λ n. get n.names (c.args.directory, c.args.name.now)) c.self.view_is ∙ c.requires)
-          (same_counted names (held c.make_room.new.self) (held c.make_room-2.new.self) c.make_room-2.ensures.same
-          (same_counted names (held c.self.inside.holders) (held c.make_room.new.self) c.make_room.ensures.same c.self.invariant.1))),
+          (same_counted names (held c.self.inside.holders) (held c.make_room_for.new.self) c.make_room_for.ensures.same c.self.invariant.1)),
     )
 
-pub returns-clause-added : goal.returns-clause-added
-returns-clause-added c =
+pub returns-in-Ok-clause-added : goal.returns-in-Ok-clause-added
+returns-in-Ok-clause-added c =
     let stays = subst StaysThere c.self.view_is (shown_stays c.self.inside.slots.table.entries c.self.inside.openings) in
-    shown_put c.self.inside.slots.table.entries c.insert_free.new.self.table.entries c.args.directory c.args.name.now c.args.file c.len-born.result c.in_ok-insert_free.ensures.put
+    shown_put c.self.inside.slots.table.entries c.insert_free.new.self.table.entries c.args.directory c.args.name.now c.args.file c.len-born.result c.in-Ok.ensures.put
     c.self.inside.openings (omega arith)
     ∙ ap (edited (Removed c.args.directory c.args.name.now ∷ Added c.args.directory c.args.name.now c.args.file ∷ [])) c.self.view_is
     ∙ edited_put_free c.args.self.now stays c.args.directory c.args.name.now c.args.file c.requires

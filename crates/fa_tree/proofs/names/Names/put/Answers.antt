@@ -7,13 +7,13 @@ use Rattle.fa_tree.proofs.HolderLemmas.{names_few, same_counted}
 use Rattle.fa_tree.proofs.ViewLemmas.{names_put, shown_put, within_put}
 use Rattle.fa_tree.proofs.names.Names.put.Goals as goal
 
-pub invariant_of-self-in_err-old : goal.invariant_of-self-in_err-old
-invariant_of-self-in_err-old c =
+pub invariant_of-self-in-Err : goal.invariant_of-self-in-Err
+invariant_of-self-in-Err c =
     let names = names_shown c.self.inside.slots.table.entries in
-    rw (c.in_err-old.ensures.unchanged) (
+    rw (c.in-Err.ensures.unchanged) (
       c.self.invariant.0,
-      same_counted names (held c.make_room.new.self) (held c.make_room-2.new.self) c.make_room-2.ensures.same
-          (same_counted names (held c.self.inside.holders) (held c.make_room.new.self) c.make_room.ensures.same c.self.invariant.1),
+      same_counted names (held c.self.inside.holders) (held c.forget-in-Err-2.new.self)
+          (λ of. c.forget-in-Err-2.ensures of ∙ c.forget-in-Err.ensures of ∙ c.make_room_for.ensures.same of) c.self.invariant.1,
     )
 
 pub put-requires-clause-counted : goal.put-requires-clause-counted
@@ -24,28 +24,43 @@ put-requires-clause-counted c =
       record {
         names = names;
         name = c.args.name.now;
-        at = sym c.in_ok-old.ensures.file;
-        counted =
-            same_counted names (held c.make_room.new.self) (held c.make_room-2.new.self) c.make_room-2.ensures.same
-            (same_counted names (held c.self.inside.holders) (held c.make_room.new.self) c.make_room.ensures.same c.self.invariant.1);
+        at = sym c.in-Ok.ensures.file;
+        counted = same_counted names (held c.self.inside.holders) (held c.make_room_for.new.self) c.make_room_for.ensures.same c.self.invariant.1;
       },
       omega (arith, few, c.len.ensures.len, c.len.ensures.small),
     )
 
-pub invariant_of-self-2 : goal.invariant_of-self-2
-invariant_of-self-2 c =
+pub invariant_of-self-in-Some : goal.invariant_of-self-in-Some
+invariant_of-self-in-Some c =
     let old = c.self.inside.slots.table.entries in
     let new = c.insert.new.self.table.entries in
     let names = names_shown old in (
-      within_put _ old new (c.args.directory, c.args.name.now) c.args.file c.len-born.result c.len-born.ensures c.in_ok-old.ensures.put c.self.invariant.0,
-      subst (λ names. AreCounted names (held c.put.new.self)) (sym (names_put old new c.args.directory c.args.name.now c.args.file c.len-born.result c.in_ok-old.ensures.put))
-          (c.put.ensures.counted names c.args.name.now (sym c.in_ok-old.ensures.file)
-          (same_counted names (held c.make_room.new.self) (held c.make_room-2.new.self) c.make_room-2.ensures.same
-          (same_counted names (held c.self.inside.holders) (held c.make_room.new.self) c.make_room.ensures.same c.self.invariant.1))),
+      within_put _ old new (c.args.directory, c.args.name.now) c.args.file c.len-born.result c.len-born.ensures c.in-Ok.ensures.put c.self.invariant.0,
+      same_counted (names_shown new) (held c.put.new.self) (held c.forget.new.self) c.forget.ensures
+          (subst (λ names. AreCounted names (held c.put.new.self)) (sym (names_put old new c.args.directory c.args.name.now c.args.file c.len-born.result c.in-Ok.ensures.put))
+          (c.put.ensures.counted names c.args.name.now (sym c.in-Ok.ensures.file)
+          (same_counted names (held c.self.inside.holders) (held c.make_room_for.new.self) c.make_room_for.ensures.same c.self.invariant.1))),
     )
 
-pub returns-clause-put : goal.returns-clause-put
-returns-clause-put c =
-    shown_put c.self.inside.slots.table.entries c.insert.new.self.table.entries c.args.directory c.args.name.now c.args.file c.len-born.result c.in_ok-old.ensures.put
+pub invariant_of-self-in_default : goal.invariant_of-self-in_default
+invariant_of-self-in_default c =
+    let old = c.self.inside.slots.table.entries in
+    let new = c.insert.new.self.table.entries in
+    let names = names_shown old in (
+      within_put _ old new (c.args.directory, c.args.name.now) c.args.file c.len-born.result c.len-born.ensures c.in-Ok.ensures.put c.self.invariant.0,
+      subst (λ names. AreCounted names (held c.put.new.self)) (sym (names_put old new c.args.directory c.args.name.now c.args.file c.len-born.result c.in-Ok.ensures.put))
+          (c.put.ensures.counted names c.args.name.now (sym c.in-Ok.ensures.file)
+          (same_counted names (held c.self.inside.holders) (held c.make_room_for.new.self) c.make_room_for.ensures.same c.self.invariant.1)),
+    )
+
+pub returns-in-Some-clause-put : goal.returns-in-Some-clause-put
+returns-in-Some-clause-put c =
+    shown_put c.self.inside.slots.table.entries c.insert.new.self.table.entries c.args.directory c.args.name.now c.args.file c.len-born.result c.in-Ok.ensures.put
+    c.self.inside.openings (omega arith)
+    ∙ ap (edited (Removed c.args.directory c.args.name.now ∷ Added c.args.directory c.args.name.now c.args.file ∷ [])) c.self.view_is
+
+pub returns-in_default-clause-put : goal.returns-in_default-clause-put
+returns-in_default-clause-put c =
+    shown_put c.self.inside.slots.table.entries c.insert.new.self.table.entries c.args.directory c.args.name.now c.args.file c.len-born.result c.in-Ok.ensures.put
     c.self.inside.openings (omega arith)
     ∙ ap (edited (Removed c.args.directory c.args.name.now ∷ Added c.args.directory c.args.name.now c.args.file ∷ [])) c.self.view_is

@@ -5,6 +5,7 @@ use Rattle.fa_tree.specs.parts.PlaceLaws.{place_cmp_total, places_apart}
 use Rattle.fa_tree.specs.parts.SlotParts.{names_shown}
 use Rattle.fa_tree.specs.parts.HolderParts.{held, AreCounted}
 use Rattle.fa_tree.proofs.EditedLemmas.{remove_none}
+use Rattle.fa_tree.proofs.HolderLemmas.{same_counted}
 use Rattle.fa_tree.proofs.ViewLemmas.{names_removed, shown_removed, within_removed}
 use Rattle.fa_tree.proofs.names.Names.remove.Goals as goal
 
@@ -21,9 +22,10 @@ invariant_of-self c =
     let old = c.self.inside.slots.table.entries in
     let new = c.remove-old.new.self.table.entries in (
       within_removed _ old new (c.args.directory, c.args.name.now) c.len-at.result c.len-at.ensures c.remove-old.ensures.gone c.self.invariant.0,
-      subst (λ names. AreCounted names (held c.remove.new.self)) (sym (names_removed old new c.args.directory c.args.name.now c.len-at.result c.remove-old.ensures.gone))
+      same_counted (names_shown new) (held c.remove.new.self) (held c.forget.new.self) c.forget.ensures
+          (subst (λ names. AreCounted names (held c.remove.new.self)) (sym (names_removed old new c.args.directory c.args.name.now c.len-at.result c.remove-old.ensures.gone))
           (c.remove.ensures.counted (names_shown old) c.args.name.now
-          (sym c.remove-old.ensures.file ∙ c.in-Some.is) c.self.invariant.1),
+          (sym c.remove-old.ensures.file ∙ c.in-Some.is) c.self.invariant.1)),
     )
 
 pub invariant_of-self-in_default : goal.invariant_of-self-in_default
