@@ -5,12 +5,13 @@ ghost use Rattle.fa_tree.specs.parts.NameFed.{name_fed};
 
 use std::hash::Hasher;
 
-/// Hands a name on, four bytes at a time, and each part twice.
+/// Hands a name on, four bytes at a time.
 ///
-/// The hasher's seed is fixed, so whoever picks a name can choose a part that undoes some of what the parts before it made of the
-/// state: the more bytes a write has, the more. What the same part makes of that in a second write is no choice any more. So two
-/// beginnings that lead to one state take a search of some 2 to the power of 32 steps, where single bytes, as a derived hash writes
-/// them, take 2 to the power of 28.
+/// The hasher's seed is fixed, so whoever picks names can pick some that meet in a table. Its group is told by the low bits of 32 that
+/// the hash comes down to: names of one group take as many trials each as the table has groups, however they are handed on. Names that
+/// leave the hasher in one state take a search of some 2 to the power of 16 beginnings, and then none: each four bytes behind them that
+/// are chosen so double their number. With more bytes at a time they take no search at all, since eight bytes can undo whatever those
+/// before them made of the state. A name takes as many steps as it has bytes, divided by four.
 ///
 /// Takes no memory, and time in the bytes of the name.
 pub(crate) fn feed_name<H: Hasher>(name: &[u8], state: &mut H)
@@ -20,9 +21,7 @@ pub(crate) fn feed_name<H: Hasher>(name: &[u8], state: &mut H)
     while left.len() > 4 {
         let (part, behind) = left.split_at(4);
         state.write(part);
-        state.write(part);
         left = behind;
     }
-    state.write(left);
     state.write(left);
 }

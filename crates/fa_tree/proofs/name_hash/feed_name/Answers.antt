@@ -3,7 +3,7 @@ use Rattle.fa_tree.specs.parts.NameFed.{name_fed}
 use Rattle.fa_tree.proofs.name_hash.feed_name.Goals as goal
 
 -- of a name of more than four bytes four are fed, and then the others
-four_first : (name : List ℕ) → 4 < length name → name_fed name ≡ take 4 name ∷ take 4 name ∷ name_fed (drop 4 name)
+four_first : (name : List ℕ) → 4 < length name → name_fed name ≡ take 4 name ∷ name_fed (drop 4 name)
 unfolding name_fed
 four_first [] long = absurd (omega (arith, long))
 four_first (a ∷ []) long = absurd (omega (arith, long))
@@ -13,7 +13,7 @@ four_first (a ∷ b ∷ c ∷ d ∷ []) long = absurd (omega (arith, long))
 four_first (a ∷ b ∷ c ∷ d ∷ e ∷ name) long = refl
 
 -- and of a shorter one all at once
-short_at_once : (name : List ℕ) → length name ≤ 4 → name_fed name ≡ name ∷ name ∷ []
+short_at_once : (name : List ℕ) → length name ≤ 4 → name_fed name ≡ name ∷ []
 unfolding name_fed
 short_at_once [] short = refl
 short_at_once (a ∷ []) short = refl
@@ -32,15 +32,13 @@ pub loop-left-preserved : goal.loop-left-preserved
 loop-left-preserved g c =
     let part : List ℕ = take 4 c.loop-left.left.now in
     let once : c.write.new.self ≡ g.H.Hasher.write c.loop-left.state part = c.write.ensures ∙ ap (g.H.Hasher.write c.loop-left.state) c.split_at.ensures.front in
-    let twice : c.write-in-loop-left.new.self ≡ g.H.Hasher.write (g.H.Hasher.write c.loop-left.state part) part =
-    c.write-in-loop-left.ensures ∙ ap (g.H.Hasher.write c.write.new.self) c.split_at.ensures.front ∙ ap (λ s. g.H.Hasher.write s part) once in
-    ap (λ s. fold g.H.Hasher.write s (name_fed c.split_at.result.1.now)) twice
-    ∙ ap (λ (left : List ℕ). fold g.H.Hasher.write (g.H.Hasher.write (g.H.Hasher.write c.loop-left.state part) part) (name_fed left)) c.split_at.ensures.back
+    ap (λ s. fold g.H.Hasher.write s (name_fed c.split_at.result.1.now)) once
+    ∙ ap (λ (left : List ℕ). fold g.H.Hasher.write (g.H.Hasher.write c.loop-left.state part) (name_fed left)) c.split_at.ensures.back
     ∙ sym (ap (fold g.H.Hasher.write c.loop-left.state) (four_first c.loop-left.left.now c.loop-left-test.true))
     ∙ c.loop-left.invariant
 
 pub returns : goal.returns
 returns g c =
-    c.write-3.ensures ∙ ap (λ s. g.H.Hasher.write s c.loop-left.left.now) c.write-2.ensures
+    c.write-2.ensures
     ∙ sym (ap (fold g.H.Hasher.write c.loop-left.state) (short_at_once c.loop-left.left.now (omega (arith, c.loop-left-test.false))))
     ∙ c.loop-left.invariant
