@@ -6,6 +6,9 @@
 # Without a name it tries those of every crate. `rt ci` tries the few in crates/CRATE/must-fail; those here have the same
 # form (file, old and new lines) and are tried by this script alone, which takes about half a minute for each.
 #
+# First `wrong/compiles.py` compiles those of these crates, and ends the run where one does not: it counts for nothing. What each is
+# refused by, `wrong/clauses.py` tells, and README.md lists.
+#
 # It works on a copy in a temporary folder, in which wrong/CRATE stands in the place of crates/CRATE/must-fail, and removes
 # the copy at its end. Libraries that stand built in out/rlib are taken along; where one is not there or its crate was
 # changed since, the copy builds it first, in some minutes.
@@ -29,6 +32,7 @@ for name in "${names[@]}"; do
 done
 
 "$top/wrong/stands.py"
+"$top/wrong/compiles.py" "${names[@]}"
 
 copy=$(mktemp -d)
 trap 'rm -rf "$copy"' EXIT
