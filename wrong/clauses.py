@@ -50,6 +50,14 @@ def check(crate, texts):
     return ran.returncode, ran.stdout.splitlines()
 
 
+def function_of(text, number):
+    """Which function this line of a text is of. What is told of a whole function stands at its comment."""
+    lines = text.splitlines(True)
+    while lines[number - 1 :] and lines[number - 1].lstrip().startswith(("//", "#[")):
+        number += 1
+    return edits.function_at(text, len("".join(lines[:number])) - 1)
+
+
 def told(members):
     """What is told of the functions that each of these edits changes, and of others."""
     texts = {}
@@ -60,13 +68,13 @@ def told(members):
     for line in lines:
         goal, answer = GOAL.match(line), ANSWER.match(line)
         if goal:
-            text = texts.get((members[0].crate, goal[1]), "")
-            place = len("".join(text.splitlines(True)[: int(goal[2])])) - 1
-            key, said = (members[0].crate, goal[1], edits.function_at(text, place)), goal[3]
+            key, said = (members[0].crate, goal[1], function_of(texts.get((members[0].crate, goal[1]), ""), int(goal[2]))), goal[3]
             owners = [it for it in members if key in it.functions()]
         elif answer:
-            module, said = answer[1].split("/"), answer[2]
-            owners = [it for it in members if any(edits.named(it, key) == (module[0], module[-1]) for key in it.functions())]
+            folders, said = answer[1].split("/"), answer[2]
+            owners = [it for it in members if any(edits.named(it, key)[1] == folders[-1] for key in it.functions())]
+            same = [it for it in owners if any(edits.named(it, key)[0] == folders[0] for key in it.functions())]
+            owners = same or owners
         else:
             continue
         for it in owners:
