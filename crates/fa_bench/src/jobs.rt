@@ -19,6 +19,8 @@ pub fn run<R: AllocGlobal + Print>(
         "walk" => walk_job(rt, work, seed, size),
         "threads" => threads_job(rt, work, seed, size),
         "awkward" => awkward_job(rt, work, seed, size),
+        "wrong" => wrong_job(rt, work, seed, size),
+        "fault" => fault_job(rt, work, seed, size),
         "all" => all_jobs(rt, work, seed, size),
         _ => bail!("no such job"),
     }
@@ -30,7 +32,9 @@ fn all_jobs<R: AllocGlobal + Print>(rt: &R, work: Work, seed: u64, size: u64) ->
     data_job(rt, work, seed, size)?;
     walk_job(rt, work, seed, size)?;
     threads_job(rt, work, seed, size)?;
-    awkward_job(rt, work, seed, size)
+    awkward_job(rt, work, seed, size)?;
+    wrong_job(rt, work, seed, size)?;
+    fault_job(rt, work, seed, size)
 }
 
 fn stress_job<R: AllocGlobal + Print>(rt: &R, work: Work, seed: u64, size: u64) -> Result<()> {
@@ -75,4 +79,16 @@ fn awkward_job<R: AllocGlobal + Print>(rt: &R, work: Work, seed: u64, size: u64)
     take(rt, work, "growth", growth, None)?;
     let links = awkward::links(alloc, seed, size.saturating_mul(5))?;
     take(rt, work, "links", links, None)
+}
+
+/// A capture that ends as `not shown`.
+fn wrong_job<R: AllocGlobal + Print>(rt: &R, work: Work, seed: u64, size: u64) -> Result<()> {
+    let volume = data::wrong_byte(rt.alloc(), seed, size)?;
+    take(rt, work, "wrong", volume, None)
+}
+
+/// A capture that ends as `fault`.
+fn fault_job<R: AllocGlobal + Print>(rt: &R, work: Work, seed: u64, size: u64) -> Result<()> {
+    let volume = stress::answered_twice(rt.alloc(), seed, size)?;
+    take(rt, work, "fault", volume, None)
 }

@@ -3,13 +3,15 @@
 //! A job makes a capture, has an order proposed for it, and has that judged, as the commands `propose` and `check` do, and prints
 //! a digest of both answers. With the word `make` before it, it makes the capture alone, and prints a digest of that: so the time
 //! of the making can be taken off. SEED is the number of which the capture is made, and SIZE says how large it is. The jobs are
-//! `stress`, `build`, `data`, `walk`, `threads` and `awkward`, each a module of that name, and `all`.
+//! `stress`, `build`, `data`, `walk`, `threads` and `awkward`, each a module of that name, `wrong`, whose verdict is `not shown`,
+//! and `fault`, whose verdict is that, of the modules `data` and `stress`; and `all`.
 #![tactic(auto)]
 
 mod awkward;
 mod build;
 mod data;
 mod jobs;
+mod open_file;
 mod pool;
 mod random;
 mod recording;

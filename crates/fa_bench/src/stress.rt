@@ -2,7 +2,7 @@
 
 use crate::random::Random;
 use crate::recording::EEXIST;
-use crate::volume::{DIR, LNK, REG, Volume};
+use crate::volume::{DIR, LNK, REG, ROOT, Volume};
 use fa_bodies::opcodes;
 use std::alloc::{AllocError, Global};
 
@@ -13,17 +13,41 @@ const DIRECTORIES: u64 = 6;
 pub fn volume(alloc: Global, seed: u64, steps: u64) -> Result<Volume, AllocError> {
     let mut random = Random::new(seed);
     let mut volume = Volume::new(alloc, 28)?;
+    begin(&mut volume, &mut random, steps / 12)?;
+    take_steps(&mut volume, &mut random, steps)?;
+    Ok(volume)
+}
+
+/// The same, but that a request is answered twice when so many steps are taken, behind which there are a fiftieth as many.
+pub fn answered_twice(alloc: Global, seed: u64, steps: u64) -> Result<Volume, AllocError> {
+    let mut random = Random::new(seed);
+    let mut volume = Volume::seeded(alloc, 28, seed)?;
+    begin(&mut volume, &mut random, steps / 12)?;
+    take_steps(&mut volume, &mut random, steps)?;
+    let unique = volume.recording.bare(opcodes::STATFS, ROOT)?;
+    volume.recording.done(unique, 80)?;
+    volume.recording.done(unique, 80)?;
+    take_steps(&mut volume, &mut random, steps / 50)?;
+    Ok(volume)
+}
+
+/// The directories, and so many files in them.
+fn begin(volume: &mut Volume, random: &mut Random, files: u64) -> Result<(), AllocError> {
     for _ in 1..DIRECTORIES {
         volume.mkdir(0)?;
     }
-    for _ in 0..steps / 12 {
+    for _ in 0..files {
         let directory = random.below(DIRECTORIES) as usize;
         volume.mknod(directory)?;
     }
+    Ok(())
+}
+
+fn take_steps(volume: &mut Volume, random: &mut Random, steps: u64) -> Result<(), AllocError> {
     for _ in 0..steps {
-        step(&mut volume, &mut random)?;
+        step(volume, random)?;
     }
-    Ok(volume)
+    Ok(())
 }
 
 /// One of the requests of such a run, by their shares of a thousand.

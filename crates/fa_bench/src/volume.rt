@@ -15,6 +15,9 @@ pub const LNK: u32 = 0o120777;
 /// The node of the root.
 pub const ROOT: u64 = 1;
 
+/// The numbers of names are below this, so that the letters of a name tell all of them apart.
+const LABELS: u64 = 1 << 56;
+
 /// A file, whose node is its place in the list and one.
 #[derive(Clone, Copy)]
 pub struct Node {
@@ -44,8 +47,9 @@ pub struct Volume {
     pub recording: Recording,
     pub nodes: Vec<Node>,
     pub directories: Vec<Directory>,
-    /// The number of the next name.
+    /// The number of the last new name, and what leads from one to the next.
     label: u64,
+    stride: u64,
     handle: u64,
     /// The bytes of the name of which a message is made.
     name: Vec<u8>,
@@ -91,6 +95,7 @@ impl Volume {
             nodes: Vec::new(alloc),
             directories: Vec::new(alloc),
             label: 0,
+            stride: 1,
             handle: 0,
             name: Vec::new(alloc),
             other: Vec::new(alloc),
@@ -101,9 +106,23 @@ impl Volume {
         Ok(volume)
     }
 
+    /// The same, with names that come from a number.
+    pub fn seeded(alloc: Global, name_len: u64, seed: u64) -> Result<Self, AllocError> {
+        let mut random = Random::new(seed);
+        let mut volume = Volume::new(alloc, name_len)?;
+        volume.label = random.below(LABELS);
+        volume.stride = random.number() | 1;
+        Ok(volume)
+    }
+
+    /// The number that the next new name will have. The stride is odd, so it comes to each number once.
+    fn next_label(&self) -> u64 {
+        self.label.wrapping_add(self.stride) % LABELS
+    }
+
     /// A number that no name had.
     pub fn fresh_label(&mut self) -> u64 {
-        self.label = self.label.wrapping_add(1);
+        self.label = self.next_label();
         self.label
     }
 
@@ -272,7 +291,7 @@ impl Volume {
     /// The same, of the name that the next new file will have
     pub fn miss_next(&mut self, directory: usize) -> Result<(), AllocError> {
         let at = self.directory_node(directory);
-        let label = self.label.wrapping_add(1);
+        let label = self.next_label();
         spell(&mut self.name, label, self.name_len)?;
         let unique = self
             .recording

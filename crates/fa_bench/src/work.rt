@@ -2,7 +2,7 @@
 
 use crate::volume::Volume;
 use anyhow::{Result, bail};
-use fa_audit::{MAX_INPUT_BYTES, audit, proposal, verdict_text};
+use fa_audit::{MAX_INPUT_BYTES, StartError, audit, proposal, verdict_text};
 
 /// How far a job goes.
 #[derive(Clone, Copy)]
@@ -42,7 +42,8 @@ fn tell_made<R: AllocGlobal + Print>(
     Ok(())
 }
 
-/// Has an order proposed for a capture, and has it judged: a digest of both answers.
+/// Has an order proposed for a capture, and has it judged: a digest of both answers. Where the capture has a fault, which is why
+/// none is proposed, an empty text stands for the order.
 fn judge<R: AllocGlobal + Print>(
     rt: &R,
     name: &str,
@@ -55,8 +56,10 @@ fn judge<R: AllocGlobal + Print>(
             bail!("the tree text is too long");
         }
     }
-    let Ok(order) = proposal(alloc, capture, tree) else {
-        bail!("no order");
+    let order = match proposal(alloc, capture, tree) {
+        Ok(order) => order,
+        Err(StartError::Fault { .. }) => Vec::new(alloc),
+        Err(_) => bail!("no order"),
     };
     if order.len() > MAX_INPUT_BYTES {
         bail!("the order text is too long");

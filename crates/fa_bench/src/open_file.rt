@@ -1,0 +1,85 @@
+//! A file that is open, and its bytes.
+
+use crate::volume::Volume;
+use std::alloc::AllocError;
+
+/// A file that is open, and its bytes.
+#[derive(Drop)]
+pub struct OpenFile {
+    pub node: u64,
+    handle: u64,
+    bytes: Vec<u8>,
+}
+
+impl OpenFile {
+    /// CREATE of a file in the root
+    pub fn create(volume: &mut Volume) -> Result<Self, AllocError> {
+        let (node, handle) = volume.create(0)?;
+        Ok(OpenFile {
+            node,
+            handle,
+            bytes: Vec::new(volume.alloc),
+        })
+    }
+
+    /// How many bytes it has.
+    pub fn size(&self) -> u64 {
+        self.bytes.len() as u64
+    }
+
+    /// WRITE at a place
+    pub fn write(
+        &mut self,
+        volume: &mut Volume,
+        offset: u64,
+        payload: &[u8],
+    ) -> Result<(), AllocError> {
+        volume.write(self.node, self.handle, offset, payload)?;
+        self.put_at(offset as usize, payload)
+    }
+
+    /// Writes bytes at a place, with zeros before it where there are fewer.
+    fn put_at(&mut self, start: usize, payload: &[u8]) -> Result<(), AllocError> {
+        let Some(end) = start.checked_add(payload.len()) else {
+            return Ok(());
+        };
+        if self.bytes.len() < end {
+            self.bytes.resize(end, 0)?;
+        }
+        self.bytes[start..end].copy_from_slice(payload);
+        Ok(())
+    }
+
+    /// READ of so many bytes, of which those come that are there
+    pub fn read(&self, volume: &mut Volume, offset: u64, asked: u32) -> Result<(), AllocError> {
+        let bytes = self.range(offset, asked);
+        volume.read(self.node, self.handle, offset, asked, bytes)
+    }
+
+    /// The same, but that the last byte is another one
+    pub fn read_wrong(
+        &self,
+        volume: &mut Volume,
+        offset: u64,
+        asked: u32,
+    ) -> Result<(), AllocError> {
+        let mut bytes = Vec::from_slice(volume.alloc, self.range(offset, asked))?;
+        if let Some(last) = bytes.last_mut() {
+            *last ^= 1;
+        }
+        volume.read(self.node, self.handle, offset, asked, bytes.as_slice())
+    }
+
+    /// The bytes from a place on, so many if they are there.
+    fn range(&self, offset: u64, asked: u32) -> &[u8] {
+        let end = self.size().min(offset.saturating_add(u64::from(asked)));
+        self.bytes.get(offset as usize..end as usize).unwrap_or(b"")
+    }
+
+    /// SETATTR of the size
+    pub fn cut(&mut self, volume: &mut Volume, size: u64) -> Result<(), AllocError> {
+        volume.truncate(self.node, size)?;
+        self.bytes.truncate(size as usize);
+        Ok(())
+    }
+}
