@@ -89,7 +89,7 @@ fn step(
             let offset = random.below(size / BLOCK + 1).saturating_mul(BLOCK);
             file.read(volume, offset, ASKED)
         }
-        92..94 => file.cut(volume, random.below(size.saturating_add(1))),
+        92..94 => file.set_size(volume, random.below(size.saturating_add(1))),
         _ => volume.getattr(file.node),
     }
 }

@@ -1,7 +1,8 @@
-//! The jobs by their names, and the captures of each.
+//! The jobs by their names, and the captures of each. Most are made by a module of that name; `wrong` ends as `not shown` and is of
+//! the module `data`, and `fault` ends as that and is of `stress`. `all` is each of them.
 
 use crate::work::{Work, take};
-use crate::{awkward, build, data, stress, threads, walk};
+use crate::{awkward, build, data, stress, threads, unaligned, walk};
 use anyhow::{Result, bail};
 
 /// Runs the job of this name.
@@ -21,6 +22,7 @@ pub fn run<R: AllocGlobal + Print>(
         "awkward" => awkward_job(rt, work, seed, size),
         "wrong" => wrong_job(rt, work, seed, size),
         "fault" => fault_job(rt, work, seed, size),
+        "unaligned" => unaligned_job(rt, work, seed, size),
         "all" => all_jobs(rt, work, seed, size),
         _ => bail!("no such job"),
     }
@@ -34,7 +36,8 @@ fn all_jobs<R: AllocGlobal + Print>(rt: &R, work: Work, seed: u64, size: u64) ->
     threads_job(rt, work, seed, size)?;
     awkward_job(rt, work, seed, size)?;
     wrong_job(rt, work, seed, size)?;
-    fault_job(rt, work, seed, size)
+    fault_job(rt, work, seed, size)?;
+    unaligned_job(rt, work, seed, size)
 }
 
 fn stress_job<R: AllocGlobal + Print>(rt: &R, work: Work, seed: u64, size: u64) -> Result<()> {
@@ -91,4 +94,9 @@ fn wrong_job<R: AllocGlobal + Print>(rt: &R, work: Work, seed: u64, size: u64) -
 fn fault_job<R: AllocGlobal + Print>(rt: &R, work: Work, seed: u64, size: u64) -> Result<()> {
     let volume = stress::answered_twice(rt.alloc(), seed, size)?;
     take(rt, work, "fault", volume, None)
+}
+
+fn unaligned_job<R: AllocGlobal + Print>(rt: &R, work: Work, seed: u64, size: u64) -> Result<()> {
+    let volume = unaligned::volume(rt.alloc(), seed, size)?;
+    take(rt, work, "unaligned", volume, None)
 }

@@ -2,9 +2,8 @@
 //!
 //! A job makes a capture, has an order proposed for it, and has that judged, as the commands `propose` and `check` do, and prints
 //! a digest of both answers. With the word `make` before it, it makes the capture alone, and prints a digest of that: so the time
-//! of the making can be taken off. SEED is the number of which the capture is made, and SIZE says how large it is. The jobs are
-//! `stress`, `build`, `data`, `walk`, `threads` and `awkward`, each a module of that name, `wrong`, whose verdict is `not shown`,
-//! and `fault`, whose verdict is that, of the modules `data` and `stress`; and `all`.
+//! of the making can be taken off. SEED is the number of which the capture is made, and SIZE says how large it is. JOB is one of the
+//! names in `jobs`.
 #![tactic(auto)]
 
 mod awkward;
@@ -17,6 +16,7 @@ mod random;
 mod recording;
 mod stress;
 mod threads;
+mod unaligned;
 mod volume;
 mod walk;
 mod work;

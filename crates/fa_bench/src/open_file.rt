@@ -76,10 +76,9 @@ impl OpenFile {
         self.bytes.get(offset as usize..end as usize).unwrap_or(b"")
     }
 
-    /// SETATTR of the size
-    pub fn cut(&mut self, volume: &mut Volume, size: u64) -> Result<(), AllocError> {
+    /// SETATTR of the size, by which it is cut or filled with zeros
+    pub fn set_size(&mut self, volume: &mut Volume, size: u64) -> Result<(), AllocError> {
         volume.truncate(self.node, size)?;
-        self.bytes.truncate(size as usize);
-        Ok(())
+        self.bytes.resize(size as usize, 0)
     }
 }
