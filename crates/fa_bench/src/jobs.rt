@@ -2,7 +2,7 @@
 //! the module `data`, and `fault` ends as that and is of `stress`. `all` is each of them.
 
 use crate::work::{Work, take};
-use crate::{awkward, build, data, stress, threads, unaligned, walk};
+use crate::{awkward, build, data, handles, stress, threads, unaligned, walk};
 use anyhow::{Result, bail};
 
 /// Runs the job of this name.
@@ -23,6 +23,7 @@ pub fn run<R: AllocGlobal + Print>(
         "wrong" => wrong_job(rt, work, seed, size),
         "fault" => fault_job(rt, work, seed, size),
         "unaligned" => unaligned_job(rt, work, seed, size),
+        "handles" => handles_job(rt, work, seed, size),
         "all" => all_jobs(rt, work, seed, size),
         _ => bail!("no such job"),
     }
@@ -37,7 +38,8 @@ fn all_jobs<R: AllocGlobal + Print>(rt: &R, work: Work, seed: u64, size: u64) ->
     awkward_job(rt, work, seed, size)?;
     wrong_job(rt, work, seed, size)?;
     fault_job(rt, work, seed, size)?;
-    unaligned_job(rt, work, seed, size)
+    unaligned_job(rt, work, seed, size)?;
+    handles_job(rt, work, seed, size)
 }
 
 fn stress_job<R: AllocGlobal + Print>(rt: &R, work: Work, seed: u64, size: u64) -> Result<()> {
@@ -99,4 +101,9 @@ fn fault_job<R: AllocGlobal + Print>(rt: &R, work: Work, seed: u64, size: u64) -
 fn unaligned_job<R: AllocGlobal + Print>(rt: &R, work: Work, seed: u64, size: u64) -> Result<()> {
     let volume = unaligned::volume(rt.alloc(), seed, size)?;
     take(rt, work, "unaligned", volume, None)
+}
+
+fn handles_job<R: AllocGlobal + Print>(rt: &R, work: Work, seed: u64, size: u64) -> Result<()> {
+    let volume = handles::volume(rt.alloc(), seed, size)?;
+    take(rt, work, "handles", volume, None)
 }

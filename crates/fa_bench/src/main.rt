@@ -9,6 +9,7 @@
 mod awkward;
 mod build;
 mod data;
+mod handles;
 mod jobs;
 mod open_file;
 mod pool;

@@ -336,12 +336,12 @@ impl Recording {
 pub struct Entries {
     bytes: Recording,
     plus: bool,
-    room: usize,
+    room: u32,
 }
 
 impl Entries {
     /// None, of at most so many bytes.
-    pub fn new(alloc: Global, plus: bool, room: usize) -> Self {
+    pub fn new(alloc: Global, plus: bool, room: u32) -> Self {
         let bytes = Recording {
             bytes: Vec::new(alloc),
             unique: 0,
@@ -360,7 +360,7 @@ impl Entries {
         let padding = (8 - name.len() % 8) % 8;
         let head = if self.plus { 152 } else { 24 };
         let len = name.len().saturating_add(padding).saturating_add(head);
-        if self.bytes.bytes.len().saturating_add(len) > self.room {
+        if self.bytes.bytes.len().saturating_add(len) > self.room as usize {
             return Ok(false);
         }
         if self.plus {
@@ -379,6 +379,11 @@ impl Entries {
     /// Whether the entries give nodes.
     pub fn gives_nodes(&self) -> bool {
         self.plus
+    }
+
+    /// How many bytes they have at most.
+    pub fn room(&self) -> u32 {
+        self.room
     }
 
     /// The bytes of the answer.

@@ -557,22 +557,40 @@ impl Volume {
         opcode: u32,
         size: u32,
     ) -> Result<(), AllocError> {
-        let node = self.directory_node(directory);
         let mut next = 0usize;
         for _ in 0..u32::MAX {
-            let unique = self
-                .recording
-                .read(opcode, node, handle, next as u64, size)?;
             let plus = opcode == opcodes::READDIRPLUS;
-            let mut entries = Entries::new(self.alloc, plus, size as usize);
+            let entries = Entries::new(self.alloc, plus, size);
             let before = next;
-            next = self.list_some(&mut entries, directory, next)?;
-            self.recording.bytes(unique, entries.as_slice())?;
+            next = self.list_on(directory, handle, next, entries)?;
             if next == before {
                 break;
             }
         }
         Ok(())
+    }
+
+    /// One READDIR or READDIRPLUS from this place on, in whose answer some entries may stand before: the place behind it
+    pub fn list_on(
+        &mut self,
+        directory: usize,
+        handle: u64,
+        from: usize,
+        mut entries: Entries,
+    ) -> Result<usize, AllocError> {
+        let node = self.directory_node(directory);
+        let opcode = if entries.gives_nodes() {
+            opcodes::READDIRPLUS
+        } else {
+            opcodes::READDIR
+        };
+        let size = entries.room();
+        let unique = self
+            .recording
+            .read(opcode, node, handle, from as u64, size)?;
+        let next = self.list_some(&mut entries, directory, from)?;
+        self.recording.bytes(unique, entries.as_slice())?;
+        Ok(next)
     }
 
     /// Adds the entries from this place on, as many as there is room for: the place behind them.
