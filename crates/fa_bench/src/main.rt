@@ -10,6 +10,7 @@ mod awkward;
 mod build;
 mod data;
 mod handles;
+mod interrupted;
 mod jobs;
 mod open_file;
 mod pool;

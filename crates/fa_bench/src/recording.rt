@@ -6,6 +6,10 @@ use std::alloc::{AllocError, Global};
 /// Errors of replies (errno.h).
 pub const ENOENT: i32 = -2;
 
+pub const EINTR: i32 = -4;
+
+pub const EAGAIN: i32 = -11;
+
 pub const EEXIST: i32 = -17;
 
 pub const ENOTEMPTY: i32 = -39;
@@ -53,12 +57,23 @@ impl Recording {
     /// The head of a request with a body of so many bytes: its unique.
     fn request(&mut self, opcode: u32, node: u64, body: usize) -> Result<u64, AllocError> {
         self.unique = self.unique.wrapping_add(2);
+        self.request_head(opcode, self.unique, node, body)?;
+        Ok(self.unique)
+    }
+
+    /// The head of a request with this unique and a body of so many bytes.
+    fn request_head(
+        &mut self,
+        opcode: u32,
+        unique: u64,
+        node: u64,
+        body: usize,
+    ) -> Result<(), AllocError> {
         self.record(0, body.saturating_add(40))?;
         self.u32(opcode)?;
-        self.u64(self.unique)?;
+        self.u64(unique)?;
         self.u64(node)?;
-        self.zeros(16)?;
-        Ok(self.unique)
+        self.zeros(16)
     }
 
     /// The head of a success with a body of so many bytes.
@@ -258,6 +273,14 @@ impl Recording {
     pub fn forget(&mut self, node: u64, lookups: u64) -> Result<(), AllocError> {
         self.request(opcodes::FORGET, node, 8)?;
         self.u64(lookups)
+    }
+
+    /// INTERRUPT of the request with this unique, of which its own is made, as Linux does
+    pub fn interrupt(&mut self, unique: u64) -> Result<u64, AllocError> {
+        let own = unique | 1;
+        self.request_head(opcodes::INTERRUPT, own, 0, 8)?;
+        self.u64(unique)?;
+        Ok(own)
     }
 
     // ---- replies
