@@ -2,7 +2,7 @@
 //! the module `data`, and `fault` ends as that and is of `stress`. `all` is each of them.
 
 use crate::work::{Work, take};
-use crate::{awkward, build, data, handles, interrupted, stress, threads, unaligned, walk};
+use crate::{awkward, build, data, handles, interrupted, reused, stress, threads, unaligned, walk};
 use anyhow::{Result, bail};
 
 /// Runs the job of this name.
@@ -25,6 +25,7 @@ pub fn run<R: AllocGlobal + Print>(
         "unaligned" => unaligned_job(rt, work, seed, size),
         "handles" => handles_job(rt, work, seed, size),
         "interrupted" => interrupted_job(rt, work, seed, size),
+        "reused" => reused_job(rt, work, seed, size),
         "all" => all_jobs(rt, work, seed, size),
         _ => bail!("no such job"),
     }
@@ -41,7 +42,8 @@ fn all_jobs<R: AllocGlobal + Print>(rt: &R, work: Work, seed: u64, size: u64) ->
     fault_job(rt, work, seed, size)?;
     unaligned_job(rt, work, seed, size)?;
     handles_job(rt, work, seed, size)?;
-    interrupted_job(rt, work, seed, size)
+    interrupted_job(rt, work, seed, size)?;
+    reused_job(rt, work, seed, size)
 }
 
 fn stress_job<R: AllocGlobal + Print>(rt: &R, work: Work, seed: u64, size: u64) -> Result<()> {
@@ -113,4 +115,9 @@ fn handles_job<R: AllocGlobal + Print>(rt: &R, work: Work, seed: u64, size: u64)
 fn interrupted_job<R: AllocGlobal + Print>(rt: &R, work: Work, seed: u64, size: u64) -> Result<()> {
     let volume = interrupted::volume(rt.alloc(), seed, size)?;
     take(rt, work, "interrupted", volume, None)
+}
+
+fn reused_job<R: AllocGlobal + Print>(rt: &R, work: Work, seed: u64, size: u64) -> Result<()> {
+    let volume = reused::volume(rt.alloc(), seed, size)?;
+    take(rt, work, "reused", volume, None)
 }

@@ -16,6 +16,7 @@ mod open_file;
 mod pool;
 mod random;
 mod recording;
+mod reused;
 mod stress;
 mod threads;
 mod unaligned;

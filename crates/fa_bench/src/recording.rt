@@ -12,6 +12,8 @@ pub const EAGAIN: i32 = -11;
 
 pub const EEXIST: i32 = -17;
 
+pub const EINVAL: i32 = -22;
+
 pub const ENOTEMPTY: i32 = -39;
 
 pub const ENODATA: i32 = -61;
@@ -214,6 +216,24 @@ impl Recording {
         Ok(unique)
     }
 
+    pub fn rename2(
+        &mut self,
+        directory: u64,
+        name: &[u8],
+        new_directory: u64,
+        new_name: &[u8],
+        flags: u32,
+    ) -> Result<u64, AllocError> {
+        let body = name.len().saturating_add(new_name.len()).saturating_add(18);
+        let unique = self.request(opcodes::RENAME2, directory, body)?;
+        self.u64(new_directory)?;
+        self.u32(flags)?;
+        self.zeros(4)?;
+        self.name(name)?;
+        self.name(new_name)?;
+        Ok(unique)
+    }
+
     pub fn link(&mut self, node: u64, directory: u64, name: &[u8]) -> Result<u64, AllocError> {
         let unique = self.request(opcodes::LINK, directory, name.len().saturating_add(9))?;
         self.u64(node)?;
@@ -273,6 +293,19 @@ impl Recording {
     pub fn forget(&mut self, node: u64, lookups: u64) -> Result<(), AllocError> {
         self.request(opcodes::FORGET, node, 8)?;
         self.u64(lookups)
+    }
+
+    /// BATCH_FORGET of nodes, each with so many lookups, which has no answer
+    pub fn batch_forget(&mut self, items: &[(u64, u64)]) -> Result<(), AllocError> {
+        let body = items.len().saturating_mul(16).saturating_add(8);
+        self.request(opcodes::BATCH_FORGET, 0, body)?;
+        self.u32(u32::try_from(items.len()).unwrap_or(u32::MAX))?;
+        self.zeros(4)?;
+        for (node, lookups) in items {
+            self.u64(*node)?;
+            self.u64(*lookups)?;
+        }
+        Ok(())
     }
 
     /// INTERRUPT of the request with this unique, of which its own is made, as Linux does

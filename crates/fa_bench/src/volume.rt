@@ -51,6 +51,9 @@ pub struct Volume {
     label: u64,
     stride: u64,
     handle: u64,
+    /// Nodes and handles that are free, and are given before others.
+    spare_nodes: Vec<u64>,
+    spare_handles: Vec<u64>,
     /// The bytes of the name of which a message is made.
     name: Vec<u8>,
     other: Vec<u8>,
@@ -97,6 +100,8 @@ impl Volume {
             label: 0,
             stride: 1,
             handle: 0,
+            spare_nodes: Vec::new(alloc),
+            spare_handles: Vec::new(alloc),
             name: Vec::new(alloc),
             other: Vec::new(alloc),
             name_len,
@@ -138,11 +143,18 @@ impl Volume {
             size,
             links: 1,
         };
-        self.nodes.push(Node {
+        let node = Node {
             attributes,
             lookups: 1,
-        })?;
-        Ok(self.nodes.len() as u64)
+        };
+        let Some(spare) = self.spare_nodes.pop() else {
+            self.nodes.push(node)?;
+            return Ok(self.nodes.len() as u64);
+        };
+        if let Some(there) = self.nodes.get_mut(spare.wrapping_sub(1) as usize) {
+            *there = node;
+        }
+        Ok(spare)
     }
 
     /// A directory that has this node: its place.
@@ -224,6 +236,15 @@ impl Volume {
         Ok(())
     }
 
+    /// Gives the name at a place of a directory to another file.
+    pub fn give_child(&mut self, directory: usize, place: usize, node: u64) {
+        if let Some(there) = self.directories.get_mut(directory) {
+            if let Some(child) = there.children.get_mut(place) {
+                child.node = node;
+            }
+        }
+    }
+
     /// Takes the name at a place of a directory away.
     pub fn take_child(&mut self, directory: usize, place: usize) {
         if let Some(there) = self.directories.get_mut(directory) {
@@ -252,6 +273,23 @@ impl Volume {
         let at = self.directory_node(directory);
         spell(&mut self.name, label, self.name_len)?;
         self.recording.create(at, self.name.as_slice(), REG)
+    }
+
+    /// RENAME2 from one name to another
+    pub fn ask_rename2(
+        &mut self,
+        directory: usize,
+        label: u64,
+        new_directory: usize,
+        new_label: u64,
+        flags: u32,
+    ) -> Result<u64, AllocError> {
+        let at = self.directory_node(directory);
+        let to = self.directory_node(new_directory);
+        spell(&mut self.name, label, self.name_len)?;
+        spell(&mut self.other, new_label, self.name_len)?;
+        self.recording
+            .rename2(at, self.name.as_slice(), to, self.other.as_slice(), flags)
     }
 
     /// LINK to a name in the root
@@ -384,10 +422,15 @@ impl Volume {
         Ok((node, handle))
     }
 
-    /// A handle that no opening had.
+    /// A handle that is free.
     pub fn fresh_handle(&mut self) -> u64 {
-        self.handle = self.handle.wrapping_add(1);
-        self.handle
+        match self.spare_handles.pop() {
+            Some(spare) => spare,
+            None => {
+                self.handle = self.handle.wrapping_add(1);
+                self.handle
+            }
+        }
     }
 
     /// LINK of a file to a new name
@@ -467,6 +510,19 @@ impl Volume {
         Ok(())
     }
 
+    /// BATCH_FORGET of nodes that no name has, which are free from then on
+    pub fn forget_all(&mut self, gone: &[u64]) -> Result<(), AllocError> {
+        let mut items: Vec<(u64, u64)> = Vec::new(self.alloc);
+        for node in gone {
+            if let Some(there) = self.nodes.get_mut(node.wrapping_sub(1) as usize) {
+                items.push((*node, there.lookups))?;
+                there.lookups = 0;
+                self.spare_nodes.push(*node)?;
+            }
+        }
+        self.recording.batch_forget(items.as_slice())
+    }
+
     /// RENAME of the name at a place to a new one
     pub fn rename(
         &mut self,
@@ -532,6 +588,12 @@ impl Volume {
         self.recording.done(unique, 0)?;
         let unique = self.recording.close(opcodes::RELEASE, node, handle)?;
         self.recording.done(unique, 0)
+    }
+
+    /// FLUSH and RELEASE of a handle, which is free from then on
+    pub fn close_for_good(&mut self, node: u64, handle: u64) -> Result<(), AllocError> {
+        self.close(node, handle)?;
+        self.spare_handles.push(handle).map_err(AllocError::from)
     }
 
     /// OPENDIR: its handle
