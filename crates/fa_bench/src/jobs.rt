@@ -2,7 +2,9 @@
 //! the module `data`, and `fault` ends as that and is of `stress`. `all` is each of them.
 
 use crate::work::{Work, take};
-use crate::{awkward, build, data, handles, interrupted, reused, stress, threads, unaligned, walk};
+use crate::{
+    awkward, build, data, handles, interrupted, new_names, reused, stress, threads, unaligned, walk,
+};
 use anyhow::{Result, bail};
 
 /// Runs the job of this name.
@@ -26,6 +28,7 @@ pub fn run<R: AllocGlobal + Print>(
         "handles" => handles_job(rt, work, seed, size),
         "interrupted" => interrupted_job(rt, work, seed, size),
         "reused" => reused_job(rt, work, seed, size),
+        "names" => names_job(rt, work, seed, size),
         "all" => all_jobs(rt, work, seed, size),
         _ => bail!("no such job"),
     }
@@ -43,7 +46,8 @@ fn all_jobs<R: AllocGlobal + Print>(rt: &R, work: Work, seed: u64, size: u64) ->
     unaligned_job(rt, work, seed, size)?;
     handles_job(rt, work, seed, size)?;
     interrupted_job(rt, work, seed, size)?;
-    reused_job(rt, work, seed, size)
+    reused_job(rt, work, seed, size)?;
+    names_job(rt, work, seed, size)
 }
 
 fn stress_job<R: AllocGlobal + Print>(rt: &R, work: Work, seed: u64, size: u64) -> Result<()> {
@@ -120,4 +124,9 @@ fn interrupted_job<R: AllocGlobal + Print>(rt: &R, work: Work, seed: u64, size: 
 fn reused_job<R: AllocGlobal + Print>(rt: &R, work: Work, seed: u64, size: u64) -> Result<()> {
     let volume = reused::volume(rt.alloc(), seed, size)?;
     take(rt, work, "reused", volume, None)
+}
+
+fn names_job<R: AllocGlobal + Print>(rt: &R, work: Work, seed: u64, size: u64) -> Result<()> {
+    let volume = new_names::volume(rt.alloc(), seed, size)?;
+    take(rt, work, "names", volume, None)
 }

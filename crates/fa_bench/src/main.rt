@@ -12,6 +12,7 @@ mod data;
 mod handles;
 mod interrupted;
 mod jobs;
+mod new_names;
 mod open_file;
 mod pool;
 mod random;
