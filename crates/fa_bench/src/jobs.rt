@@ -3,7 +3,8 @@
 
 use crate::work::{Work, take};
 use crate::{
-    awkward, build, data, handles, interrupted, new_names, reused, stress, threads, unaligned, walk,
+    awkward, build, data, flat, handles, interrupted, new_names, reused, stress, threads,
+    unaligned, walk,
 };
 use anyhow::{Result, bail};
 
@@ -29,6 +30,7 @@ pub fn run<R: AllocGlobal + Print>(
         "interrupted" => interrupted_job(rt, work, seed, size),
         "reused" => reused_job(rt, work, seed, size),
         "names" => names_job(rt, work, seed, size),
+        "flat" => flat_job(rt, work, seed, size),
         "all" => all_jobs(rt, work, seed, size),
         _ => bail!("no such job"),
     }
@@ -47,7 +49,8 @@ fn all_jobs<R: AllocGlobal + Print>(rt: &R, work: Work, seed: u64, size: u64) ->
     handles_job(rt, work, seed, size)?;
     interrupted_job(rt, work, seed, size)?;
     reused_job(rt, work, seed, size)?;
-    names_job(rt, work, seed, size)
+    names_job(rt, work, seed, size)?;
+    flat_job(rt, work, seed, size)
 }
 
 fn stress_job<R: AllocGlobal + Print>(rt: &R, work: Work, seed: u64, size: u64) -> Result<()> {
@@ -129,4 +132,9 @@ fn reused_job<R: AllocGlobal + Print>(rt: &R, work: Work, seed: u64, size: u64) 
 fn names_job<R: AllocGlobal + Print>(rt: &R, work: Work, seed: u64, size: u64) -> Result<()> {
     let volume = new_names::volume(rt.alloc(), seed, size)?;
     take(rt, work, "names", volume, None)
+}
+
+fn flat_job<R: AllocGlobal + Print>(rt: &R, work: Work, seed: u64, size: u64) -> Result<()> {
+    let (text, volume) = flat::volume(rt.alloc(), seed, size)?;
+    take(rt, work, "flat", volume, Some(text.as_slice()))
 }

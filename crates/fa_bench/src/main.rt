@@ -9,6 +9,7 @@
 mod awkward;
 mod build;
 mod data;
+mod flat;
 mod handles;
 mod interrupted;
 mod jobs;
