@@ -1,6 +1,7 @@
 pub mod ProtocolLemmas
 pub mod OneAnswer
 pub mod AnswerThere
+pub mod GivenLemmas
 pub mod AuditLemmas
 pub mod CodedLemmas
 pub mod AnswerLemmas

@@ -1,10 +1,12 @@
 -- The statements of the laws.
 use Rattle.std.specs.Prelude.{◌≡◌, ℕ, ◌<◌, List, All, Option, Result}
+use Rattle.fa_tree.specs.State.{TreeState}
+use Rattle.fa_tree.specs.Making.{HasMadeNone}
 use Rattle.fa_check.specs.declared.verdict.Verdict.{Verdict}
 use Rattle.fa_audit.specs.declared.verdict.AuditError.{AuditError}
 use Rattle.fa_audit.specs.declared.verdict.StartError.{StartError}
 use Rattle.fa_audit.specs.declared.verdict.CutError.{CutError}
-use Rattle.fa_audit.specs.Verdict.{IsAnswer}
+use Rattle.fa_audit.specs.Verdict.{IsGivenTree, IsAnswer}
 use Rattle.fa_audit.specs.Proposed.{IsProposalAnswer}
 use Rattle.fa_audit.specs.CutOrders.{IsCutAnswer}
 
@@ -19,6 +21,11 @@ abbrev pub AnswerIsThere : Type 0
 AnswerIsThere =
     (capture : List ℕ) (tree : Option (List ℕ)) (order : List ℕ) → All (λ b. b < 256) capture
     → ((answer : Result Verdict AuditError) → IsAnswer capture tree order answer → ⊥) → ⊥
+
+-- In the tree that the server began with no request has made a file. So in a run from it none has before its own entry
+-- (`UnplacedMakesNone` of fa_check).
+abbrev pub GivenTreeHasNoMadeFile : Type 0
+GivenTreeHasNoMadeFile = (tree : Option (List ℕ)) (first : TreeState) (asked : ℕ) → IsGivenTree tree first → HasMadeNone first.store asked
 
 -- a capture and a tree text or none have one answer at most
 abbrev pub OneProposalAnswer : Type 0

@@ -3,7 +3,7 @@
 ghost use Rattle.std.specs.Prelude.{◌≡◌};
 ghost use Rattle.fa_audit.specs.declared.judge.TheConstants.{ROOT_BITS};
 ghost use Rattle.fa_audit.specs.declared.running.TheConstants.{MAX_INPUT_BYTES};
-ghost use Rattle.fa_audit.specs.Laws.{OneAnswer, AnswerIsThere, OneProposalAnswer, ProposalAnswerIsThere, OneCutAnswer, CutAnswerIsThere};
+ghost use Rattle.fa_audit.specs.Laws.{OneAnswer, AnswerIsThere, GivenTreeHasNoMadeFile, OneProposalAnswer, ProposalAnswerIsThere, OneCutAnswer, CutAnswerIsThere};
 
 /// A capture, a tree text or none and an order text have one answer at most.
 pub fn one_answer()
@@ -13,6 +13,11 @@ pub fn one_answer()
 /// A capture of bytes, a tree text or none and an order text have never no answer.
 pub fn answer_is_there()
     ensures { AnswerIsThere }
+{}
+
+/// In the tree that the server began with no request has made a file.
+pub fn given_tree_has_no_made_file()
+    ensures { GivenTreeHasNoMadeFile }
 {}
 
 /// A capture and a tree text or none have one answer of a proposal at most.

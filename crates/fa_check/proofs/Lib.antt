@@ -11,6 +11,7 @@ pub mod FrontLemmas
 pub mod VerdictLemmas
 pub mod ThereLemmas
 pub mod UnknownLemmas
+pub mod MadeLemmas
 pub mod CutLemmas
 pub mod CutRunLemmas
 pub mod CutOneLemmas

@@ -1,13 +1,14 @@
 -- What holds of orders and verdicts.
-use Rattle.std.specs.Prelude.{◌≡◌, ◌↔◌, ℕ, ◌≤◌, List, length, take}
+use Rattle.std.specs.Prelude.{◌≡◌, ◌↔◌, ℕ, ◌≤◌, List, length, take, Contains}
 use Rattle.fa_capture.specs.declared.codes.TheConstants.{UNKNOWN_HERE}
 use Rattle.fa_capture.specs.Message.{Message}
 use Rattle.fa_ledger.specs.Passing.{AreGood}
 use Rattle.fa_tree.specs.State.{TreeState}
+use Rattle.fa_tree.specs.Making.{HasMadeNone}
 use Rattle.fa_order.specs.declared.entry.Entry.{Entry}
 use Rattle.fa_check.specs.declared.verdict.Verdict.{Verdict}
 use Rattle.fa_check.specs.declared.verdict.Verdict.TheVariants.{Legal}
-use Rattle.fa_check.specs.Orders.{IsValidOrder}
+use Rattle.fa_check.specs.Orders.{numbers, IsValidOrder}
 use Rattle.fa_check.specs.Runs.{Runs, IsLegalRun, HasOrder}
 use Rattle.fa_check.specs.Faults.{EachPlaced, IsAnsweredUnplaced, IsOrderAtFault}
 use Rattle.fa_check.specs.Verdicts.{IsVerdict}
@@ -49,6 +50,15 @@ VerdictIsThere =
 abbrev pub NeverUnknownHere : Type 0
 NeverUnknownHere =
     (c : List Message) (first : TreeState) (es : List Entry) (entry at : ℕ) → IsOrderAtFault c first es entry at UNKNOWN_HERE → ⊥
+
+-- A run makes no file of a request that no entry names: where the request had made none in the first tree, it has made none in the
+-- last. So from a tree in which no request has made a file, an entry that is placed for the first time is never refused for a file
+-- that its own request made. The premise is needed: MKDIR by request 2, not answered, and RMDIR by request 3 leave a tree that has
+-- the file of 2 still, and from that tree an entry for 2 is at fault with code 81.
+abbrev pub UnplacedMakesNone : Type 0
+UnplacedMakesNone =
+    (c : List Message) (first last : TreeState) (es : List Entry) (asked : ℕ)
+    → HasMadeNone first.store asked → Runs first last c es → (Contains (numbers es) asked → ⊥) → HasMadeNone last.store asked
 
 -- The prefix law: an order that is a legal run of the messages is, cut at any message, a legal run of the messages before it.
 abbrev pub CutIsLegal : Type 0

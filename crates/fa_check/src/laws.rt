@@ -1,6 +1,6 @@
 //! What holds of orders and verdicts. Each function does nothing: its contract is the law.
 
-ghost use Rattle.fa_check.specs.Laws.{ValidWhereEachIsPlaced, RunIsOne, LegalHasNoFault, VerdictIsOne, VerdictIsThere, NeverUnknownHere, CutIsLegal, ExplainedIsLegalCut, LegalExplains, ExplainsAllIsLegal, CutAgain, NoOrderStays, CutIsOne, CutIsThere, CutIsToldLegal};
+ghost use Rattle.fa_check.specs.Laws.{ValidWhereEachIsPlaced, RunIsOne, LegalHasNoFault, VerdictIsOne, VerdictIsThere, NeverUnknownHere, UnplacedMakesNone, CutIsLegal, ExplainedIsLegalCut, LegalExplains, ExplainsAllIsLegal, CutAgain, NoOrderStays, CutIsOne, CutIsThere, CutIsToldLegal};
 
 /// An order is valid exactly where each entry is placed rightly after those before it, and none that was answered is left out.
 pub fn valid_where_each_is_placed()
@@ -30,6 +30,11 @@ pub fn verdict_is_there()
 /// No entry is at fault because the tree does not know what its call names.
 pub fn never_unknown_here()
     ensures { NeverUnknownHere }
+{}
+
+/// A run makes no file of a request that no entry names.
+pub fn unplaced_makes_none()
+    ensures { UnplacedMakesNone }
 {}
 
 /// An order that is legal stays so when it is cut at a message, for the messages before that one.

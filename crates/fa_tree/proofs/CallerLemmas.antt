@@ -9,6 +9,8 @@ pub use Rattle.fa_tree.specs.parts.PlaceLaws.{place_cmp_total, same_place}
 pub use Rattle.fa_tree.proofs.EditedLemmas.{insert_there}
 -- what a tree knows, and the code that is told where it does not know what a call names
 pub use Rattle.fa_tree.proofs.KnownLemmas.{IsKnownIn, IsOpenedIn, UsesOpened, step_keeps_node, step_keeps_open, step_gives, step_opens, all_known, unknown_fails, told_unknown}
+-- a step makes no file but that of its request, and trees that are put together have none that a request made
+pub use Rattle.fa_tree.proofs.MadeLemmas.{step_makes_own, empty_made_none, added_made_none}
 -- a step where all checks hold
 pub use Rattle.fa_tree.proofs.LawLemmas.{steps_where_all_hold, step_is_one}
 -- the rule of an operation is that of its request

@@ -15,6 +15,7 @@ pub mod KnownLemmas
 pub mod LawLemmas
 pub mod ListingLemmas
 pub mod ListingStepLemmas
+pub mod MadeLemmas
 pub mod MakingLemmas
 pub mod MemberLemmas
 pub mod NameLemmas

@@ -8,4 +8,5 @@ pub mod BodyLemmas
 pub mod AdditionLemmas
 pub mod TreeLemmas
 pub mod TreeLaws
+pub mod MadeLemmas
 pub mod CallerLemmas
