@@ -78,7 +78,7 @@ def main():
     members = edits.all_edits(sys.argv[1:])
     failed = 0
     with concurrent.futures.ThreadPoolExecutor(3) as pool:
-        found = [it for part in pool.map(suspects, edits.rounds_of(members)) for it in part]
+        found = [it for part in pool.map(suspects, edits.rounds_of(members, with_items=True)) for it in part]
         for edit, told in zip(found, pool.map(lambda it: compiled(it.crate, it.made({})), found)):
             if told:
                 failed += 1

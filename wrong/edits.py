@@ -73,13 +73,13 @@ def all_edits(crates=()):
     return [it for it in map(Edit, paths) if not crates or it.crate in crates]
 
 
-def rounds_of(edits):
+def rounds_of(edits, with_items=False):
     """Parts edits into few rounds. Those of one round can be made together, and no two of them change one function. One that changes
-    several, or what stands outside of all, can be felt anywhere, and stands alone."""
+    several stands alone, and so does one that changes an item outside of all, as a constant, unless it is to be taken along."""
     rounds, alone = [], []
     for edit in edits:
         functions = edit.functions()
-        if len(functions) > 1 or any(number == 0 for _, _, number in functions):
+        if len(functions) > 1 or not with_items and not all(number for _, _, number in functions):
             alone.append([edit])
             continue
         for taken, members, texts in rounds:
