@@ -11,14 +11,13 @@ use Rattle.fa_tree.specs.declared.open.Opening.{Opening}
 use Rattle.fa_tree.specs.declared.slots.Place.{Place}
 use Rattle.fa_tree.specs.declared.slots.Slot.{Slot}
 use Rattle.fa_tree.specs.declared.slots.Slot.TheVariants.{There}
-use Rattle.fa_tree.specs.parts.PlaceLaws.{same_place}
 use Rattle.fa_tree.specs.parts.SlotParts.{slot_at, file_in, names_shown, IsChangedAt}
 use Rattle.fa_tree.specs.parts.NameParts.{edited}
 use Rattle.fa_tree.specs.parts.NameViews.{shown, AreStampsWithin}
 use Rattle.fa_tree.proofs.NameLemmas.{get-names_shown}
 use Rattle.fa_tree.proofs.SlotLemmas.{replaced_at}
 use Rattle.fa_tree.proofs.ViewLemmas.{names_put, shown_put, within_put}
-use Rattle.fa_tree.proofs.HolderLemmas.{put_there, other_there}
+use Rattle.fa_tree.proofs.HolderLemmas.{other_there}
 
 -- the names after a name is another file's
 abbrev pub after_put : FinMap place_cmp FileId → state.Place → FileId → FinMap place_cmp FileId
@@ -28,11 +27,6 @@ module _ (names : FinMap place_cmp FileId) (one other : state.Place) (file of : 
   -- the second name is there after the first is put
   pub also_there : map.get (after_put names one of) other ≡ Some of
   also_there = other_there names one other of of (λ same. refl) also
-
-  -- and the first after the second
-  pub one_there : map.get (after_put (after_put names one of) other file) one ≡ Some of
-  one_there = other_there (after_put names one of) other one file of
-      (λ test. let same : Some file ≡ Some of = sym there ∙ ap (map.get names) (same_place one other test) ∙ also in cc) (put_there names one other of of)
 
 -- a place that has a name has a slot
 has_slot : (slots : List (Place × Slot)) (place : state.Place) (file : FileId) → map.get (names_shown slots) place ≡ Some file → slot_at slots place ≢ None

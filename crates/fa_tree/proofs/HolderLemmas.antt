@@ -17,11 +17,10 @@ use Rattle.fa_tree.specs.declared.slots.Place.{Place}
 use Rattle.fa_tree.specs.declared.slots.Slot.{Slot}
 use Rattle.fa_tree.specs.declared.holders.Holder.{Holder}
 use Rattle.fa_tree.specs.declared.holders.Holders.{Holders}
-use Rattle.fa_tree.specs.parts.FileIdLaws.{file_equiv, file_self, file_tested, same_file}
-use Rattle.fa_tree.specs.parts.PlaceLaws.{place_cmp_total, places_apart, same_place}
+use Rattle.fa_tree.specs.parts.FileIdLaws.{file_equiv, file_self, same_file}
+use Rattle.fa_tree.specs.parts.PlaceLaws.{place_cmp_total, places_apart}
 use Rattle.fa_tree.specs.parts.SlotParts.{place_of, file_in, put_or_not, names_shown}
 use Rattle.fa_tree.specs.parts.HolderParts.{no_holder, entry_of, held, IsKnown, AreCounted}
-use Rattle.fa_tree.proofs.EditedLemmas.{insert_there}
 
 -- ---- how many entries of a map pass a test
 
@@ -232,7 +231,6 @@ pub none_counted : (holder : FileId → Holder) → ((file : FileId) → holder 
 none_counted holder zeros = record {
   links = λ file. ap (λ h. h.links) (zeros file) ∙ sym (none (λ entry. file_eq entry.1 file));
   inside = λ directory. ap (λ h. h.inside) (zeros directory) ∙ sym (none (λ entry. file_eq entry.0.0 directory));
-  parent = λ file directory is. absurd (let clash : None ≡ Some directory = sym (ap (λ h. h.parent) (zeros file)) ∙ is in cc);
 }
   where
     no_entry : (p : state.Place × FileId → Bool) (es : List (state.Place × FileId)) → length es ≡ 0 → count_by p es ≡ 0
@@ -247,41 +245,16 @@ pub same_counted : (names : FinMap place_cmp FileId) (old new : FileId → Holde
 same_counted names old new same counted = record {
   links = λ file. ap (λ h. h.links) (same file) ∙ counted.links file;
   inside = λ directory. ap (λ h. h.inside) (same directory) ∙ counted.inside directory;
-  parent = λ file directory is. counted.parent file directory (sym (ap (λ h. h.parent) (same file)) ∙ is);
 }
-
--- a name and the one that comes or goes
-module _ (directory : FileId) (name : List ℕ) where
-  pub is_added : (names : FinMap place_cmp FileId) (file : FileId) → map.get names (directory, name) ≡ None
-      → (place : state.Place) (of : FileId) → map.get names place ≡ Some of → map.get (map.insert names (directory, name) file) place ≡ Some of
-  is_added names file free place of there =
-      map.get-insert place_cmp_total names (directory, name) file place ∙ by (eq_by_cmp place_cmp place (directory, name)) refl
-    where
-      by : (b : Bool) → eq_by_cmp place_cmp place (directory, name) ≡ b → cond b (Some file) (map.get names place) ≡ Some of
-      by true test = let clash : Some of ≡ None = sym there ∙ ap (map.get names) (same_place place (directory, name) test) ∙ free in absurd cc
-      by false test = there
-
-  pub is_left : (names : FinMap place_cmp FileId) (file : FileId) → map.get names (directory, name) ≡ Some file
-      → (place : state.Place) (of : FileId) → file_eq of file ≡ false → map.get names place ≡ Some of → map.get (map.remove names (directory, name)) place ≡ Some of
-  is_left names file taken place of other there =
-      map.get-remove place_cmp_total names (directory, name) place ∙ by (eq_by_cmp place_cmp place (directory, name)) refl
-    where
-      by : (b : Bool) → eq_by_cmp place_cmp place (directory, name) ≡ b → cond b None (map.get names place) ≡ Some of
-      by true test =
-          let one : Some of ≡ Some file = sym there ∙ ap (map.get names) (same_place place (directory, name) test) ∙ taken in
-          let same : of ≡ file = cc in
-          let clash : true ≡ false = sym (file_tested of file same) ∙ other in
-          absurd cc
-      by false test = there
 
 -- a name comes
 pub added_counted : (old between new : FileId → Holder) (directory file : FileId) (v w : Holder)
     → ((of : FileId) → between of ≡ cond (file_eq of file) v (old of)) → ((of : FileId) → new of ≡ cond (file_eq of directory) w (between of))
-    → v.links ≡ (old file).links + 1 → v.inside ≡ (old file).inside → v.parent ≡ Some directory
-    → w.links ≡ (between directory).links → w.inside ≡ (between directory).inside + 1 → w.parent ≡ (between directory).parent
+    → v.links ≡ (old file).links + 1 → v.inside ≡ (old file).inside
+    → w.links ≡ (between directory).links → w.inside ≡ (between directory).inside + 1
     → (names : FinMap place_cmp FileId) (name : List ℕ) → map.get names (directory, name) ≡ None
     → AreCounted names old → AreCounted (map.insert names (directory, name) file) new
-added_counted old between new directory file v w first second v_links v_inside v_parent w_links w_inside w_parent names name free counted = record {
+added_counted old between new directory file v w first second v_links v_inside w_links w_inside names name free counted = record {
   links = λ of.
       part_kept between new directory w second (λ h. h.links) w_links of
       ∙ part_grown old between file v first (λ h. h.links) v_links of
@@ -291,28 +264,16 @@ added_counted old between new directory file v w first second v_links v_inside v
       part_grown between new directory w second (λ h. h.inside) w_inside of
       ∙ ap (λ n. cond (file_eq directory of) 1 0 + n) (part_kept old between file v first (λ h. h.inside) v_inside of ∙ counted.inside of)
       ∙ sym (count_insert place_cmp_total places_apart (λ entry. file_eq entry.0.0 of) names (directory, name) file free);
-  parent = λ of parent is. by of parent (file_eq of file) refl
-      (sym (ap (λ h. h.parent) (first of)) ∙ sym (part_kept between new directory w second (λ h. h.parent) w_parent of) ∙ is);
 }
-  where
-    by : (of parent : FileId) (b : Bool) → file_eq of file ≡ b → (cond b v (old of)).parent ≡ Some parent
-        → (q : List ℕ) × (map.get (map.insert names (directory, name) file) (parent, q) ≡ Some of)
-    by of parent true test is =
-        let one : Some directory ≡ Some parent = sym v_parent ∙ is in
-        let here : directory ≡ parent = cc in
-        (name, ap (λ d. map.get (map.insert names (directory, name) file) (d, name)) (sym here) ∙ insert_there place_cmp_total names (directory, name) file ∙ ap Some (sym (same_file of file test)))
-    by of parent false test is =
-        let there = counted.parent of parent is in
-        (there.0, is_added directory name names file free (parent, there.0) of there.1)
 
 -- a name goes
 pub removed_counted : (old between new : FileId → Holder) (directory file : FileId) (v w : Holder)
     → ((of : FileId) → between of ≡ cond (file_eq of file) v (old of)) → ((of : FileId) → new of ≡ cond (file_eq of directory) w (between of))
-    → v.links + 1 ≡ (old file).links → v.inside ≡ (old file).inside → v.parent ≡ None
-    → w.links ≡ (between directory).links → w.inside + 1 ≡ (between directory).inside → w.parent ≡ (between directory).parent
+    → v.links + 1 ≡ (old file).links → v.inside ≡ (old file).inside
+    → w.links ≡ (between directory).links → w.inside + 1 ≡ (between directory).inside
     → (names : FinMap place_cmp FileId) (name : List ℕ) → map.get names (directory, name) ≡ Some file
     → AreCounted names old → AreCounted (map.remove names (directory, name)) new
-removed_counted old between new directory file v w first second v_links v_inside v_parent w_links w_inside w_parent names name there counted = record {
+removed_counted old between new directory file v w first second v_links v_inside w_links w_inside names name there counted = record {
   links = λ of.
       part_kept between new directory w second (λ h. h.links) w_links of
       ∙ one_less (cond (file_eq file of) 1 0) _ _
@@ -325,37 +286,10 @@ removed_counted old between new directory file v w first second v_links v_inside
       ∙ part_kept old between file v first (λ h. h.inside) v_inside of
       ∙ counted.inside of
       ∙ count_remove place_cmp_total places_apart (λ entry. file_eq entry.0.0 of) names (directory, name) file there);
-  parent = λ of parent is. by of parent (file_eq of file) refl
-      (sym (ap (λ h. h.parent) (first of)) ∙ sym (part_kept between new directory w second (λ h. h.parent) w_parent of) ∙ is);
 }
   where
     one_less : (c m n : ℕ) → c + m ≡ c + n → m ≡ n
     one_less c m n same = omega arith
-
-    by : (of parent : FileId) (b : Bool) → file_eq of file ≡ b → (cond b v (old of)).parent ≡ Some parent
-        → (q : List ℕ) × (map.get (map.remove names (directory, name)) (parent, q) ≡ Some of)
-    by of parent true test is = let clash : None ≡ Some parent = sym v_parent ∙ is in absurd cc
-    by of parent false test is =
-        let found = counted.parent of parent is in
-        (found.0, is_left directory name names file there (parent, found.0) of test found.1)
-
--- a directory that has a name for the file is noted
-pub noted_counted : (old new : FileId → Holder) (directory file : FileId) (w : Holder) → ((of : FileId) → new of ≡ cond (file_eq of file) w (old of))
-    → w.links ≡ (old file).links → w.inside ≡ (old file).inside → w.parent ≡ Some directory
-    → (names : FinMap place_cmp FileId) (name : List ℕ) → map.get names (directory, name) ≡ Some file
-    → AreCounted names old → AreCounted names new
-noted_counted old new directory file w wrote w_links w_inside w_parent names name there counted = record {
-  links = λ of. part_kept old new file w wrote (λ h. h.links) w_links of ∙ counted.links of;
-  inside = λ of. part_kept old new file w wrote (λ h. h.inside) w_inside of ∙ counted.inside of;
-  parent = λ of parent is. by of parent (file_eq of file) refl (sym (ap (λ h. h.parent) (wrote of)) ∙ is);
-}
-  where
-    by : (of parent : FileId) (b : Bool) → file_eq of file ≡ b → (cond b w (old of)).parent ≡ Some parent → (q : List ℕ) × (map.get names (parent, q) ≡ Some of)
-    by of parent true test is =
-        let one : Some directory ≡ Some parent = sym w_parent ∙ is in
-        let here : directory ≡ parent = cc in
-        (name, ap (λ d. map.get names (d, name)) (sym here) ∙ there ∙ ap Some (sym (same_file of file test)))
-    by of parent false test is = counted.parent of parent is
 
 -- ---- what the counts tell
 
@@ -425,7 +359,7 @@ module _ (names : FinMap place_cmp FileId) (holder : FileId → Holder) (counted
   zero_or_more zero = inl refl
   zero_or_more (suc m) = inr (omega arith)
 
-  pub none_named : (file : FileId) → n ≡ (holder file).links → n ≡ 0 → (directory : FileId) (name : List ℕ) → map.get names (directory, name) ≡ Some file → ⊥
+  none_named : (file : FileId) → n ≡ (holder file).links → n ≡ 0 → (directory : FileId) (name : List ℕ) → map.get names (directory, name) ≡ Some file → ⊥
   none_named file is none directory name there =
       let some = some_links names holder counted (directory, name) file there in
       omega (arith, some, none, is)
@@ -461,21 +395,8 @@ module _ (names : FinMap place_cmp FileId) (holder : FileId → Holder) (counted
 
 -- ---- two names
 
--- a name that was put is there still where another goes
-pub moved_there : (names : FinMap place_cmp FileId) (old new : state.Place) (file : FileId) → map.get names old ≡ Some file → (map.get names new ≡ Some file → ⊥)
-    → map.get (map.remove (map.insert (map.remove names new) new file) old) new ≡ Some file
-moved_there names old new file there other =
-    map.get-remove place_cmp_total (map.insert (map.remove names new) new file) old new ∙ by (eq_by_cmp place_cmp new old) refl
-  where
-    by : (b : Bool) → eq_by_cmp place_cmp new old ≡ b → cond b None (map.get (map.insert (map.remove names new) new file) new) ≡ Some file
-    by true test = absurd (other (ap (map.get names) (same_place new old test) ∙ there))
-    by false test = insert_there place_cmp_total (map.remove names new) new file
-
 -- what a place has after another was put
 module _ (names : FinMap place_cmp FileId) (put other : state.Place) (file of : FileId) where
-  pub put_there : map.get (map.insert (map.remove names put) put file) put ≡ Some file
-  put_there = insert_there place_cmp_total (map.remove names put) put file
-
   pub other_there : (eq_by_cmp place_cmp other put ≡ true → file ≡ of) → map.get names other ≡ Some of → map.get (map.insert (map.remove names put) put file) other ≡ Some of
   other_there same there =
       map.get-insert place_cmp_total (map.remove names put) put file other

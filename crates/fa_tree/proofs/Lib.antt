@@ -24,12 +24,12 @@ pub mod NodeLemmas
 pub mod OpenLemmas
 pub mod OrderlyLemmas
 pub mod OutcomeLemmas
+pub mod ParentLemmas
 pub mod PartLemmas
 pub mod PlaceOrderLemmas
 pub mod QueryLemmas
 pub mod RenameLemmas
 pub mod ReplayLemmas
-pub mod ScanLemmas
 pub mod ShapeLemmas
 pub mod SlotLemmas
 pub mod SoFarLemmas

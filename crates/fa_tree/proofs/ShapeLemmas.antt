@@ -156,7 +156,7 @@ pub files_stay : FilesStay
 files_stay s x truncates o count id kind may has = (files_stay_after s x truncates count o may).kinds id kind has
 
 -- among files that stay, one that was there is of the kind that it has now
-was_of_kind : (old new : FinMap file_cmp File) → Stay old new → (id : FileId) (kind : Kind) (own : File) → get old id ≡ Some own → HasKind new id kind → HasKind old id kind
+pub was_of_kind : (old new : FinMap file_cmp File) → Stay old new → (id : FileId) (kind : Kind) (own : File) → get old id ≡ Some own → HasKind new id kind → HasKind old id kind
 was_of_kind old new stay id kind own there has =
     let kept = stay.kinds id own.kind (own, there, refl) in
     let same : kept.0 ≡ has.0 = (let both : Some kept.0 ≡ Some has.0 = sym kept.1 ∙ has.1 in cc) in
@@ -246,7 +246,7 @@ above_is_directory s tree above below is =
     tree.inside above one.1.0 one.0 one.1.1
 
 -- what is not there is of no kind
-none_of_kind : (s : Store) (id : FileId) (kind : Kind) → get s.files id ≡ None → IsOfKind s id kind → ⊥
+pub none_of_kind : (s : Store) (id : FileId) (kind : Kind) → get s.files id ≡ None → IsOfKind s id kind → ⊥
 none_of_kind s id kind none is = let clash : None ≡ Some is.0 = sym none ∙ is.1 in absurd cc
 
 -- ---- files change
@@ -266,7 +266,7 @@ files_keep_tree s files stay tree = record {
 -- ---- a name goes
 
 -- the store without the name
-abbrev without : Store → Place → Store
+abbrev pub without : Store → Place → Store
 without s place = record { names = remove s.names place; files = s.files }
 
 -- a name that goes leaves no more parents
@@ -291,7 +291,7 @@ removal_keeps_tree s place tree =
 -- ---- a name comes
 
 -- the store with one more name
-abbrev with_name : Store → (directory : FileId) → (name : List ℕ) → (file : FileId) → Store
+abbrev pub with_name : Store → (directory : FileId) → (name : List ℕ) → (file : FileId) → Store
 with_name s directory name file = record { names = insert s.names (directory, name) file; files = s.files }
 
 -- a name may come in a directory for a file that is not that directory and not above it, and is no directory with a name
@@ -303,7 +303,7 @@ record MayCome (s : Store) (directory file : FileId) : Type 0 where
   not_above : IsBelow s file directory → ⊥
 
 -- a parent then: the directory that the name came in, or one from before
-parent_then : (s : Store) (directory : FileId) (name : List ℕ) (file parent : FileId) (x : FileId) → IsParent (with_name s directory name file) parent x
+pub parent_then : (s : Store) (directory : FileId) (name : List ℕ) (file parent : FileId) (x : FileId) → IsParent (with_name s directory name file) parent x
     → ((parent ≡ directory) × (x ≡ file)) ⊎ IsParent s parent x
 parent_then s directory name file parent x is =
     elim (name_added s.names (directory, name) (parent, is.0) file x is.1) [

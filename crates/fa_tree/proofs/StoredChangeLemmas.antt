@@ -1,5 +1,5 @@
 -- What the changes of names and of files make of what is stored.
-use Rattle.std.proofs.Common.{◌≡◌, ℕ, Bool, true, false, cond, if◌then◌else◌, List, [], ◌∷◌, Option, None, Some, Result, Ok, Err, refl, sym, ap, subst, ◌∙◌}
+use Rattle.std.proofs.Common.{◌≡◌, ◌≢◌, ℕ, Bool, true, false, cond, if◌then◌else◌, List, [], ◌∷◌, Option, None, Some, Result, Ok, Err, refl, sym, ap, subst, ◌∙◌}
 use Rattle.std.specs.Prelude.{OnOk, OnErr}
 use Rattle.std.specs.Option.{option_map_or, option_eq}
 use Rattle.std.specs.FinMap.{FinMap, get, insert, get-insert, same_map}
@@ -19,7 +19,7 @@ use Rattle.fa_tree.specs.Edits.Edit.{Added, Removed}
 use Rattle.fa_tree.specs.Lookups.{bits_set, file_set}
 use Rattle.fa_tree.specs.Renaming.{MayBeRenamed, moved, rename_edits, MayBeExchanged, exchanged}
 use Rattle.fa_tree.specs.Shape.{IsTree}
-use Rattle.fa_tree.specs.parts.FileIdLaws.{file_cmp_total, files_apart, file_self, same_equal}
+use Rattle.fa_tree.specs.parts.FileIdLaws.{file_cmp_total, files_apart, file_self, same_equal, equal_tested}
 use Rattle.fa_tree.specs.parts.FileParts.{with_bits, with_bytes}
 use Rattle.fa_tree.specs.parts.NameParts.{NamesShown, edited}
 use Rattle.fa_tree.specs.parts.StoredParts.{StoredShown, mode_set, stored_edited, stored_with}
@@ -71,6 +71,14 @@ exchanged_tree old new files old_directory old_name new_directory new_name file 
 pub found_same : (found : Option FileId) (file : FileId) → option_eq derived.eq-value.it found (Some file) ≡ true → found ≡ Some file
 found_same None file test = absurd cc
 found_same (Some other) file test = ap (λ k. Some k) (same_equal other file test)
+
+-- and where it says that it is not
+pub found_apart : (found : Option FileId) (file : FileId) → option_eq derived.eq-value.it found (Some file) ≡ false → found ≢ Some file
+found_apart None file test same = let clash : None ≡ Some file = same in cc
+found_apart (Some other) file test same =
+    let one : other ≡ file = cc in
+    let clash : true ≡ false = sym (equal_tested other file one) ∙ test in
+    cc
 
 -- no edit changes nothing
 unedited : (t : StoredShown) → stored_edited [] t ≡ t

@@ -33,6 +33,7 @@ pub mod StepParts
 pub mod ListingParts
 -- ways up the tree
 pub mod ShapeParts
+pub mod ParentParts
 -- what a tree stores, and trees, as values
 pub mod StoredParts
 pub mod StateCodes

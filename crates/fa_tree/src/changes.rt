@@ -83,11 +83,21 @@ impl Stored {
         }
     }
 
-    /// Takes a name away, if it is there.
+    /// Takes a name away, if it is there, of a file that may have others.
     fn remove(&mut self, directory: FileId, name: &[u8])
         ensures { self.new ≡ stored_edited (Removed directory name.now ∷ []) self.old }
     {
         self.names.remove(directory, name);
+    }
+
+    /// Takes the name of a directory away, if it is there.
+    fn remove_directory(&mut self, directory: FileId, name: &[u8])
+        ensures { self.new ≡ stored_edited (Removed directory name.now ∷ []) self.old }
+    {
+        match self.names.remove(directory, name) {
+            Some(file) => self.parents.remove(file),
+            None => {}
+        }
     }
 
     /// Moves a name, as RENAME does.
@@ -108,7 +118,12 @@ impl Stored {
             Some(file) if taken == Some(file) => Ok(()),
             Some(file) => {
                 self.names
-                    .rename(old_directory, old_name, new_directory, new_name, file)
+                    .rename(old_directory, old_name, new_directory, new_name, file)?;
+                if let Some(other) = taken {
+                    self.parents.remove(other);
+                }
+                self.parents.set(file, new_directory);
+                Ok(())
             }
         }
     }
@@ -193,7 +208,7 @@ impl Stored {
                 ..
             } => self.create(named.asked, node, name, *mode, *umask, truncates)?,
             Action::Unlink { name, .. } => self.remove(node, name),
-            Action::Rmdir { name, .. } => self.remove(node, name),
+            Action::Rmdir { name, .. } => self.remove_directory(node, name),
             Action::Rename {
                 old_name,
                 new_name,

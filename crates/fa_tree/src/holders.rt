@@ -1,5 +1,5 @@
-//! What is counted of each file, so that it need not be looked for among all names: how many names it has, how many are in
-//! it, and a directory that has a name for it.
+//! What is counted of each file, so that it need not be looked for among all names: how many names it has, and how many are
+//! in it.
 
 ghost use Rattle.std.specs.Prelude.{◌≡◌, ◌<◌, ◌^◌, cond, ℕ, List, Option, Some, None, is_some, IsTrue, OnOk};
 ghost use Rattle.std.specs.Borrow.{sem};
@@ -8,7 +8,7 @@ ghost use Rattle.std.specs.FinMap as map;
 ghost use Rattle.std.specs.FinMap.{FinMap};
 ghost use Rattle.fa_tree.specs.declared.id.FileId.{FileId};
 ghost use Rattle.fa_tree.specs.State.{place_cmp, file_eq};
-ghost use Rattle.fa_tree.specs.parts.HolderParts.{no_holder, index_of, tabled, entry_of, LendsHolder, one_link_more, one_link_less, one_inside_more, one_inside_less, of_parent, held, IsKnown, AreCounted, IsCountedAt};
+ghost use Rattle.fa_tree.specs.parts.HolderParts.{no_holder, index_of, tabled, entry_of, LendsHolder, one_link_more, one_link_less, one_inside_more, one_inside_less, held, IsKnown, AreCounted, IsCountedAt};
 
 use crate::id::FileId;
 use indexmap::IndexMap;
@@ -21,15 +21,12 @@ pub(crate) struct Holder {
     pub links: usize,
     /// How many names are in it.
     pub inside: usize,
-    /// A directory that has a name for it, if one is known.
-    pub parent: Option<FileId>,
 }
 
 /// What is counted of a file that never had a name, nor one in it.
 const NOTHING: Holder = Holder {
     links: 0,
     inside: 0,
-    parent: None,
 };
 
 impl Holder {
@@ -37,7 +34,7 @@ impl Holder {
     fn is_nothing(self) -> bool
         ensures { IsTrue result → self ≡ no_holder }
     {
-        self.links == 0 && self.inside == 0 && self.parent.is_none()
+        self.links == 0 && self.inside == 0
     }
 }
 
@@ -197,25 +194,22 @@ impl Holders {
         }
     }
 
-    /// Counts one name more of a file that has an entry, and notes the directory that the name is in.
+    /// Counts one name more of a file that has an entry.
     ///
     /// Takes no memory, in expected constant time.
-    fn add_link(&mut self, file: FileId, directory: FileId)
+    fn add_link(&mut self, file: FileId)
         requires known { IsKnown self.old file }
         requires few { (held self.old file).links < 2 ^ 63 }
-        ensures held { (of : FileId) → held self.new of ≡ cond (file_eq of file) (one_link_more directory (held self.old file)) (held self.old of) }
+        ensures held { (of : FileId) → held self.new of ≡ cond (file_eq of file) (one_link_more (held self.old file)) (held self.old of) }
         ensures kept { (of : FileId) → IsKnown self.old of → IsKnown self.new of }
     {
         match self.entry_mut(file) {
-            Some(holder) => {
-                holder.links += 1;
-                holder.parent = Some(directory);
-            }
+            Some(holder) => holder.links += 1,
             None => {}
         }
     }
 
-    /// Counts one name less of a file that has one. No directory is known to have a name for it from then on.
+    /// Counts one name less of a file that has one.
     ///
     /// Takes no memory, in expected constant time.
     fn remove_link(&mut self, file: FileId)
@@ -224,10 +218,7 @@ impl Holders {
         ensures kept { (of : FileId) → IsKnown self.old of → IsKnown self.new of }
     {
         match self.entry_mut(file) {
-            Some(holder) => {
-                holder.links -= 1;
-                holder.parent = None;
-            }
+            Some(holder) => holder.links -= 1,
             None => {}
         }
     }
@@ -261,20 +252,6 @@ impl Holders {
         }
     }
 
-    /// Notes a directory that has a name for a file that has an entry.
-    ///
-    /// Takes no memory, in expected constant time.
-    fn set_parent(&mut self, file: FileId, directory: FileId)
-        requires { IsKnown self.old file }
-        ensures held { (of : FileId) → held self.new of ≡ cond (file_eq of file) (of_parent directory (held self.old file)) (held self.old of) }
-        ensures kept { (of : FileId) → IsKnown self.old of → IsKnown self.new of }
-    {
-        match self.entry_mut(file) {
-            Some(holder) => holder.parent = Some(directory),
-            None => {}
-        }
-    }
-
     /// Counts a name that comes into a directory, for a file.
     ///
     /// Takes no memory, in expected constant time.
@@ -285,11 +262,11 @@ impl Holders {
         ensures counted { (names : FinMap place_cmp FileId) (name : List ℕ) → map.get names (directory, name) ≡ None → AreCounted names (held self.old) → AreCounted (map.insert names (directory, name) file) (held self.new) }
         ensures kept { (of : FileId) → IsKnown self.old of → IsKnown self.new of }
     {
-        self.add_link(file, directory);
+        self.add_link(file);
         self.add_inside(directory);
     }
 
-    /// Counts a name that goes out of a directory, and was for this file. The directory is no longer known to have a name for it.
+    /// Counts a name that goes out of a directory, and was for this file.
     ///
     /// Takes no memory, in expected constant time.
     pub fn remove(&mut self, directory: FileId, file: FileId)
@@ -315,15 +292,5 @@ impl Holders {
             self.remove(directory, old);
         }
         self.add(directory, file);
-    }
-
-    /// Notes that this directory has a name for the file.
-    ///
-    /// Takes no memory, in expected constant time.
-    pub fn note_parent(&mut self, directory: FileId, file: FileId)
-        requires { IsCountedAt (held self.old) directory (Some file) }
-        ensures { (names : FinMap place_cmp FileId) (name : List ℕ) → map.get names (directory, name) ≡ Some file → AreCounted names (held self.old) → AreCounted names (held self.new) }
-    {
-        self.set_parent(file, directory);
     }
 }

@@ -27,6 +27,7 @@ mod open;
 mod orderly;
 mod page;
 mod pages;
+mod parents;
 mod queries;
 mod renaming;
 mod replay;

@@ -1,6 +1,6 @@
 //! Which file each name of a directory is, and the directories that are open.
 
-ghost use Rattle.std.specs.Prelude.{◌≡◌, ◌≢◌, ◌↔◌, ◌∷◌, [], ℕ, List, count_by, IsTrue, IfSome, IfNone, Some, None, OnOk, OnErr};
+ghost use Rattle.std.specs.Prelude.{◌≡◌, ◌≢◌, ◌↔◌, ◌∷◌, [], ℕ, List, count_by, IsTrue, Some, None, OnOk, OnErr};
 ghost use Rattle.fa_tree.specs.declared.id.FileId.{FileId};
 ghost use Rattle.std.specs.FinMap.{get, entries};
 ghost use Rattle.std.specs.Option.{option_map};
@@ -20,8 +20,8 @@ use std::marker::Model;
 /// The names of directories, with their files, and the directories that are open, with what was in them since then.
 ///
 /// Of the names of a directory that is open nothing is copied: each name has the number of openings before it came, or
-/// before it went, and each opening is told by its number. How many names a file has, how many are in a directory, and a
-/// directory that has a name for a file are kept as names come and go, and not looked for among all places.
+/// before it went, and each opening is told by its number. How many names a file has, and how many are in a directory is
+/// kept as names come and go, and not looked for among all places.
 #[derive(Drop)]
 pub(crate) struct Names {
     /// For each place that ever had a name what is there.
@@ -94,26 +94,6 @@ impl Names {
         self.holders.get(file).links != 0
     }
 
-    /// A directory that has a name for a file, if there is one.
-    ///
-    /// Takes no memory, in expected constant time for a file that never had two names at a time, as no directory has. Of
-    /// another the directory is not known after one of its names was taken away: then it is looked for among all places that
-    /// ever had a name.
-    pub fn parent(&self, file: FileId) -> Option<FileId>
-        ensures there { IfSome result (λ directory. (name : List ℕ) × (get self.now.names (directory, name) ≡ Some file)) }
-        ensures none { IfNone result ((directory : FileId) (name : List ℕ) → get self.now.names (directory, name) ≡ Some file → ⊥) }
-    {
-        let holder = self.holders.get(file);
-        if holder.links == 0 {
-            return None;
-        }
-        match holder.parent {
-            Some(directory) => Some(directory),
-            // Reached for a file that had several names, never for a directory.
-            None => self.slots.parent(file),
-        }
-    }
-
     /// How many names a file has.
     ///
     /// Takes no memory, in expected constant time.
@@ -178,18 +158,23 @@ impl Names {
         }
     }
 
-    /// Takes a name out of a directory, if it is there.
+    /// Takes a name out of a directory, and answers the file that it was for, if it is there.
     ///
     /// Takes no memory, and what is counted of the file goes with its last name; the place stays. Expected constant time but for
     /// reading the name.
-    pub fn remove(&mut self, directory: FileId, name: &[u8])
-        ensures { self.new ≡ edited (Removed directory name.now ∷ []) self.old }
+    pub fn remove(&mut self, directory: FileId, name: &[u8]) -> Option<FileId>
+        ensures file { result ≡ get self.old.names (directory, name.now) }
+        ensures gone { self.new ≡ edited (Removed directory name.now ∷ []) self.old }
     {
         let at = self.openings.len();
         let old = self.slots.remove(directory, name, at);
-        if let Some(file) = old {
-            self.holders.remove(directory, file);
-            self.holders.forget(file);
+        match old {
+            Some(file) => {
+                self.holders.remove(directory, file);
+                self.holders.forget(file);
+                Some(file)
+            }
+            None => None,
         }
     }
 
@@ -213,18 +198,7 @@ impl Names {
         let _ = &self.slots;
         self.put(new_directory, new_name, file)?;
         self.remove(old_directory, old_name);
-        self.note_parent(new_directory, file);
         Ok(())
-    }
-
-    /// Notes that this directory has a name for the file.
-    ///
-    /// Takes no memory, in expected constant time.
-    fn note_parent(&mut self, directory: FileId, file: FileId)
-        requires { (name : List ℕ) × (get self.old.names (directory, name) ≡ Some file) }
-        ensures { self.new ≡ self.old }
-    {
-        self.holders.note_parent(directory, file);
     }
 
     /// Gives each of two names the other's file.
@@ -252,7 +226,6 @@ impl Names {
             self.slots.replace(new_directory, new_name, file, born);
             self.holders.put(old_directory, Some(file), other);
             self.holders.put(new_directory, Some(other), file);
-            self.holders.note_parent(old_directory, other);
         }
     }
 

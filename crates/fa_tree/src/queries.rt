@@ -54,12 +54,17 @@ impl Stored {
         self.kind(file) == Some(Kind::Symlink)
     }
 
-    /// A directory that has a name for the file, if one has. Of a directory in expected constant time.
+    /// The directory that has a name for a directory, if one has. In expected constant time.
     pub(crate) fn parent(&self, file: FileId) -> Option<FileId>
+        requires { IsDirectory self.now.store file }
         ensures there { IfSome result (λ directory. IsParent self.now.store directory file) }
         ensures none { IfNone result ((directory : FileId) → IsParent self.now.store directory file → ⊥) }
     {
-        self.names.parent(file)
+        if self.names.is_named(file) {
+            self.parents.of(file)
+        } else {
+            None
+        }
     }
 
     /// Whether no name is in a directory. In expected constant time.

@@ -202,6 +202,8 @@ impl Stored {
                         file,
                         other,
                     );
+                    self.parents.set(file, new_directory);
+                    self.parents.set(other, old_directory);
                 }
             },
         }

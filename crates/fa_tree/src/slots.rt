@@ -1,12 +1,12 @@
 //! The table of places: for each place that a name was put at, the slot that says what is there.
 
-ghost use Rattle.std.specs.Prelude.{◌≡◌, ◌<◌, ◌^◌, [], ℕ, List, length, ◌==◌, IsTrue, IfSome, IfNone, Some, None, IfOk, OnOk, OnErr};
+ghost use Rattle.std.specs.Prelude.{◌≡◌, ◌<◌, ◌^◌, [], ℕ, List, length, ◌==◌, IsTrue, Some, None, IfOk, OnOk, OnErr};
 ghost use Rattle.fa_tree.specs.declared.id.FileId.{FileId};
 ghost use Rattle.fa_tree.specs.declared.slots.Slot.TheVariants.{There};
 ghost use Rattle.std.specs.FinMap as map;
 ghost use Rattle.std.specs.Map.{keys_of};
 ghost use Rattle.std.specs.Option.{option_map};
-ghost use Rattle.fa_tree.specs.parts.SlotParts.{slot_at, gone_at, file_in, is_of, names_shown, IsChangedAt, AreAllThere};
+ghost use Rattle.fa_tree.specs.parts.SlotParts.{slot_at, gone_at, file_in, names_shown, IsChangedAt, AreAllThere};
 ghost use Rattle.fa_tree.specs.parts.MemberParts.{AreMembers};
 
 use crate::id::FileId;
@@ -114,15 +114,6 @@ impl Slots {
         ensures { result ≡ slot_at self.now.table.entries (directory, name.now) }
     {
         self.table.get(&PlaceAt { directory, name }).copied()
-    }
-
-    /// A directory that has a name for a file, if there is one. Goes through all slots.
-    pub fn parent(&self, file: FileId) -> Option<FileId>
-        ensures there { IfSome result (λ directory. (name : List ℕ) × (map.get (names_shown self.now.table.entries) (directory, name) ≡ Some file)) }
-        ensures none { IfNone result ((directory : FileId) (name : List ℕ) → map.get (names_shown self.now.table.entries) (directory, name) ≡ Some file → ⊥) }
-    {
-        let (place, _) = self.table.iter().find(|(_, slot)| slot.is_for(file))?;
-        Some(place.directory)
     }
 
     /// How many there are.
@@ -242,16 +233,6 @@ impl Slot {
         match self {
             Slot::There { file, .. } => Some(file),
             Slot::Gone { .. } => None,
-        }
-    }
-
-    /// Whether there is a name for this file.
-    fn is_for(self, file: FileId) -> bool
-        ensures { result ≡ is_of file self }
-    {
-        match self {
-            Slot::There { file: of, .. } => of == file,
-            Slot::Gone { .. } => false,
         }
     }
 

@@ -1,4 +1,4 @@
-//! What a tree stores: files, the names of directories, and the directories that are open.
+//! What a tree stores: files, the names of directories, the parents of these, and the directories that are open.
 
 ghost use Rattle.std.specs.Prelude.{◌≡◌, None, IfOk, OnOk, OnErr};
 ghost use Rattle.std.specs.FinMap as map;
@@ -16,15 +16,17 @@ use crate::files::Files;
 use crate::id::FileId;
 use crate::names::Names;
 use crate::open::OpenNames;
+use crate::parents::Parents;
 use std::alloc::{AllocError, Global};
 use std::marker::Model;
 
-/// The files of a tree, the names of its directories, and the directories that are open.
+/// The files of a tree, the names of its directories, the parents of these, and the directories that are open.
 #[derive(Drop)]
 pub(crate) struct Stored {
     pub alloc: Global,
     pub files: Files,
     pub names: Names,
+    pub parents: Parents,
 }
 
 impl Model for Stored {
@@ -52,6 +54,7 @@ impl Stored {
             alloc,
             files,
             names: Names::new(alloc),
+            parents: Parents::new(alloc),
         })
     }
 
@@ -105,10 +108,19 @@ impl Stored {
         ensures made { OnOk result (self.new ≡ stored_made id directory name.now (file_shown file) self.old) }
         ensures unchanged { OnErr result (self.new ≡ self.old) }
     {
+        let kind = file.kind;
         self.files.insert(id, file)?;
+        match self.parents.add(id, kind, directory) {
+            Ok(()) => {}
+            Err(error) => {
+                self.files.remove(id);
+                return Err(error);
+            }
+        }
         match self.names.add(directory, name, id) {
             Ok(()) => Ok(()),
             Err(error) => {
+                self.parents.remove(id);
                 self.files.remove(id);
                 Err(error)
             }

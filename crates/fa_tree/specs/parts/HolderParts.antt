@@ -15,27 +15,23 @@ use Rattle.fa_tree.specs.contracts.holders.Holders as all
 
 -- of a file that never had a name, nor one in it, nothing is counted
 abbrev pub no_holder : Holder
-no_holder = record { links = 0; inside = 0; parent = None }
+no_holder = record { links = 0; inside = 0 }
 
--- a name more of a file, which this directory has
-abbrev pub one_link_more : FileId → Holder → Holder
-one_link_more directory h = record { links = h.links + 1; inside = h.inside; parent = Some directory }
+-- a name more of a file
+abbrev pub one_link_more : Holder → Holder
+one_link_more h = record { links = h.links + 1; inside = h.inside }
 
 -- a name less of a file
 abbrev pub one_link_less : Holder → Holder
-one_link_less h = record { links = h.links - 1; inside = h.inside; parent = None }
+one_link_less h = record { links = h.links - 1; inside = h.inside }
 
 -- a name more in a directory
 abbrev pub one_inside_more : Holder → Holder
-one_inside_more h = record { links = h.links; inside = h.inside + 1; parent = h.parent }
+one_inside_more h = record { links = h.links; inside = h.inside + 1 }
 
 -- a name less in a directory
 abbrev pub one_inside_less : Holder → Holder
-one_inside_less h = record { links = h.links; inside = h.inside - 1; parent = h.parent }
-
--- this directory is known to have a name for the file
-abbrev pub of_parent : FileId → Holder → Holder
-of_parent directory h = record { links = h.links; inside = h.inside; parent = Some directory }
+one_inside_less h = record { links = h.links; inside = h.inside - 1 }
 
 -- where a file stands in the list, if the list comes that far: the root first, and the n-th that was put in by name behind it
 abbrev pub index_of : FileId → Option ℕ
@@ -70,12 +66,10 @@ LendsHolder holders file r = LendsSo all.the_row one.the_row holders r
     (λ new holder. OnSome r ((of : FileId) → entry_of new of ≡ cond (file_eq of file) (Some holder) (entry_of holders.now of)))
     (λ new. (of : FileId) → entry_of new of ≡ entry_of holders.now of)
 
--- What is counted of each file is what names it has, what names are in it, and, if it is known, a directory that has a name
--- for it.
+-- What is counted of each file is what names it has, and what names are in it.
 pub record AreCounted (names : FinMap place_cmp FileId) (holder : FileId → Holder) : Type 0 where
   pub links : (file : FileId) → (holder file).links ≡ count_by (λ entry. file_eq entry.1 file) (entries names)
   pub inside : (directory : FileId) → (holder directory).inside ≡ count_by (λ entry. file_eq entry.0.0 directory) (entries names)
-  pub parent : (file directory : FileId) → (holder file).parent ≡ Some directory → (name : List ℕ) × (get names (directory, name) ≡ Some file)
 
 -- the names that are counted, and a name of the directory, which is for this file, or is not there
 pub record IsCountedAt (holder : FileId → Holder) (directory : FileId) (file : Option FileId) : Type 0 where

@@ -1,5 +1,5 @@
 -- The slots of places, as the table of names keeps them.
-use Rattle.std.specs.Prelude.{◌≡◌, cond, ℕ, Bool, false, List, [], ◌∷◌, Option, Some, None}
+use Rattle.std.specs.Prelude.{◌≡◌, cond, ℕ, Bool, List, [], ◌∷◌, Option, Some, None}
 use Rattle.std.specs.FinMap as map
 use Rattle.std.specs.FinMap.{FinMap}
 use Rattle.std.specs.Map.{lookup}
@@ -8,7 +8,7 @@ use Rattle.std.specs.Ordering.{eq_by_cmp}
 use Rattle.std.specs.declared.cmp.Ordering.{Ordering}
 use Rattle.fa_tree.specs.declared.id.FileId.{FileId}
 use Rattle.fa_tree.specs.State as state
-use Rattle.fa_tree.specs.State.{place_cmp, file_eq}
+use Rattle.fa_tree.specs.State.{place_cmp}
 use Rattle.fa_tree.specs.declared.slots.Place.{Place}
 use Rattle.fa_tree.specs.declared.slots.Slot.{Slot}
 use Rattle.fa_tree.specs.declared.slots.Slot.TheVariants.{There, Gone}
@@ -39,11 +39,6 @@ gone_at at None = None
 abbrev pub file_in : Slot → Option FileId
 file_in (There file born) = Some file
 file_in (Gone at) = None
-
--- whether a slot has a name for a file
-abbrev pub is_of : FileId → Slot → Bool
-is_of file (There of born) = file_eq of file
-is_of file (Gone at) = false
 
 -- each place that has a slot has its name
 abbrev pub AreAllThere : List (Place × Slot) → Type 0

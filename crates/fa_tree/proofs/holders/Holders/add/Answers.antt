@@ -20,4 +20,4 @@ pub returns-clause-counted : goal.returns-clause-counted
 returns-clause-counted c = λ names name free.
     added_counted (held c.args.self.now) (held c.add_link.new.self) (held c.add_inside.new.self) c.args.directory c.args.file _ _
     c.add_link.ensures.held c.add_inside.ensures.held
-    refl refl refl refl refl refl names name free
+    refl refl refl refl names name free

@@ -23,4 +23,4 @@ returns-clause-counted c = λ names name there.
     let inside : ((between c.args.directory).inside - 1) + 1 ≡ (between c.args.directory).inside = omega (arith, has, is) in
     removed_counted old between (held c.remove_inside.new.self) c.args.directory c.args.file _ _
     c.remove_link.ensures.held c.remove_inside.ensures.held
-    links refl refl refl inside refl names name there
+    links refl refl inside names name there

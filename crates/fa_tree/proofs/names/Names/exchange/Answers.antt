@@ -7,7 +7,7 @@ use Rattle.fa_tree.specs.parts.NameParts.{edited}
 use Rattle.fa_tree.specs.parts.SlotParts.{names_shown}
 use Rattle.fa_tree.specs.parts.HolderParts.{held, AreCounted}
 use Rattle.fa_tree.proofs.EditedLemmas.{edited_exchanged, edited_of_one}
-use Rattle.fa_tree.proofs.ExchangeLemmas.{after_put, also_there, one_there, names_exchanged, shown_exchanged, within_exchanged}
+use Rattle.fa_tree.proofs.ExchangeLemmas.{after_put, also_there, names_exchanged, shown_exchanged, within_exchanged}
 use Rattle.fa_tree.proofs.HolderLemmas.{some_links, some_inside, known_links, known_inside, names_few, put_few}
 use Rattle.fa_tree.proofs.names.Names.exchange.Goals as goal
 
@@ -71,21 +71,6 @@ put-requires-then-ne-clause-counted c =
       omega (arith, few, same, c.len.ensures.len, c.len.ensures.small),
     )
 
-pub note_parent-requires : goal.note_parent-requires
-note_parent-requires c =
-    let names = names_shown c.self.inside.slots.table.entries in
-    let there = ap (λ n. get n.names (c.args.old_directory, c.args.old_name.now)) c.self.view_is ∙ c.requires.there in
-    let also = ap (λ n. get n.names (c.args.new_directory, c.args.new_name.now)) c.self.view_is ∙ c.requires.also in
-    let between = after_put names (c.args.old_directory, c.args.old_name.now) c.args.other in
-    record {
-      names = after_put between (c.args.new_directory, c.args.new_name.now) c.args.file;
-      name = c.args.old_name.now;
-      at = one_there names (c.args.old_directory, c.args.old_name.now) (c.args.new_directory, c.args.new_name.now) c.args.file c.args.other there also;
-      counted =
-          c.put-then-ne.ensures.counted between c.args.new_name.now (also_there names (c.args.old_directory, c.args.old_name.now) (c.args.new_directory, c.args.new_name.now) c.args.file c.args.other there also)
-          (c.put.ensures.counted names c.args.old_name.now there c.self.invariant.1);
-    }
-
 pub invariant_of-self : goal.invariant_of-self
 invariant_of-self c =
     let names = names_shown c.self.inside.slots.table.entries in
@@ -94,12 +79,11 @@ invariant_of-self c =
     let between = after_put names (c.args.old_directory, c.args.old_name.now) c.args.other in (
       within_exchanged c.self.inside.slots.table.entries c.replace.new.self.table.entries c.replace-then-ne.new.self.table.entries c.args.old_directory c.args.old_name.now c.args.new_directory c.args.new_name.now c.args.file c.args.other c.len-born.result
           there also c.replace.ensures c.replace-then-ne.ensures _ c.len-born.ensures c.self.invariant.0,
-      subst (λ names. AreCounted names (held c.note_parent.new.self))
+      subst (λ names. AreCounted names (held c.put-then-ne.new.self))
           (sym (names_exchanged c.self.inside.slots.table.entries c.replace.new.self.table.entries c.replace-then-ne.new.self.table.entries c.args.old_directory c.args.old_name.now c.args.new_directory c.args.new_name.now c.args.file c.args.other c.len-born.result
           there also c.replace.ensures c.replace-then-ne.ensures))
-          (c.note_parent.ensures (after_put between (c.args.new_directory, c.args.new_name.now) c.args.file) c.args.old_name.now (one_there names (c.args.old_directory, c.args.old_name.now) (c.args.new_directory, c.args.new_name.now) c.args.file c.args.other there also)
           (c.put-then-ne.ensures.counted between c.args.new_name.now (also_there names (c.args.old_directory, c.args.old_name.now) (c.args.new_directory, c.args.new_name.now) c.args.file c.args.other there also)
-          (c.put.ensures.counted names c.args.old_name.now there c.self.invariant.1))),
+          (c.put.ensures.counted names c.args.old_name.now there c.self.invariant.1)),
     )
 
 pub returns-then-ne : goal.returns-then-ne

@@ -28,26 +28,26 @@ invariant_of-self c =
           (sym c.remove-old.ensures.file ∙ c.in-Some.is) c.self.invariant.1)),
     )
 
-pub invariant_of-self-in_default : goal.invariant_of-self-in_default
-invariant_of-self-in_default c =
+pub invariant_of-self-in-None : goal.invariant_of-self-in-None
+invariant_of-self-in-None c =
     let old = c.self.inside.slots.table.entries in
     let new = c.remove-old.new.self.table.entries in (
       within_removed _ old new (c.args.directory, c.args.name.now) c.len-at.result c.len-at.ensures c.remove-old.ensures.gone c.self.invariant.0,
       subst (λ names. AreCounted names (held c.self.inside.holders))
           (sym (names_removed old new c.args.directory c.args.name.now c.len-at.result c.remove-old.ensures.gone
           ∙ remove_none place_cmp_total places_apart (names_shown old) (c.args.directory, c.args.name.now)
-          (sym c.remove-old.ensures.file ∙ c.in_default.is)))
+          (sym c.remove-old.ensures.file ∙ c.in-None.is)))
           c.self.invariant.1,
     )
 
-pub returns-in-Some : goal.returns-in-Some
-returns-in-Some c =
+pub returns-in-Some-clause-gone : goal.returns-in-Some-clause-gone
+returns-in-Some-clause-gone c =
     shown_removed c.self.inside.slots.table.entries c.remove-old.new.self.table.entries c.args.directory c.args.name.now c.len-at.result c.remove-old.ensures.gone
     c.self.inside.openings (omega arith)
     ∙ ap (edited (Removed c.args.directory c.args.name.now ∷ [])) c.self.view_is
 
-pub returns-in_default : goal.returns-in_default
-returns-in_default c =
+pub returns-in-None-clause-gone : goal.returns-in-None-clause-gone
+returns-in-None-clause-gone c =
     shown_removed c.self.inside.slots.table.entries c.remove-old.new.self.table.entries c.args.directory c.args.name.now c.len-at.result c.remove-old.ensures.gone
     c.self.inside.openings (omega arith)
     ∙ ap (edited (Removed c.args.directory c.args.name.now ∷ [])) c.self.view_is

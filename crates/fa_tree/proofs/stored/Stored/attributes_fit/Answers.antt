@@ -41,7 +41,7 @@ returns-in-Symlink-default-default-Succeeds c =
     rw (at.is, done) (λ handle direct count may.
     spoken_fit _ _ c.new-facts.result at.entry.attr fit.result
     (made_facts c.args.self.now.store (file_id.Made c.args.named.now.asked) c.args.named.now.node at.name.now (new_symlink at.target.now) c.new-facts.result
-    (still_tree _ c.args.self.now c.self.view_is c.self.invariant) may.1 may.0.1 c.new-facts.ensures) told)
+    (still_tree _ c.args.self.now c.self.view_is c.self.invariant.0) may.1 may.0.1 c.new-facts.ensures) told)
 
 pub returns-in-Mknod-default-default-default-Succeeds : goal.returns-in-Mknod-default-default-default-Succeeds
 returns-in-Mknod-default-default-default-Succeeds c =
@@ -52,7 +52,7 @@ returns-in-Mknod-default-default-default-Succeeds c =
     let told : IsTrue fit.result ↔ AreFit made.result at.entry.attr = search rules in
     rw (at.is, done) (λ handle direct count may.
     spoken_fit _ _ made.result at.entry.attr fit.result
-    (made_facts c.args.self.now.store (file_id.Made c.args.named.now.asked) c.args.named.now.node at.name.now (new_node at.mode at.umask) made.result (still_tree _ c.args.self.now c.self.view_is c.self.invariant) may.1 may.0.1
+    (made_facts c.args.self.now.store (file_id.Made c.args.named.now.asked) c.args.named.now.node at.name.now (new_node at.mode at.umask) made.result (still_tree _ c.args.self.now c.self.view_is c.self.invariant.0) may.1 may.0.1
     (same_new c.node_kind.result (node_kind at.mode) c.new_bits.result (new_bits at.mode at.umask) 0
     made.result c.node_kind.ensures c.new_bits.ensures made.ensures)) told)
 
@@ -66,7 +66,7 @@ returns-in-Mkdir-default-default-default-Succeeds c =
     let told : IsTrue fit.result ↔ AreFit made.result at.entry.attr = search rules in
     rw (at.is, done) (λ handle direct count may.
     spoken_fit _ _ made.result at.entry.attr fit.result
-    (made_facts c.args.self.now.store (file_id.Made c.args.named.now.asked) c.args.named.now.node at.name.now (new_directory at.mode at.umask) made.result (still_tree _ c.args.self.now c.self.view_is c.self.invariant) may.1 may.0.1
+    (made_facts c.args.self.now.store (file_id.Made c.args.named.now.asked) c.args.named.now.node at.name.now (new_directory at.mode at.umask) made.result (still_tree _ c.args.self.now c.self.view_is c.self.invariant.0) may.1 may.0.1
     (same_new Directory Directory bits.result (new_bits at.mode at.umask) 0
     made.result refl bits.ensures made.ensures)) told)
 
@@ -90,5 +90,5 @@ returns-in-Create-default-default-default-default-Succeeds c =
     rw (at.is, done) (λ handle direct count may.
     any_fit _ _ c.facts_created-facts.result at.entry.attr fit.result
     (created_facts c.args.self.now.store c.args.named.now.asked c.args.truncates c.args.named.now.node at.name.now (new_regular at.mode at.umask) bits.result c.facts_created-facts.result
-    (get c.args.self.now.store.names (c.args.named.now.node, at.name.now)) (still_tree _ c.args.self.now c.self.view_is c.self.invariant)
+    (get c.args.self.now.store.names (c.args.named.now.node, at.name.now)) (still_tree _ c.args.self.now c.self.view_is c.self.invariant.0)
     (creates_new c.args.self.now.store c.args.named.now.asked c.args.named.now.node at.name.now at.flags may) refl refl refl bits.ensures c.facts_created-facts.ensures) told)

@@ -47,7 +47,7 @@ pub link-requires-clause-there : goal.link-requires-clause-there
 link-requires-clause-there c =
     let may = other_is c.args.named.now.other c.in-Some-other-2.file _ c.in-Some-other-2.is
     (subst (λ a. (action_rule c.args.self.now.store (named_shown c.args.named.now None) (action_shown a)).needs) c.in-Link.is (c.requires None)) in
-    linked_is_there c.args.self.now.store (still_tree _ c.args.self.now c.self.view_is c.self.invariant) c.in-Some-other-2.file may.2
+    linked_is_there c.args.self.now.store (still_tree _ c.args.self.now c.self.view_is c.self.invariant.0) c.in-Some-other-2.file may.2
 
 pub link-requires-clause-other : goal.link-requires-clause-other
 link-requires-clause-other c =

@@ -1,10 +1,20 @@
 use Rattle.std.proofs.Common.{sym, ◌∙◌}
+use Rattle.fa_tree.specs.parts.ParentParts.{parent_noted}
 use Rattle.fa_tree.specs.parts.StoredView.{stored_shown}
+use Rattle.fa_tree.proofs.ParentLemmas.{exchanged_parents}
 use Rattle.fa_tree.proofs.StoredChangeLemmas.{still_exchanged, exchanged_tree}
 use Rattle.fa_tree.proofs.stored.Stored.exchange.Goals as goal
 
 pub invariant_of-self : goal.invariant_of-self
 invariant_of-self c =
     let may = still_exchanged (stored_shown c.self.inside) c.args.self.now c.args.old_directory c.args.old_name.now c.args.new_directory c.args.new_name.now c.self.view_is c.requires in
-    exchanged_tree c.self.inside.names c.exchange.new.self c.self.inside.files c.args.old_directory c.args.old_name.now c.args.new_directory c.args.new_name.now
-    c.in-Some.file c.in-Some-other.other c.self.invariant may (sym c.get.ensures ∙ c.in-Some.is) (sym c.get-other.ensures ∙ c.in-Some-other.is) c.exchange.ensures
+    let there = sym c.get.ensures ∙ c.in-Some.is in
+    let also = sym c.get-other.ensures ∙ c.in-Some-other.is in (
+      exchanged_tree c.self.inside.names c.exchange.new.self c.self.inside.files c.args.old_directory c.args.old_name.now c.args.new_directory c.args.new_name.now
+          c.in-Some.file c.in-Some-other.other c.self.invariant.0 may there also c.exchange.ensures,
+      rw (c.exchange.ensures)
+          (exchanged_parents (stored_shown c.self.inside).store c.args.old_directory c.args.old_name.now c.args.new_directory c.args.new_name.now
+          c.in-Some.file c.in-Some-other.other c.self.invariant.0 there also
+          (parent_noted c.self.inside.parents.table.entries) (parent_noted c.set.new.self.table.entries) (parent_noted c.set-in-Some-other.new.self.table.entries)
+          c.self.invariant.1 c.set.ensures c.set-in-Some-other.ensures),
+    )

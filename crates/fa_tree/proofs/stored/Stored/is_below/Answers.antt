@@ -10,7 +10,7 @@ use Rattle.fa_tree.proofs.stored.Stored.is_below.Goals as goal
 pub loop-init : goal.loop-init
 loop-init c =
     let s = c.args.self.now.store in
-    let tree = still_tree _ c.args.self.now c.self.view_is c.self.invariant in
+    let tree = still_tree _ c.args.self.now c.self.view_is c.self.invariant.0 in
     let way = tree_climbs s c.args.below tree in
     let few = climbs_few s c.args.below way.0 tree c.requires.directory way.1 in
     let files = ap (λ (t : StoredShown). len t.store.files) c.self.view_is in
@@ -28,7 +28,7 @@ returns-in-None c = (λ t. absurd cc, λ b. absurd (none_above c.args.self.now.s
 pub loop-preserved : goal.loop-preserved
 loop-preserved c =
     let s = c.args.self.now.store in
-    let tree = still_tree _ c.args.self.now c.self.view_is c.self.invariant in
+    let tree = still_tree _ c.args.self.now c.self.view_is c.self.invariant.0 in
     let p = c.in-Some.parent in
     let is = c.in-Some.ensures.there in
     let was = c.loop.invariant in

@@ -1,14 +1,42 @@
-use Rattle.std.proofs.Common.{sym, ◌∙◌}
+use Rattle.std.proofs.Common.{◌≡◌, sym, ap, subst, refl, ◌∙◌}
+use Rattle.std.specs.FinMap.{get}
+use Rattle.fa_tree.specs.declared.stored.Stored.TheInside.{Inside}
+use Rattle.fa_tree.specs.parts.ParentParts.{parent_noted}
 use Rattle.fa_tree.specs.parts.StoredView.{stored_shown}
-use Rattle.fa_tree.proofs.StoredChangeLemmas.{still_renamed, renamed_or_not, found_same, still_unmoved}
+use Rattle.fa_tree.proofs.ParentLemmas.{AreGone, moved_parents}
+use Rattle.fa_tree.proofs.StoredChangeLemmas.{still_renamed, renamed_or_not, found_same, found_apart, still_unmoved}
 use Rattle.fa_tree.proofs.stored.Stored.rename.Goals as goal
+use Rattle.fa_tree.proofs.stored.Stored.rename.Goals.{in-Some-taken, in_default}
 
 pub invariant_of-self : goal.invariant_of-self
-invariant_of-self c =
+invariant_of-self c = rw (c.in_err-rename-in-Some-2.ensures.unchanged) c.self.invariant
+
+pub invariant_of-self-in-Some-2 : goal.invariant_of-self-in-Some-2
+invariant_of-self-in-Some-2 c =
     let n = c.self.inside.names in
+    let file = c.in-Some.file in
+    let old = parent_noted c.self.inside.parents.table.entries in
+    let between = parent_noted c.match-taken.self-inside.parents.table.entries in
     let may = still_renamed (stored_shown c.self.inside) c.args.self.now c.args.old_directory c.args.old_name.now c.args.new_directory c.args.new_name.now c.self.view_is c.requires in
-    renamed_or_not c.rename.result n c.rename.new.self c.self.inside.files c.args.old_directory c.args.old_name.now c.args.new_directory c.args.new_name.now c.in-Some.file
-    c.self.invariant may (sym c.get.ensures ∙ c.in-Some.is) c.rename.ensures.renamed c.rename.ensures.unchanged
+    let there = sym c.get.ensures ∙ c.in-Some.is in
+    let names : c.match-taken.self-inside.names ≡ c.rename.new.self =
+    elim c.match-taken.branch [ in-Some-taken w ↦ ap (λ (t : Inside). t.names) w.self-inside-is | in_default w ↦ ap (λ (t : Inside). t.names) w.self-inside-is ] in
+    let files : c.match-taken.self-inside.files ≡ c.self.inside.files =
+    elim c.match-taken.branch [ in-Some-taken w ↦ ap (λ (t : Inside). t.files) w.self-inside-is | in_default w ↦ ap (λ (t : Inside). t.files) w.self-inside-is ] in
+    let gone : AreGone (get n.names (c.args.new_directory, c.args.new_name.now)) old between =
+    elim c.match-taken.branch [
+      | in-Some-taken w ↦ subst (λ found. AreGone found old between) (sym w.in-Some-taken.is ∙ c.get-taken.ensures) (rw (w.self-inside-is) w.remove.ensures)
+      | in_default w ↦ subst (λ found. AreGone found old between) (sym w.in_default.is ∙ c.get-taken.ensures) (rw (w.self-inside-is) (λ of. refl))
+    ] in
+    rw (names, files) (
+      renamed_or_not c.rename.result n c.rename.new.self c.self.inside.files c.args.old_directory c.args.old_name.now c.args.new_directory c.args.new_name.now file
+          c.self.invariant.0 may there c.rename.ensures.renamed c.rename.ensures.unchanged,
+      rw (c.in_ok-rename-in-Some-2.ensures.renamed)
+          (moved_parents (stored_shown c.self.inside).store c.args.old_directory c.args.old_name.now c.args.new_directory c.args.new_name.now file c.self.invariant.0 there
+          old between (parent_noted c.set.new.self.table.entries) c.self.invariant.1 c.set.ensures
+          (get n.names (c.args.new_directory, c.args.new_name.now)) refl
+          (λ same. found_apart c.get-taken.result c.in-Some.file (sym c.eq.ensures ∙ c.if-eq.false) (c.get-taken.ensures ∙ same)) gone),
+    )
 
 pub returns-in-Some-clause-renamed : goal.returns-in-Some-clause-renamed
 returns-in-Some-clause-renamed c =

@@ -1,11 +1,16 @@
 use Rattle.std.proofs.Common.{refl}
 use Rattle.fa_tree.specs.Contents.{resized}
 use Rattle.fa_tree.specs.parts.FileParts.{with_bytes}
+use Rattle.fa_tree.specs.parts.ParentParts.{parent_noted}
 use Rattle.fa_tree.specs.parts.StoredView.{stored_shown}
+use Rattle.fa_tree.proofs.ParentLemmas.{parents_changed_or_not}
 use Rattle.fa_tree.proofs.StoredChangeLemmas.{changed_or_not}
 use Rattle.fa_tree.proofs.stored.Stored.resize.Goals as goal
 
 pub invariant_of-self : goal.invariant_of-self
-invariant_of-self c =
-    changed_or_not c.resize.result (stored_shown c.self.inside) c.resize.new.self c.args.file (with_bytes (λ bytes. resized bytes c.args.size)) (λ f. refl) c.self.invariant
-    c.resize.ensures.resized c.resize.ensures.unchanged
+invariant_of-self c = (
+  changed_or_not c.resize.result (stored_shown c.self.inside) c.resize.new.self c.args.file (with_bytes (λ bytes. resized bytes c.args.size)) (λ f. refl) c.self.invariant.0
+      c.resize.ensures.resized c.resize.ensures.unchanged,
+  parents_changed_or_not c.resize.result (stored_shown c.self.inside) c.resize.new.self c.args.file (with_bytes (λ bytes. resized bytes c.args.size)) (parent_noted c.self.inside.parents.table.entries) (λ f. refl)
+      c.self.invariant.0 c.self.invariant.1 c.resize.ensures.resized c.resize.ensures.unchanged,
+)

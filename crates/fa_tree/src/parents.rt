@@ -1,0 +1,77 @@
+//! The directory that each directory is in, so that it need not be looked for among all names.
+
+ghost use Rattle.std.specs.Prelude.{◌≡◌, ◌≢◌, cond, [], Some, None, OnOk, OnErr};
+ghost use Rattle.std.specs.Option.{option_map};
+ghost use Rattle.fa_bodies.specs.declared.mode.Kind.TheVariants.{Directory};
+ghost use Rattle.fa_tree.specs.declared.id.FileId.{FileId};
+ghost use Rattle.fa_tree.specs.State.{file_eq};
+ghost use Rattle.fa_tree.specs.parts.ParentParts.{parent_noted};
+
+use crate::id::FileId;
+use fa_bodies::Kind;
+use indexmap::IndexMap;
+use std::alloc::{AllocError, Global};
+
+/// For each directory that has a name the directory that the name is in. No other file has an entry.
+#[derive(Drop)]
+pub(crate) struct Parents {
+    pub table: IndexMap<FileId, FileId>,
+}
+
+impl Parents {
+    /// No directory has a name. What is stored later takes memory from `alloc`.
+    ///
+    /// Takes no memory, in constant time.
+    pub fn new(alloc: Global) -> Self
+        ensures { result.table.entries ≡ [] }
+    {
+        Parents {
+            table: IndexMap::new(alloc),
+        }
+    }
+
+    /// The directory that is noted for a file, if one is.
+    ///
+    /// Takes no memory, in expected constant time.
+    pub fn of(&self, file: FileId) -> Option<FileId>
+        ensures { result ≡ parent_noted self.now.table.entries file }
+    {
+        self.table.get(&file).copied()
+    }
+
+    /// Notes the directory that a file of this type is in, if that is a directory. An error says that memory was refused, and
+    /// nothing is changed.
+    ///
+    /// Expected constant time but for growing, and for any other file nothing is done.
+    pub fn add(&mut self, file: FileId, kind: Kind, directory: FileId) -> Result<(), AllocError>
+        ensures noted { OnOk result (kind ≡ Directory → parent_noted self.new.table.entries file ≡ Some directory) }
+        ensures others { OnOk result ((of : FileId) → of ≢ file → parent_noted self.new.table.entries of ≡ parent_noted self.old.table.entries of) }
+        ensures unchanged { OnErr result (self.new.table.entries ≡ self.old.table.entries) }
+    {
+        if kind == Kind::Directory {
+            self.table.insert(file, directory)?;
+        }
+        Ok(())
+    }
+
+    /// Notes another directory for a file that has an entry.
+    ///
+    /// Takes no memory, in expected constant time.
+    pub fn set(&mut self, file: FileId, directory: FileId)
+        ensures { (of : FileId) → parent_noted self.new.table.entries of ≡ cond (file_eq of file) (option_map (λ _. directory) (parent_noted self.old.table.entries file)) (parent_noted self.old.table.entries of) }
+    {
+        match self.table.get_mut(&file) {
+            Some(parent) => *parent = directory,
+            None => {}
+        }
+    }
+
+    /// Takes the entry of a file away, if it has one.
+    ///
+    /// Takes no memory, in expected constant time.
+    pub fn remove(&mut self, file: FileId)
+        ensures { (of : FileId) → parent_noted self.new.table.entries of ≡ cond (file_eq of file) None (parent_noted self.old.table.entries of) }
+    {
+        self.table.swap_remove(&file);
+    }
+}
