@@ -10,8 +10,8 @@ ghost use Rattle.fa_ledger.specs.Refusals.{IsNext};
 ghost use Rattle.fa_ledger.specs.Shows as ledgers;
 ghost use Rattle.fa_tests.specs.Paired.{AreLevel, IsAhead};
 
-use fa_capture::Packet;
 use fa_capture::limits::MAX_MESSAGES;
+use fa_capture::{Packet, read_capture};
 use fa_ledger::{Calls, Ledger, LedgerError};
 use fa_session::{Event, Session, SessionError};
 use std::alloc::Global;
@@ -165,4 +165,10 @@ pub fn calls_of<'a>(alloc: Global, packets: &[Packet<'a>]) -> Option<Calls<'a>> 
     } else {
         None
     }
+}
+
+/// The calls of a capture of these bytes, if its messages are all taken.
+pub fn calls_in<'a>(alloc: Global, bytes: &'a [u8]) -> Option<Calls<'a>> {
+    let capture = read_capture(alloc, bytes).ok()?;
+    calls_of(alloc, &capture.packets)
 }

@@ -5,15 +5,15 @@ use crate::trees::Added::{self, File};
 use crate::trees::tree_of;
 use fa_bodies::ROOT_ID as ROOT;
 use fa_capture::codes::{ATTRIBUTES, LISTING};
-use fa_capture::read_capture;
 use fa_ledger::Calls;
-use fa_sample::{DIR, Listed, Sample};
+use fa_sample::{Listed, Sample};
 use fa_tests::messages::begun;
-use fa_tests::paired::calls_of;
+use fa_tests::paired::{UNTOLD, calls_in};
 use fa_tests::sent::Sent::{self, *};
-use fa_tests::sent::with_all;
-use fa_tree::{Kind, Replay, StepError, Tree};
+use fa_tests::sent::{Entries, with_all};
+use fa_tree::{Kind, Replay, Tree};
 use std::alloc::Global;
+use std::process::Abort;
 
 /// How many names a large directory has, and how many of them an answer gives.
 const NAMES: u32 = 3_000;
@@ -63,98 +63,95 @@ fn entries_of(names: &[[u8; 2]; 30], number: u32) -> [Listed<'_>; 30] {
     entries
 }
 
-/// The directory is opened, and listed up to this name. Before each answer another directory is made, and then removed.
+/// The root is opened as the file handle 1.
+static OPENED: &[Sent] = &[Opendir(2, ROOT), Opened(2, 1, 0)];
+
+/// Another directory is made, the names behind so many are listed, and it is removed.
+fn with_piece(sample: Sample, number: u32) -> Sample {
+    let unique = u64::from(number).saturating_add(4);
+    let front = [
+        Mkdir(unique, ROOT),
+        Directory(unique, unique),
+        Readdir(unique, ROOT, 1, u64::from(number)),
+    ];
+    let names = names_behind(number);
+    let listed = with_all(sample, &front).listing(unique, &entries_of(&names, number));
+    with_all(listed, &[Rmdir(unique, ROOT), Done(unique)])
+}
+
+/// The root is listed up to this name, in pieces, and then to its end.
 fn listed_to(alloc: Global, end: u32) -> Sample {
-    let mut sample = begun(alloc, (0, 0)).opendir(2, ROOT).opened(2, 1);
+    let mut sample = with_all(begun(alloc, (0, 0)), OPENED);
     for piece in 0..end / PIECE {
-        let (unique, number) = (u64::from(piece) + 4, piece * PIECE);
-        sample = sample
-            .mkdir(unique, ROOT, b"other")
-            .entry(unique, unique, DIR | 0o755, 0, 2);
-        let names = names_behind(number);
-        sample = sample
-            .readdir(unique, ROOT, 1, u64::from(number), 4096)
-            .listing(unique, &entries_of(&names, number));
-        sample = sample.rmdir(unique, ROOT, b"other").ok(unique);
+        sample = with_piece(sample, piece.saturating_mul(PIECE));
     }
-    sample
-        .readdir(2, ROOT, 1, u64::from(end), 4096)
-        .listing(2, &[])
+    let last = [Readdir(2, ROOT, 1, u64::from(end)), Dirents(2, &[])];
+    with_all(sample, &last)
 }
 
-/// What a call is told, where it is told the same along the replay and by itself.
-fn told_both(
-    along: &mut Tree,
-    alone: &mut Tree,
-    replay: &mut Replay<'_>,
-    at: u32,
-) -> Option<Result<(), StepError>> {
-    let told = step(alone, replay.calls(), at, None);
-    if step_in(along, replay, at) == told {
-        told
+/// The code that a call is told, 0 where it steps, if it is told the same along the replay and by itself.
+fn told_both(along: &mut Tree, alone: &mut Tree, replay: &mut Replay<'_>, at: u32) -> u16 {
+    let code = step(alone, replay.calls(), at);
+    if step_in(along, replay, at) == code {
+        code
     } else {
-        None
+        UNTOLD
     }
 }
 
-/// How many calls step, in their order, and what the next one is told, if there is one. None where one is told otherwise along a replay
-/// than by itself.
-fn steps_told(
-    alloc: Global,
-    along: &mut Tree,
-    alone: &mut Tree,
-    calls: &Calls<'_>,
-) -> Option<(u32, Option<StepError>)> {
+/// How many calls step, how many do not, and the code that the first of these is told, 0 where there is none.
+type Steps = (u32, u32, u16);
+
+/// What comes of all calls in their order.
+fn steps_told(alloc: Global, along: &mut Tree, alone: &mut Tree, calls: &Calls<'_>) -> Steps {
     let mut replay = Replay::new(alloc, calls);
-    let mut steps = 0u32;
+    let (mut steps, mut others, mut first) = (0u32, 0u32, 0);
     for call in &calls.list {
-        match told_both(along, alone, &mut replay, call.asked)? {
-            Ok(()) => steps = steps.saturating_add(1),
-            Err(error) => return Some((steps, Some(error))),
+        let code = told_both(along, alone, &mut replay, call.asked);
+        if code == 0 {
+            steps = steps.saturating_add(1);
+        } else {
+            first = if others == 0 { code } else { first };
+            others = others.saturating_add(1);
         }
     }
-    Some((steps, None))
+    (steps, others, first)
 }
 
-/// The same on the large directory. None also where memory was refused.
-fn steps_along(alloc: Global, calls: &Calls<'_>) -> Option<(u32, Option<StepError>)> {
-    let mut along = large(alloc)?;
-    let mut alone = large(alloc)?;
-    steps_told(alloc, &mut along, &mut alone, calls)
-}
-
-/// The same of the calls of a sample. None also where a message is refused.
-fn steps_of(alloc: Global, sample: Sample) -> Option<(u32, Option<StepError>)> {
+/// The same of the calls of a sample. None where a message is refused, or memory was.
+fn steps_of(alloc: Global, along: &mut Tree, alone: &mut Tree, sample: Sample) -> Option<Steps> {
     let bytes = sample.capture().ok()?;
-    let capture = read_capture(alloc, &bytes).ok()?;
-    let calls = calls_of(alloc, &capture.packets)?;
-    steps_along(alloc, &calls)
+    let calls = calls_in(alloc, &bytes)?;
+    Some(steps_told(alloc, along, alone, &calls))
 }
 
 /// A directory of many names, listed in pieces while another name comes and goes: to its end, and up to its last names.
 #[test]
 fn a_large_directory(rt: HostRuntime) {
     let alloc = rt.alloc();
-    assert!(rt; steps_of(alloc, listed_to(alloc, NAMES)) == Some((302, None)));
-    let short = listed_to(alloc, NAMES - PIECE);
-    assert!(rt; steps_of(alloc, short) == Some((298, Some(StepError::Refused(LISTING)))));
+    for (end, expected) in [(NAMES, (302, 0, 0)), (NAMES - PIECE, (298, 1, LISTING))] {
+        let mut along = large(alloc).expect(&rt, "a tree");
+        let mut alone = large(alloc).expect(&rt, "a tree");
+        let told = steps_of(alloc, &mut along, &mut alone, listed_to(alloc, end));
+        assert!(rt; told == Some(expected), "up to {end}");
+    }
 }
 
 /// A directory `a`, and files `b` in the root and in `a`: one is regular, and the other a directory.
-const REGULAR_IN_ROOT: &[Added] = &[
+static REGULAR_IN_ROOT: &[Added] = &[
     File(0, b"a", Kind::Directory, b""),
     File(0, b"b", Kind::Regular, b""),
     File(1, b"b", Kind::Directory, b""),
 ];
 
-const REGULAR_BELOW: &[Added] = &[
+static REGULAR_BELOW: &[Added] = &[
     File(0, b"a", Kind::Directory, b""),
     File(0, b"b", Kind::Directory, b""),
     File(1, b"b", Kind::Regular, b""),
 ];
 
 /// LOOKUP of `a`, which is the node 5, the message 2; and OPENDIR of the root as the file handle 1, the message 4.
-const ROOT_OPENED: &[Sent] = &[
+static ROOT_OPENED: &[Sent] = &[
     Lookup(2, ROOT),
     Directory(2, 5),
     Opendir(4, ROOT),
@@ -162,7 +159,7 @@ const ROOT_OPENED: &[Sent] = &[
 ];
 
 /// The same of `a`; and READDIRPLUS of it, the message 6, whose answer gives `b` a node, as a regular file.
-const BELOW_LISTED: &[Sent] = &[
+static BELOW_LISTED: &[Sent] = &[
     Lookup(2, ROOT),
     Directory(2, 5),
     Opendir(4, 5),
@@ -171,42 +168,33 @@ const BELOW_LISTED: &[Sent] = &[
     DirentsPlus(6, 7, &[("b", 1)]),
 ];
 
-/// What the last of these calls is told, each by the number of its request, where a tree takes them in turn. None where a message is
-/// refused, or memory was.
-fn told_last(
-    alloc: Global,
-    tree: &mut Tree,
-    messages: &[Sent],
-    numbers: &[u32],
-) -> Option<Result<(), StepError>> {
+/// The code that the last of these calls is told, each by the number of its request, where a tree takes them in turn. None where a
+/// message is refused, or memory was.
+fn told_last(alloc: Global, tree: &mut Tree, messages: &[Sent], numbers: &[u32]) -> Option<u16> {
     let bytes = with_all(begun(alloc, (0, 0)), messages).capture().ok()?;
-    let capture = read_capture(alloc, &bytes).ok()?;
-    let calls = calls_of(alloc, &capture.packets)?;
-    let mut told = None;
+    let calls = calls_in(alloc, &bytes)?;
+    let mut told = UNTOLD;
     for at in numbers {
-        told = step(tree, &calls, *at, None);
+        told = step(tree, &calls, *at);
     }
-    told
+    Some(told)
 }
 
-/// What READDIRPLUS of `a` is told, where the calls of another capture opened the root by the same message.
-fn listed_elsewhere(alloc: Global, files: &[Added]) -> Option<Result<(), StepError>> {
-    let mut tree = tree_of(alloc, files)?;
-    told_last(alloc, &mut tree, ROOT_OPENED, &[4])?.ok()?;
-    told_last(alloc, &mut tree, BELOW_LISTED, &[2, 6])
-}
-
-/// The names and types of a listing are those of the directory that its handle is open on, also where the request names another.
+/// The names and types of a listing are those of the directory that its handle is open on, also where the request names another: the
+/// calls of another capture opened the root by the same message.
 #[test]
 fn the_directory_that_is_open(rt: HostRuntime) {
-    let told = listed_elsewhere(rt.alloc(), REGULAR_IN_ROOT);
-    assert!(rt; told == Some(Ok(())));
-    let told = listed_elsewhere(rt.alloc(), REGULAR_BELOW);
-    assert!(rt; told == Some(Err(StepError::Refused(ATTRIBUTES))));
+    let alloc = rt.alloc();
+    for (files, code) in [(REGULAR_IN_ROOT, 0), (REGULAR_BELOW, ATTRIBUTES)] {
+        let mut tree = tree_of(alloc, files).expect(&rt, "a tree");
+        let opened = told_last(alloc, &mut tree, ROOT_OPENED, &[4]);
+        let listed = told_last(alloc, &mut tree, BELOW_LISTED, &[2, 6]);
+        assert!(rt; opened == Some(0) && listed == Some(code));
+    }
 }
 
 /// Files `a` to `e` in the root.
-const FIVE: &[Added] = &[
+static FIVE: &[Added] = &[
     File(0, b"a", Kind::Regular, b""),
     File(0, b"b", Kind::Regular, b""),
     File(0, b"c", Kind::Regular, b""),
@@ -215,7 +203,7 @@ const FIVE: &[Added] = &[
 ];
 
 /// The root is opened as the file handle 1, and listed up to `d`.
-const LISTED_BACK_AND_FORTH: &[Sent] = &[
+static LISTED_BACK_AND_FORTH: &[Sent] = &[
     Opendir(2, ROOT),
     Opened(2, 1, 0),
     Readdir(4, ROOT, 1, 0),
@@ -244,102 +232,56 @@ const LISTED_BACK_AND_FORTH: &[Sent] = &[
     Dirents(24, &[("a", 1), ("a", 2)]),
 ];
 
-/// How many calls step, and how many are refused. None where one is told otherwise along the replay than by itself.
-fn told_alike(
-    alloc: Global,
-    along: &mut Tree,
-    alone: &mut Tree,
-    calls: &Calls<'_>,
-) -> Option<(u32, u32)> {
-    let mut replay = Replay::new(alloc, calls);
-    let (mut steps, mut refused) = (0u32, 0u32);
-    for call in &calls.list {
-        match told_both(along, alone, &mut replay, call.asked)? {
-            Ok(()) => steps = steps.saturating_add(1),
-            Err(_) => refused = refused.saturating_add(1),
-        }
-    }
-    Some((steps, refused))
-}
-
-/// The same on trees of these files. None also where memory was refused.
-fn told_alike_on(alloc: Global, files: &[Added], calls: &Calls<'_>) -> Option<(u32, u32)> {
-    let mut along = tree_of(alloc, files)?;
-    let mut alone = tree_of(alloc, files)?;
-    told_alike(alloc, &mut along, &mut alone, calls)
-}
-
-/// The same of the calls of a sample. None also where a message is refused.
-fn listed_alike(alloc: Global, files: &[Added], sample: Sample) -> Option<(u32, u32)> {
-    let bytes = sample.capture().ok()?;
-    let capture = read_capture(alloc, &bytes).ok()?;
-    let calls = calls_of(alloc, &capture.packets)?;
-    told_alike_on(alloc, files, &calls)
-}
-
 /// The five files of the root as entries, in pieces, each with the offset that it is asked for at.
-const PIECES: &[(u64, &[Listed<'_>])] = &[
-    (
-        0,
-        &[Listed {
-            name: b"a",
-            off: 1,
-            file_type: 8,
-        }],
-    ),
-    (
-        1,
-        &[Listed {
-            name: b"b",
-            off: 2,
-            file_type: 8,
-        }],
-    ),
-    (
-        2,
-        &[
-            Listed {
-                name: b"c",
-                off: 3,
-                file_type: 8,
-            },
-            Listed {
-                name: b"d",
-                off: 4,
-                file_type: 8,
-            },
-            Listed {
-                name: b"e",
-                off: 5,
-                file_type: 8,
-            },
-        ],
-    ),
+static PIECES: &[(u64, Entries)] = &[
+    (0, &[("a", 1)]),
+    (1, &[("b", 2)]),
+    (2, &[("c", 3), ("d", 4), ("e", 5)]),
     (5, &[]),
 ];
 
-/// The root is opened as so many handles, and listed on all of them in turn, by these pieces.
-fn listed_in_turn(alloc: Global, handles: u64, pieces: &[(u64, &[Listed<'_>])]) -> Sample {
+/// The root is opened as so many handles.
+fn opened_as(alloc: Global, handles: u64) -> Sample {
     let mut sample = begun(alloc, (0, 0));
     for handle in 1..=handles {
-        sample = sample.opendir(2, ROOT).opened(2, handle);
-    }
-    for (offset, entries) in pieces {
-        for handle in 1..=handles {
-            sample = sample
-                .readdir(2, ROOT, handle, *offset, 4096)
-                .listing(2, entries);
-        }
+        sample = with_all(sample, &[Opendir(2, ROOT), Opened(2, handle, 0)]);
     }
     sample
+}
+
+/// The root is listed on each of these handles, from this offset.
+fn listed_on_each(mut sample: Sample, handles: u64, offset: u64, entries: Entries) -> Sample {
+    for handle in 1..=handles {
+        let listed = [Readdir(2, ROOT, handle, offset), Dirents(2, entries)];
+        sample = with_all(sample, &listed);
+    }
+    sample
+}
+
+/// The root is listed on all of these handles in turn, by these pieces.
+fn listed_in_turn(alloc: Global, handles: u64, pieces: &[(u64, Entries)]) -> Sample {
+    let mut sample = opened_as(alloc, handles);
+    for (offset, entries) in pieces {
+        sample = listed_on_each(sample, handles, *offset, entries);
+    }
+    sample
+}
+
+/// What comes of the calls of a sample on two trees of these files.
+fn steps_on(rt: &impl Abort, alloc: Global, files: &[Added], sample: Sample) -> Option<Steps> {
+    let mut along = tree_of(alloc, files).expect(rt, "a tree");
+    let mut alone = tree_of(alloc, files).expect(rt, "a tree");
+    steps_of(alloc, &mut along, &mut alone, sample)
 }
 
 /// What is kept of a listing shows nowhere, where it goes on, where it goes back, and where it ends; nor where there are more handles
 /// than it is kept for.
 #[test]
 fn a_listing_along_one_replay(rt: HostRuntime) {
-    let back_and_forth = with_all(begun(rt.alloc(), (0, 0)), LISTED_BACK_AND_FORTH);
-    assert!(rt; listed_alike(rt.alloc(), FIVE, back_and_forth) == Some((8, 4)));
-    let in_turn = listed_in_turn(rt.alloc(), 20, PIECES);
-    assert!(rt; listed_alike(rt.alloc(), FIVE, in_turn) == Some((100, 0)));
+    let alloc = rt.alloc();
+    let back_and_forth = with_all(begun(alloc, (0, 0)), LISTED_BACK_AND_FORTH);
+    let told = steps_on(&rt, alloc, FIVE, back_and_forth);
+    assert!(rt; told == Some((8, 4, LISTING)));
+    let told = steps_on(&rt, alloc, FIVE, listed_in_turn(alloc, 20, PIECES));
+    assert!(rt; told == Some((100, 0, 0)));
 }

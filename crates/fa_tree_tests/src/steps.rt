@@ -1,46 +1,61 @@
 //! Steps of a tree that no order of a capture shows: those of requests whose node is not known here yet, that which is made twice, and
 //! those to which memory is refused.
 
+ghost use Rattle.std.specs.Prelude.{◌<◌, None, length, map, IfSome};
+ghost use Rattle.fa_ledger.specs.Calls.{call_shown};
+ghost use Rattle.fa_ledger.specs.Choices.{Allows};
+ghost use Rattle.fa_tree.specs.Steps.{OfCallAt};
+
 use crate::trees::Added::{self, File};
 use crate::trees::{empty_again, tree_of};
 use fa_bodies::ROOT_ID as ROOT;
 use fa_bodies::errno::EACCES;
-use fa_capture::codes::{CHOICE_NOT_ALLOWED, SUCCESS_NOT_ALLOWED, UNKNOWN_HERE};
-use fa_capture::{Direction, read_capture};
+use fa_capture::Direction;
+use fa_capture::codes::{SUCCESS_NOT_ALLOWED, UNKNOWN_HERE};
 use fa_ledger::Calls;
 use fa_tests::messages::{INIT, INIT_ANSWER, begun, packet, spelled, thirty};
-use fa_tests::paired::{Paired, calls_of};
+use fa_tests::paired::{Paired, UNTOLD, calls_in};
 use fa_tests::sent::Sent::{self, *};
 use fa_tests::sent::with_all;
 use fa_tree::{FileId, Kind, Replay, StepError, Tree};
 use std::alloc::Global;
 
-/// One step, by the number of its request, and how many bytes an order says that it wrote. A choice that is not allowed is told
-/// by its code. None where no call has this number.
-pub fn step(
-    tree: &mut Tree,
-    calls: &Calls<'_>,
-    at: u32,
-    wrote: Option<u32>,
-) -> Option<Result<(), StepError>> {
+/// What stands for a code where memory was refused, and where no call has the number or an order may not name it without a count.
+const MEMORY: u16 = 998;
+
+/// The place of the call of this number, if there is one, and an order may name it without a count of bytes.
+fn place_of(calls: &Calls<'_>, at: u32) -> Option<usize>
+    ensures there { IfSome result (λ place. place < length calls.now.list.items) }
+    ensures allowed { IfSome result (λ place. OfCallAt (map call_shown calls.now.list.items) place (λ call. Allows call None)) }
+{
     let place = calls.find(at)?;
     let call = calls.list.get(place)?;
-    if !call.allows(wrote) {
-        return Some(Err(StepError::Refused(CHOICE_NOT_ALLOWED)));
-    }
-    Some(tree.step(calls, place, wrote))
+    if call.allows(None) { Some(place) } else { None }
 }
 
-/// One step along a replay, by the number of its request. A choice that is not allowed is told by its code. None where no call has
-/// this number.
-pub fn step_in(tree: &mut Tree, replay: &mut Replay<'_>, at: u32) -> Option<Result<(), StepError>> {
-    let calls = replay.calls();
-    let place = calls.find(at)?;
-    let call = calls.list.get(place)?;
-    if !call.allows(None) {
-        return Some(Err(StepError::Refused(CHOICE_NOT_ALLOWED)));
+/// The code that is told of a step, 0 where there is one.
+fn code_of(told: Result<(), StepError>) -> u16 {
+    match told {
+        Ok(()) => 0,
+        Err(StepError::Refused(code)) => code,
+        Err(StepError::Memory) => MEMORY,
     }
-    Some(tree.step_in(replay, place, None))
+}
+
+/// The code of one step, by the number of its request.
+pub fn step(tree: &mut Tree, calls: &Calls<'_>, at: u32) -> u16 {
+    match place_of(calls, at) {
+        Some(place) => code_of(tree.step(calls, place, None)),
+        None => UNTOLD,
+    }
+}
+
+/// The code of one step along a replay, by the number of its request.
+pub fn step_in(tree: &mut Tree, replay: &mut Replay<'_>, at: u32) -> u16 {
+    match place_of(replay.calls(), at) {
+        Some(place) => code_of(tree.step_in(replay, place, None)),
+        None => UNTOLD,
+    }
 }
 
 /// A file, and a directory.
@@ -53,7 +68,7 @@ const A_DIRECTORY: &[Added] = &[File(0, b"a", Kind::Directory, b"")];
 type Row = (&'static [Added], &'static [Sent]);
 
 /// The node stands in the header or behind it, and the request is answered or not.
-const BEFORE_IT_IS_GIVEN: [Row; 6] = [
+static BEFORE_IT_IS_GIVEN: [Row; 6] = [
     (
         A_FILE,
         &[Lookup(2, ROOT), Entry(2, 2), Getattr(4, 2, 0, 0), Attr(4)],
@@ -90,19 +105,19 @@ const BEFORE_IT_IS_GIVEN: [Row; 6] = [
     ),
 ];
 
-/// What the step of the message 4 is told, by itself. None where a message is refused, or memory was.
-fn told_alone(alloc: Global, row: &Row) -> Option<Result<(), StepError>> {
+/// The code of the step of the message 4, by itself. None where a message is refused, or memory was.
+fn code_alone(alloc: Global, row: &Row) -> Option<u16> {
     let (files, messages) = row;
     let bytes = with_all(begun(alloc, (0, 0)), messages).capture().ok()?;
-    let capture = read_capture(alloc, &bytes).ok()?;
-    let calls = calls_of(alloc, &capture.packets)?;
-    step(&mut tree_of(alloc, files)?, &calls, 4, None)
+    let calls = calls_in(alloc, &bytes)?;
+    let mut tree = tree_of(alloc, files)?;
+    Some(step(&mut tree, &calls, 4))
 }
 
 /// The number of the first row that is told otherwise, where there is one.
 fn first_known(alloc: Global, rows: &[Row]) -> Option<usize> {
-    rows.iter().position(|row| told_alone(alloc, row)
-        != Some(Err(StepError::Refused(UNKNOWN_HERE))))
+    rows.iter()
+        .position(|row| code_alone(alloc, row) != Some(UNKNOWN_HERE))
 }
 
 #[test]
@@ -111,11 +126,11 @@ fn what_a_request_names_has_to_be_known(rt: HostRuntime) {
 }
 
 /// OPENDIR of the root, and its file handle.
-const OPENDIR: &[(usize, u8)] = &[(0, 48), (4, 27), (8, 1), (16, 1)];
+static OPENDIR: &[(usize, u8)] = &[(0, 48), (4, 27), (8, 1), (16, 1)];
 
-const HANDLE: &[(usize, u8)] = &[(0, 32), (8, 1)];
+static HANDLE: &[(usize, u8)] = &[(0, 32), (8, 1)];
 /// CREATE of a name of one byte, of the mode 0100644 with the umask 022, and its answer.
-const CREATE: &[(usize, u8)] = &[
+static CREATE: &[(usize, u8)] = &[
     (0, 58),
     (4, 35),
     (16, 1),
@@ -125,16 +140,16 @@ const CREATE: &[(usize, u8)] = &[
     (48, 0o22),
 ];
 
-const CREATED: &[(usize, u8)] = &[(0, 160), (116, 0xA4), (117, 0x81), (120, 1)];
+static CREATED: &[(usize, u8)] = &[(0, 160), (116, 0xA4), (117, 0x81), (120, 1)];
 /// The message of SYMLINK.
 const SYMLINK_AT: u32 = 64;
 
 /// SYMLINK of `s` with the target `t`, its answer, RENAME of `s` to `t`, and its answer.
-const SYMLINK: &[(usize, u8)] = &[(0, 44), (4, 6), (8, 1), (16, 1), (40, b's'), (42, b't')];
+static SYMLINK: &[(usize, u8)] = &[(0, 44), (4, 6), (8, 1), (16, 1), (40, b's'), (42, b't')];
 
-const SYMLINKED: &[(usize, u8)] = &[(0, 144), (8, 1), (16, 50), (117, 0xA0), (120, 1)];
+static SYMLINKED: &[(usize, u8)] = &[(0, 144), (8, 1), (16, 50), (117, 0xA0), (120, 1)];
 
-const RENAME: &[(usize, u8)] = &[
+static RENAME: &[(usize, u8)] = &[
     (0, 52),
     (4, 12),
     (8, 1),
@@ -144,12 +159,12 @@ const RENAME: &[(usize, u8)] = &[
     (50, b't'),
 ];
 
-const RENAMED: &[(usize, u8)] = &[(0, 16), (8, 1)];
+static RENAMED: &[(usize, u8)] = &[(0, 16), (8, 1)];
 
 /// READDIRPLUS of 4,096 bytes, and its answer: the first of those names, of a node that was not given yet.
-const READDIRPLUS: &[(usize, u8)] = &[(0, 80), (4, 44), (8, 1), (16, 1), (57, 16)];
+static READDIRPLUS: &[(usize, u8)] = &[(0, 80), (4, 44), (8, 1), (16, 1), (57, 16)];
 
-const LISTING: &[(usize, u8)] = &[
+static LISTING: &[(usize, u8)] = &[
     (0, 176),
     (8, 1),
     (16, 60),
@@ -174,17 +189,15 @@ fn named(tree: &Tree) -> [Option<FileId>; 128] {
 /// Whether a call steps, also where memory was refused at first, which leaves the names as they were.
 fn steps_again(tree: &mut Tree, calls: &Calls<'_>, at: u32) -> bool {
     let before = named(tree);
-    match step(tree, calls, at, None) {
-        Some(Err(StepError::Memory)) => {
-            named(tree) == before && step(tree, calls, at, None) == Some(Ok(()))
-        }
-        told => told == Some(Ok(())),
+    match step(tree, calls, at) {
+        MEMORY => named(tree) == before && step(tree, calls, at) == 0,
+        code => code == 0,
     }
 }
 
 /// Whether the SYMLINK, whose name was moved away, is refused when it is done again: it has made its file.
 fn is_made_once(tree: &mut Tree, calls: &Calls<'_>) -> bool {
-    step(tree, calls, SYMLINK_AT, None) == Some(Err(StepError::Refused(SUCCESS_NOT_ALLOWED)))
+    step(tree, calls, SYMLINK_AT) == SUCCESS_NOT_ALLOWED
 }
 
 /// Whether all calls step, and leave `t` and the names of 30 files, and the file that was made is made once.

@@ -8,9 +8,9 @@ use fa_tree::{FileId, Kind, StepError, Tree};
 use std::alloc::Global;
 
 /// A name of as many bytes as a name may have, and one byte more.
-static LONG: [u8; 1_024] = [b'n'; 1_024];
+const LONG: &[u8] = &[b'n'; 1_024];
 
-static TOO_LONG: [u8; 1_025] = [b'n'; 1_025];
+const TOO_LONG: &[u8] = &[b'n'; 1_025];
 
 /// What is added: in the directory of this number, under this name,
 #[derive(Clone, Copy)]
@@ -22,7 +22,7 @@ pub enum Added {
 }
 
 /// What is added in turn, and the code that is told, 0 where it is taken.
-const ADDED: [(Added, u16); 34] = [
+static ADDED: [(Added, u16); 34] = [
     (File(0, b"f", Kind::Regular, b"x"), 0),
     (File(0, b"d", Kind::Directory, b""), 0),
     (File(2, b"f", Kind::Regular, b""), 0),
@@ -32,7 +32,7 @@ const ADDED: [(Added, u16); 34] = [
     (File(0, b"b", Kind::BlockDevice, b""), 0),
     (File(0, b"k", Kind::Socket, b""), 0),
     (File(2, b"e", Kind::Directory, b""), 0),
-    (File(9, &LONG, Kind::Regular, b""), 0),
+    (File(9, LONG, Kind::Regular, b""), 0),
     // The name is there.
     (File(0, b"f", Kind::Regular, b""), SUCCESS_NOT_ALLOWED),
     (File(2, b"e", Kind::Directory, b""), SUCCESS_NOT_ALLOWED),
@@ -45,7 +45,7 @@ const ADDED: [(Added, u16); 34] = [
     (File(0, b"..", Kind::Directory, b""), SUCCESS_NOT_ALLOWED),
     (File(0, b"a/b", Kind::Regular, b""), SUCCESS_NOT_ALLOWED),
     (File(0, b"a\0", Kind::Regular, b""), SUCCESS_NOT_ALLOWED),
-    (File(0, &TOO_LONG, Kind::Regular, b""), SUCCESS_NOT_ALLOWED),
+    (File(0, TOO_LONG, Kind::Regular, b""), SUCCESS_NOT_ALLOWED),
     // A file of this type may not have this body.
     (File(0, b"g", Kind::Symlink, b""), SUCCESS_NOT_ALLOWED),
     (File(0, b"g", Kind::Symlink, b"a\0b"), SUCCESS_NOT_ALLOWED),
@@ -68,7 +68,7 @@ const ADDED: [(Added, u16); 34] = [
 type Found = (usize, &'static [u8], Option<usize>);
 
 /// What is found after all that.
-const FOUND: [Found; 17] = [
+static FOUND: [Found; 17] = [
     (0, b"f", Some(1)),
     (0, b"d", Some(2)),
     (2, b"f", Some(3)),
@@ -78,7 +78,7 @@ const FOUND: [Found; 17] = [
     (0, b"b", Some(7)),
     (0, b"k", Some(8)),
     (2, b"e", Some(9)),
-    (9, &LONG, Some(10)),
+    (9, LONG, Some(10)),
     (2, b"h", Some(1)),
     (0, b"t", Some(4)),
     (9, b"k", Some(8)),
