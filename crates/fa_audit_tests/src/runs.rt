@@ -26,7 +26,7 @@ type Row = (
     &'static [u8],
 );
 
-const ROWS: [Row; 9] = [
+static ROWS: [Row; 9] = [
     (
         Call::Check,
         None,

@@ -15,7 +15,7 @@ use fa_tree::Tree;
 use std::alloc::Global;
 
 /// A new file, the messages 2 and 3, and a WRITE of one byte, of which a READ tells before its answer: the messages 4 to 7.
-const WRITTEN: &[Sent] = &[
+static WRITTEN: &[Sent] = &[
     Create(2, ROOT, CREAT),
     Created(2, 2, 1),
     Write(4, 2, 1, 0),
@@ -39,10 +39,10 @@ const FOUND: Entry = Entry { at: 5, wrote: None };
 /// The order that explains the replies, and one that does not.
 const ORDER: &[Entry] = &[MADE, WROTE, FOUND];
 
-const TOO_EARLY: &[Entry] = &[MADE, FOUND, WROTE];
+static TOO_EARLY: &[Entry] = &[MADE, FOUND, WROTE];
 
 /// What is left of the first for the messages before each, from the first message to behind the last.
-const LEFT: [&[Entry]; 9] = [
+static LEFT: [&[Entry]; 9] = [
     &[],
     &[],
     &[],
@@ -71,7 +71,7 @@ fn is_cut(alloc: Global, at: u32, left: &[Entry]) -> Option<bool> {
 
 #[test]
 fn what_is_left_of_an_order(rt: HostRuntime) {
-    for (at, left) in (0..9).zip(LEFT) {
+    for (at, left) in (0..9).zip(&LEFT) {
         assert!(rt; is_cut(rt.alloc(), at, left) == Some(true), "cut at {at}");
     }
 }

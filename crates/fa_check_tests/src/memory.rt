@@ -10,7 +10,7 @@ use fa_tree::Tree;
 use std::alloc::Global;
 
 /// CREATE of `f`, of the mode 0100644 with the umask 022, and its answer: the node 2 and the file handle 0.
-const CREATE: &[(usize, u8)] = &[
+static CREATE: &[(usize, u8)] = &[
     (0, 58),
     (4, 35),
     (8, 2),
@@ -22,7 +22,7 @@ const CREATE: &[(usize, u8)] = &[
     (56, b'f'),
 ];
 
-const CREATED: &[(usize, u8)] = &[
+static CREATED: &[(usize, u8)] = &[
     (0, 160),
     (8, 2),
     (16, 2),
@@ -31,14 +31,14 @@ const CREATED: &[(usize, u8)] = &[
     (120, 1),
 ];
 /// WRITE of `x` at the start, without an answer.
-const WRITE: &[(usize, u8)] = &[(0, 81), (4, 16), (8, 4), (16, 2), (56, 1), (80, b'x')];
+static WRITE: &[(usize, u8)] = &[(0, 81), (4, 16), (8, 4), (16, 2), (56, 1), (80, b'x')];
 /// READ of 4,096 bytes from the start, and its answer.
-const READ: &[(usize, u8)] = &[(0, 80), (4, 15), (8, 5), (16, 2), (57, 16)];
+static READ: &[(usize, u8)] = &[(0, 80), (4, 15), (8, 5), (16, 2), (57, 16)];
 
-const DATA: &[(usize, u8)] = &[(0, 17), (8, 5), (16, b'x')];
+static DATA: &[(usize, u8)] = &[(0, 17), (8, 5), (16, b'x')];
 
 /// The order of these three.
-const ORDER: &[Entry] = &[
+static ORDER: &[Entry] = &[
     Entry { at: 2, wrote: None },
     Entry {
         at: 4,

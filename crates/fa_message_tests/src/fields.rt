@@ -252,7 +252,7 @@ type Body = (
     (&'static [u8], &'static [u8]),
 );
 
-const BODIES: [Body; 23] = [
+static BODIES: [Body; 23] = [
     (1, 0, &[], b"name\0", (b"name", b"")),
     (2, 8, WHOLE, b"", (b"", b"")),
     (3, 16, &[(0, 4), (8, 8)], b"", (b"", b"")),
@@ -286,7 +286,7 @@ const BODIES: [Body; 23] = [
 
 /// A WRITE of three bytes. Its offset is within the limit, and each other byte behind the first 16 is its own place.
 #[rattlefmt::skip]
-const WRITE: [u8; 43] = [
+static WRITE: [u8; 43] = [
     // fh, offset
     0x00, 0x01, 0x02, 0x03, 0x04, 0x05, 0x06, 0x07, 0x08, 0x09, 0x0a, 0x00, 0x00, 0x00, 0x00, 0x00,
     // size, write_flags, lock_owner
@@ -307,7 +307,7 @@ fn rename2(flags: u8) -> [u8; 27] {
 
 /// A BATCH_FORGET of one item.
 #[rattlefmt::skip]
-const BATCH_FORGET: [u8; 24] = [
+static BATCH_FORGET: [u8; 24] = [
     // count, dummy
     0x01, 0x00, 0x00, 0x00, 0x04, 0x05, 0x06, 0x07,
     b'i', b'n', b' ', b's', b'i', b'x', b't', b'e', b'e', b'n', b' ', b'b', b'y', b't', b'e', b's',
@@ -470,7 +470,7 @@ const IN_ATTR: &[Place] = &[
 ];
 
 /// An operation, the bytes of its success, and the places of its fields.
-const SUCCESSES: [(u32, usize, [&[Place]; 3]); 11] = [
+static SUCCESSES: [(u32, usize, [&[Place]; 3]); 11] = [
     (1, 128, [ENTRY, IN_ENTRY, &[]]),
     (3, 104, [&[(0, 8), (8, 4)], IN_ATTR, &[]]),
     (4, 104, [&[(0, 8), (8, 4)], IN_ATTR, &[]]),
@@ -501,8 +501,8 @@ fn is_success_read(alloc: Global, opcode: u32, len: usize, places: [&[Place]; 3]
 
 #[test]
 fn fields_of_successes(rt: HostRuntime) {
-    for (opcode, len, places) in SUCCESSES {
-        let found = is_success_read(rt.alloc(), opcode, len, places);
+    for (opcode, len, places) in &SUCCESSES {
+        let found = is_success_read(rt.alloc(), *opcode, *len, *places);
         assert!(rt; found == Some(true), "the answer of {opcode}");
     }
 }
@@ -528,7 +528,7 @@ fn flags_are_their_bits(rt: HostRuntime) {
 }
 
 /// The bits of a type, and the type.
-const TYPES: [(u32, Option<Kind>); 16] = [
+static TYPES: [(u32, Option<Kind>); 16] = [
     (0o000000, None),
     (0o010000, Some(Kind::Fifo)),
     (0o020000, Some(Kind::CharDevice)),
@@ -550,10 +550,10 @@ const TYPES: [(u32, Option<Kind>); 16] = [
 /// The bits beside those of a type tell nothing of it.
 #[test]
 fn types_of_modes(rt: HostRuntime) {
-    for (type_bits, file_type) in TYPES {
+    for (type_bits, file_type) in &TYPES {
         for others in [0, 0o755, 0o7777, 0x0001_0000, 0xffff_0fff] {
             let mode: u32 = type_bits | others;
-            assert!(rt; Mode::from_bits(mode).file_type() == file_type, "{mode:o}");
+            assert!(rt; Mode::from_bits(mode).file_type() == *file_type, "{mode:o}");
         }
     }
 }

@@ -7,7 +7,7 @@ use std::alloc::Global;
 /// An INIT. The bytes of each field behind the opcode are its own, and the high bits of `unique`, `nodeid`,
 /// `max_readahead` and `flags` are set.
 #[rattlefmt::skip]
-pub const INIT_REQUEST: [u8; 56] = [
+pub static INIT_REQUEST: [u8; 56] = [
     // len, opcode
     0x38, 0, 0, 0, 0x1a, 0, 0, 0,
     // unique, nodeid
@@ -20,7 +20,7 @@ pub const INIT_REQUEST: [u8; 56] = [
 
 /// The answer to it, of 24 bytes behind the header.
 #[rattlefmt::skip]
-pub const INIT_ANSWER: [u8; 40] = [
+pub static INIT_ANSWER: [u8; 40] = [
     // len, error
     0x28, 0, 0, 0, 0, 0, 0, 0,
     // unique
@@ -33,7 +33,7 @@ pub const INIT_ANSWER: [u8; 40] = [
 
 /// A refusal. The error is -742.
 #[rattlefmt::skip]
-const REFUSAL: [u8; 16] = [
+static REFUSAL: [u8; 16] = [
     // len, error
     0x10, 0, 0, 0, 0x1a, 0xfd, 0xff, 0xff,
     // unique
@@ -72,7 +72,7 @@ fn headers_and_lengths(rt: HostRuntime) {
 }
 
 /// The unique, the error or code, and the code that it is refused by, 0 where it is read.
-const HEADS: [(u64, i32, u16); 22] = [
+static HEADS: [(u64, i32, u16); 22] = [
     (4, 0, 0),
     (4, -1, 0),
     (4, -999, 0),
@@ -116,14 +116,14 @@ fn head_with(alloc: Global, unique: u64, error: i32, len: usize) -> Option<(u64,
 /// at. Each field of a header stands at its place.
 #[test]
 fn errors_and_notifications(rt: HostRuntime) {
-    for (unique, error, code) in HEADS {
-        let expected = if code == 0 {
-            (unique, error, 0)
+    for (unique, error, code) in &HEADS {
+        let expected = if *code == 0 {
+            (*unique, *error, 0)
         } else {
-            (0, 0, code)
+            (0, 0, *code)
         };
         for len in [0, 1, 48] {
-            let head = head_with(rt.alloc(), unique, error, len);
+            let head = head_with(rt.alloc(), *unique, *error, len);
             assert!(rt; head == Some(expected), "{error} of {unique}");
         }
     }

@@ -8,13 +8,13 @@ use std::alloc::Global;
 
 /// Two items of BATCH_FORGET. Each byte of the first has a value of its own.
 #[rattlefmt::skip]
-const FORGOTTEN: [u8; 32] = [
+static FORGOTTEN: [u8; 32] = [
     0x01, 0x02, 0x03, 0x04, 0x05, 0x06, 0x07, 0xf8, 0x09, 0x0a, 0x0b, 0x0c, 0x0d, 0x0e, 0x0f, 0xf0,
     0x02, 0, 0, 0, 0, 0, 0, 0, 0xff, 0xff, 0xff, 0xff, 0xff, 0xff, 0xff, 0xff,
 ];
 
 /// The two items: node id and number of lookups.
-const FORGOTTEN_ITEMS: [(u64, u64); 2] = [
+static FORGOTTEN_ITEMS: [(u64, u64); 2] = [
     (0xf807_0605_0403_0201, 0xf00f_0e0d_0c0b_0a09),
     (2, u64::MAX),
 ];
@@ -47,7 +47,7 @@ fn items_of_batch_forget(rt: HostRuntime) {
 /// The entries `.`, `..` and `a.b` of a READDIR reply. Each byte of the first entry's head has a value of its own, but
 /// for its name's length. The padding is not zero.
 #[rattlefmt::skip]
-const DIRECTORY: [u8; 96] = [
+static DIRECTORY: [u8; 96] = [
     // ino, off, namelen, type
     0x01, 0x02, 0x03, 0x04, 0x05, 0x06, 0x07, 0xf8, 0x09, 0x0a, 0x0b, 0x0c, 0x0d, 0x0e, 0x0f, 0xf0,
     0x01, 0, 0, 0, 0x11, 0x12, 0x13, 0xf4,
@@ -62,7 +62,7 @@ const DIRECTORY: [u8; 96] = [
 ];
 
 /// The three entries: number, offset, type and name.
-const DIRECTORY_ENTRIES: [(u64, u64, u32, &[u8]); 3] = [
+static DIRECTORY_ENTRIES: [(u64, u64, u32, &[u8]); 3] = [
     (
         0xf807_0605_0403_0201,
         0xf00f_0e0d_0c0b_0a09,
@@ -130,12 +130,12 @@ fn entries_of_a_directory(rt: HostRuntime) {
     }
 }
 
-const NAME: [u8; 1025] = [b'x'; 1025];
+static NAME: [u8; 1025] = [b'x'; 1025];
 
-const PADDING: [u8; 8] = [0xff; 8];
+static PADDING: [u8; 8] = [0xff; 8];
 
 /// The length of a name as an entry states it, how many bytes `x` the name has, and how many bytes 0xff stand behind it.
-const PADDED: [(u32, usize, usize); 11] = [
+static PADDED: [(u32, usize, usize); 11] = [
     (1, 1, 7),
     (2, 2, 6),
     (3, 3, 5),
@@ -150,7 +150,7 @@ const PADDED: [(u32, usize, usize); 11] = [
 ];
 
 /// The same of bytes that are no entry.
-const UNPADDED: [(u32, usize, usize); 12] = [
+static UNPADDED: [(u32, usize, usize); 12] = [
     (0, 0, 0),
     (0, 0, 8),
     (1, 1, 0),

@@ -35,7 +35,7 @@ pub fn head_code(bytes: &[u8]) -> u16 {
 }
 
 /// An operation, how many zeros stand before the names in its body, and the names.
-const BODIES: [(u32, usize, &[u8]); 20] = [
+static BODIES: [(u32, usize, &[u8]); 20] = [
     (opcodes::LOOKUP, 0, b"a\0"),
     (opcodes::FORGET, 8, b""),
     (opcodes::GETATTR, 16, b""),
@@ -71,9 +71,9 @@ fn asking(alloc: Global, opcode: u32, size: u32) -> Result<Vec<u8>, AllocError> 
             &[Field::Zeros(16), Field::U32(size), Field::Zeros(zeros)],
         );
     }
-    for (of, zeros, names) in BODIES {
-        if of == opcode {
-            return fa_sample::spelled(alloc, &[Field::Zeros(zeros), Field::Bytes(names)]);
+    for (of, zeros, names) in &BODIES {
+        if *of == opcode {
+            return fa_sample::spelled(alloc, &[Field::Zeros(*zeros), Field::Bytes(names)]);
         }
     }
     Ok(Vec::new(alloc))

@@ -49,7 +49,7 @@ const RESIZING: [u8; 88] = [
 ];
 
 /// What a call of a sample adds in `all_requests`: the opcode, the node and the body.
-const REQUESTS: [(u32, u64, &[u8]); 26] = [
+static REQUESTS: [(u32, u64, &[u8]); 26] = [
     (2, 5, b"\x02\0\0\0\0\0\0\0"),
     (3, 5, b"\0\0\0\0\0\0\0\0\0\0\0\0\0\0\0\0"),
     (3, 5, b"\x01\0\0\0\0\0\0\0\x06\0\0\0\0\0\0\0"),
@@ -131,7 +131,7 @@ const ATTRIBUTES: [u8; 104] = [
 const LONG: &[u8; 32] = b"\0\0\0\0\0\0\0\0\x02\x01\0\0\0\0\0\0\x08\0\0\0\0\0\0\x0012345678";
 
 /// What a call of a sample adds in `all_replies`: the body in two parts.
-const REPLIES: [(&[u8], &[u8]); 11] = [
+static REPLIES: [(&[u8], &[u8]); 11] = [
     (&ENTRY, b""),
     (&ENTRY, b"\x09\0\0\0\0\0\0\0\0\0\0\0\0\0\0\0"),
     (&ATTRIBUTES, b""),
@@ -179,10 +179,10 @@ fn messages_of_samples(rt: HostRuntime) {
     let found = all_replies(all_requests(Sample::new(rt.alloc())));
     let found = found.raw(Direction::FromServer, b"x").capture();
     let mut expected = Sample::new(rt.alloc());
-    for (opcode, node, body) in REQUESTS {
-        expected = expected.request(4, opcode, node, body);
+    for (opcode, node, body) in &REQUESTS {
+        expected = expected.request(4, *opcode, *node, body);
     }
-    for (front, behind) in REPLIES {
+    for (front, behind) in &REPLIES {
         expected = expected.success_of(4, &[Bytes(front), Bytes(behind)]);
     }
     let expected = expected.capture().expect(&rt, "memory");

@@ -4,7 +4,7 @@ use fa_capture::{codes, read_capture};
 use std::alloc::Global;
 
 /// INIT, its answer, LOOKUP of `a` on the root, and ENOENT.
-pub const FIRST: [u8; 222] = *b"FUSECAP1\
+pub static FIRST: [u8; 222] = *b"FUSECAP1\
 \x00\x38\x00\x00\x00\
 \x38\x00\x00\x00\x1a\x00\x00\x00\x02\x00\x00\x00\x00\x00\x00\x00\x00\x00\x00\x00\x00\x00\x00\x00\
 \x00\x00\x00\x00\x00\x00\x00\x00\x00\x00\x00\x00\x00\x00\x00\x00\
@@ -36,7 +36,7 @@ fn ending(alloc: Global, bytes: &[u8]) -> Option<Ending> {
     }
 }
 
-const ENDINGS: [(&[u8], Ending); 15] = [
+static ENDINGS: [(&[u8], Ending); 15] = [
     (b"", (0, 1)),
     (b"FUSECAP", (0, 1)),
     (b"FUSECAP2", (0, 1)),
@@ -58,8 +58,8 @@ const ENDINGS: [(&[u8], Ending); 15] = [
 
 #[test]
 fn where_captures_end(rt: HostRuntime) {
-    for (bytes, expected) in ENDINGS {
-        assert_eq!(rt; ending(rt.alloc(), bytes), Some(expected), "{bytes:?}");
+    for (bytes, expected) in &ENDINGS {
+        assert_eq!(rt; ending(rt.alloc(), bytes), Some(*expected), "{bytes:?}");
     }
     // The first capture, cut at each length.
     for length in 0..=222 {
@@ -107,7 +107,7 @@ fn a_record_that_fails_a_check(rt: HostRuntime) {
 }
 
 /// Each code with its text, as the documents have them.
-const TABLE: [(u16, &str); 42] = [
+static TABLE: [(u16, &str); 42] = [
     (1, "no FUSECAP1 at the start"),
     (2, "record cut off"),
     (3, "direction byte"),

@@ -48,13 +48,13 @@ fn ends_with(codes: &[u16], last: u16) -> bool {
 const TWICE: &[(u64, u64)] = &[(5, 1), (5, 1)];
 
 /// The node 5 is given, and opened with the file handle 7: the messages 2 to 5.
-const OPENED: &[Sent] = &[Lookup(2, 1), Entry(2, 5), Open(4, 5, 0), Opened(4, 7, 0)];
+static OPENED: &[Sent] = &[Lookup(2, 1), Entry(2, 5), Open(4, 5, 0), Opened(4, 7, 0)];
 
 /// The code of each message, 0 where it is taken. These stand behind INIT, its answer and `OPENED`, and those that are
 /// refused change nothing.
 type Course = &'static [(Sent, u16)];
 
-const COURSES: [Course; 8] = [
+static COURSES: [Course; 8] = [
     &[
         (BatchForget(6, TWICE), FORGOTTEN_TOO_OFTEN),
         (Forget(6, 5, 1), 0),
@@ -396,7 +396,7 @@ const BY_OPEN: &[Shows] = &[
     (6, Root, &[]),
 ];
 
-const CALLS: [Called; 10] = [
+static CALLS: [Called; 10] = [
     GIVEN_AGAIN,
     CREATED,
     OTHERS,
@@ -516,7 +516,7 @@ const COUNTED: Choices = [false, true, true, false];
 const LEFT_OUT: Choices = [false; 4];
 
 /// The messages 6 to 9, behind INIT, its answer and `OPENED`: a directory is opened, and a WRITE is answered.
-const IN_FRONT: [Sent; 4] = [
+static IN_FRONT: [Sent; 4] = [
     Opendir(6, 1),
     Opened(6, 7, 0),
     Write(8, 5, 7, 0),
@@ -524,7 +524,7 @@ const IN_FRONT: [Sent; 4] = [
 ];
 
 /// Each tree request, and what an order may name it with where it is not answered. These stand behind `IN_FRONT`.
-const CHOICES: [(Sent, Choices); 19] = [
+static CHOICES: [(Sent, Choices); 19] = [
     (Lookup(10, 1), LEFT_OUT),
     (Getattr(11, 5, 0, 0), LEFT_OUT),
     (Setattr(12, 5, 0, 0), ALONE),
@@ -583,22 +583,22 @@ fn what_an_order_may_name(rt: HostRuntime) {
 }
 
 /// LOOKUP of `a` in the root, an entry, OPEN, and a file handle.
-const LOOKUP: &[(usize, u8)] = &[(0, 42), (4, 1), (16, 1), (40, b'a')];
+static LOOKUP: &[(usize, u8)] = &[(0, 42), (4, 1), (16, 1), (40, b'a')];
 
-const ENTRY: &[(usize, u8)] = &[(0, 144)];
+static ENTRY: &[(usize, u8)] = &[(0, 144)];
 
-const OPEN: &[(usize, u8)] = &[(0, 48), (4, 14)];
+static OPEN: &[(usize, u8)] = &[(0, 48), (4, 14)];
 
-const HANDLE: &[(usize, u8)] = &[(0, 32)];
+static HANDLE: &[(usize, u8)] = &[(0, 32)];
 /// OPENDIR of the root, its file handle, and READDIRPLUS of 4,096 bytes.
-const OPENDIR: &[(usize, u8)] = &[(0, 48), (4, 27), (8, 1), (16, 1)];
+static OPENDIR: &[(usize, u8)] = &[(0, 48), (4, 27), (8, 1), (16, 1)];
 
-const DIRECTORY: &[(usize, u8)] = &[(0, 32), (8, 1)];
+static DIRECTORY: &[(usize, u8)] = &[(0, 32), (8, 1)];
 
-const READDIRPLUS: &[(usize, u8)] = &[(0, 80), (4, 44), (8, 1), (16, 1), (57, 16)];
+static READDIRPLUS: &[(usize, u8)] = &[(0, 80), (4, 44), (8, 1), (16, 1), (57, 16)];
 /// Its answer: 336 bytes, of which two entries have 160 each, `a` with the node 10 and the off 1, and `b` with the node 90
 /// and the off 2.
-const LISTING: &[(usize, u8)] = &[
+static LISTING: &[(usize, u8)] = &[
     (0, 80),
     (1, 1),
     (8, 1),
@@ -612,7 +612,7 @@ const LISTING: &[(usize, u8)] = &[
     (328, b'b'),
 ];
 /// READDIR of 4,096 bytes at the offset 2.
-const READDIR: &[(usize, u8)] = &[(0, 80), (4, 28), (8, 1), (16, 1), (48, 2), (57, 16)];
+static READDIR: &[(usize, u8)] = &[(0, 80), (4, 28), (8, 1), (16, 1), (48, 2), (57, 16)];
 
 /// Whether a call is answered so: by this message, giving these nodes.
 fn gives(call: &Call<'_>, at: u32, names: &[NodeName]) -> bool {

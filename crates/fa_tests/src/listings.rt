@@ -33,10 +33,10 @@ const NONE: Refused = (0, 0);
 type Row = (&'static [Sent], &'static [Expected]);
 
 /// The root is opened with the file handle 1: the messages 2 and 3.
-const OPENED: &[Sent] = &[Opendir(2, ROOT_ID), Opened(2, 1, 0)];
+static OPENED: &[Sent] = &[Opendir(2, ROOT_ID), Opened(2, 1, 0)];
 
 /// Which reply counts, and how many of its entries. These rows stand behind INIT, its answer and `OPENED`.
-const REPLIES: [Row; 14] = [
+static REPLIES: [Row; 14] = [
     (
         &[
             Readdir(4, ROOT_ID, 1, 0),
@@ -231,7 +231,7 @@ const REPLIES: [Row; 14] = [
 ];
 
 /// What is adrift. These rows stand behind INIT, its answer and `OPENED`.
-const ADRIFT_ONES: [Row; 5] = [
+static ADRIFT_ONES: [Row; 5] = [
     (
         &[
             Readdir(4, ROOT_ID, 1, 7),
@@ -312,7 +312,7 @@ const ADRIFT_ONES: [Row; 5] = [
 ];
 
 /// File handles that are closed, and opened while they are open. These rows stand behind INIT, its answer and `OPENED`.
-const OPENINGS: [Row; 8] = [
+static OPENINGS: [Row; 8] = [
     // What was listed is forgotten when the handle is closed.
     (
         &[
@@ -423,7 +423,7 @@ const OPENINGS: [Row; 8] = [
 ];
 
 /// These rows stand behind INIT and its answer.
-const FROM_START: [Row; 4] = [
+static FROM_START: [Row; 4] = [
     // Two openings of the file handle 0.
     (
         &[
@@ -497,7 +497,7 @@ const BROKEN: &[u8; 24] = b"\0\0\0\0\0\0\0\0\0\0\0\0\0\0\0\0\xff\xff\xff\xff\0\0
 
 /// Rows whose sixth message has this code, behind INIT, its answer and `OPENED`. What is refused lists nothing, and the next
 /// message has its number.
-const REFUSED: [(u16, Row); 3] = [
+static REFUSED: [(u16, Row); 3] = [
     (
         REPLY_BODY,
         (
@@ -598,9 +598,9 @@ fn what_a_listing_goes_on_from(rt: HostRuntime) {
     assert_eq!(rt; first_wrong(alloc, OPENED, NONE, &ADRIFT_ONES), None);
     assert_eq!(rt; first_wrong(alloc, OPENED, NONE, &OPENINGS), None);
     assert_eq!(rt; first_wrong(alloc, &[], NONE, &FROM_START), None);
-    for (code, row) in REFUSED {
+    for (code, row) in &REFUSED {
         assert_eq!(rt;
-            first_wrong(alloc, OPENED, (5, code), &[row]),
+            first_wrong(alloc, OPENED, (5, *code), &[*row]),
             None,
             "code {code}"
         );

@@ -44,7 +44,7 @@ const HANDLE: &[u8; 16] = &[0; 16];
 /// What is told of each message. Those that are refused stand among them, and change nothing.
 type Course = &'static [(Sent, Told)];
 
-const NUMBERED: Course = &[
+static NUMBERED: Course = &[
     (Init(2), Asked(0)),
     (InitAnswer(2), Answered(1, 0)),
     (Lookup(4, ROOT_ID), Asked(2)),
@@ -55,7 +55,7 @@ const NUMBERED: Course = &[
     (Error(4, ENOENT), Answered(7, 2)),
 ];
 
-const REFUSED_BEFORE_INITS_ANSWER: Course = &[
+static REFUSED_BEFORE_INITS_ANSWER: Course = &[
     (Lookup(2, ROOT_ID), Refused(codes::FIRST_NOT_INIT)),
     (Error(2, ENOENT), Refused(codes::FIRST_NOT_INIT)),
     (Notice(2), Refused(codes::FIRST_NOT_INIT)),
@@ -70,7 +70,7 @@ const REFUSED_BEFORE_INITS_ANSWER: Course = &[
     (Lookup(4, ROOT_ID), Asked(2)),
 ];
 
-const REFUSED_LATER: Course = &[
+static REFUSED_LATER: Course = &[
     (Init(2), Asked(0)),
     (InitAnswer(2), Answered(1, 0)),
     // The unique of a request that was refused is free, and that of one that waits is not.
@@ -90,7 +90,7 @@ const REFUSED_LATER: Course = &[
     (Lookup(4, ROOT_ID), Asked(4)),
 ];
 
-const NOTIFICATIONS: Course = &[
+static NOTIFICATIONS: Course = &[
     (Notice(2), Refused(codes::FIRST_NOT_INIT)),
     (Init(2), Asked(0)),
     (Notice(1), Notified(1)),
@@ -103,7 +103,7 @@ const NOTIFICATIONS: Course = &[
 ];
 
 /// The last request with the unique is answered.
-const REPEATED: Course = &[
+static REPEATED: Course = &[
     (Init(2), Asked(0)),
     (InitAnswer(2), Answered(1, 0)),
     (Interrupt(4, ROOT_ID), Asked(2)),
@@ -157,7 +157,7 @@ const ACL: u32 = 0x10_0000;
 
 const OTHERS: u32 = 0xffee_ffff;
 
-const VERSIONS: [Versions; 30] = [
+static VERSIONS: [Versions; 30] = [
     ((7, 31, 0), (7, 31, 0), 0),
     ((7, 38, 0), (7, 31, 0), 0),
     ((7, 31, 0), (7, 38, 0), 0),
@@ -281,18 +281,18 @@ fn many_requests_answered_in_reverse(rt: HostRuntime) {
     }
 }
 
-const INIT: &[u8; 56] = b"\x38\0\0\0\x1a\0\0\0\x02\0\0\0\0\0\0\0\0\0\0\0\0\0\0\0\
+static INIT: &[u8; 56] = b"\x38\0\0\0\x1a\0\0\0\x02\0\0\0\0\0\0\0\0\0\0\0\0\0\0\0\
 \0\0\0\0\0\0\0\0\0\0\0\0\0\0\0\0\x07\0\0\0\x1f\0\0\0\0\0\0\0\0\0\0\0";
 
 /// The answer to it, of 24 bytes behind the header.
-const INIT_ANSWER: &[u8; 40] =
+static INIT_ANSWER: &[u8; 40] =
     b"\x28\0\0\0\0\0\0\0\x02\0\0\0\0\0\0\0\x07\0\0\0\x1f\0\0\0\0\0\0\0\0\0\0\0\0\0\0\0\0\0\0\0";
 
 /// READLINK of the root with the unique 4, and its refusal with ENOENT.
-const READLINK: &[u8; 40] =
+static READLINK: &[u8; 40] =
     b"\x28\0\0\0\x05\0\0\0\x04\0\0\0\0\0\0\0\x01\0\0\0\0\0\0\0\0\0\0\0\0\0\0\0\0\0\0\0\0\0\0\0";
 
-const REFUSAL: &[u8; 16] = b"\x10\0\0\0\xfe\xff\xff\xff\x04\0\0\0\0\0\0\0";
+static REFUSAL: &[u8; 16] = b"\x10\0\0\0\xfe\xff\xff\xff\x04\0\0\0\0\0\0\0";
 
 /// A hundred READLINKs of the uniques 4, 6 and so on.
 fn readlinks() -> [[u8; 40]; 100] {

@@ -7,7 +7,7 @@ use fa_capture::{Broken, Device, Input, MAX_READ_LIMIT, Output, Pull, ReadError,
 use std::io;
 use std::io::{ErrorKind, Read, Write};
 
-const TEXT: &[u8; 47] = b"a byte at a time, and interrupted now and then.";
+static TEXT: &[u8; 47] = b"a byte at a time, and interrupted now and then.";
 
 /// A reader that gives a byte a call and counts its calls. Each third call is interrupted, and the `fails_at`th fails.
 #[derive(Drop)]
@@ -161,7 +161,7 @@ type Plan = (
 
 const END: Pull = Pull::Got(0);
 
-const PLANS: [Plan; 15] = [
+static PLANS: [Plan; 15] = [
     (usize::MAX, 0, 0, END, 16, Err(ReadError::Turns), 65_552),
     (65_536, 0, 0, END, 0, Err(ReadError::Turns), 65_536),
     (65_535, 0, 0, END, 0, Ok(0), 65_536),

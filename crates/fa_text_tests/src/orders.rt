@@ -24,7 +24,7 @@ const ZERO: Entry = Entry {
 };
 
 /// Texts and their entries.
-const TEXTS: [(&[u8], &[Entry]); 5] = [
+static TEXTS: [(&[u8], &[Entry]); 5] = [
     (b"fuse-order 1\nend\n", &[]),
     (b"fuse-order 1\n2\nend\n", &[TWO]),
     (b"fuse-order 1\n4 w 3\nend\n", &[FOUR_WROTE_THREE]),
@@ -39,7 +39,7 @@ const TEXTS: [(&[u8], &[Entry]); 5] = [
 ];
 
 /// Bytes that are no order text, and the line of their fault.
-const FAULTS: [(&[u8], u32); 40] = [
+static FAULTS: [(&[u8], u32); 40] = [
     (b"", 1),
     (b"\n", 1),
     (b"fuse-order 1", 1),

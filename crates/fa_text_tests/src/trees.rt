@@ -21,7 +21,7 @@ enum Told {
 }
 
 /// Lines that may stand behind `root 755`, before `end`, and what comes of the text.
-const LINES: [(&[u8], Told); 160] = [
+static LINES: [(&[u8], Told); 160] = [
     (b"", Read),
     (b"\n", Line(3)),
     // Each type.
@@ -208,7 +208,7 @@ const LINES: [(&[u8], Told); 160] = [
 ];
 
 /// Whole texts, and what comes of them.
-const TEXTS: [(&[u8], Told); 33] = [
+static TEXTS: [(&[u8], Told); 33] = [
     (b"fuse-tree 1\nroot 755\nend\n", Read),
     (b"fuse-tree 1\nroot 000\nend\n", Read),
     (b"fuse-tree 1\nroot 755\nf 644 x/y -\nend\n", Line(3)),
@@ -249,7 +249,7 @@ type Repeated = (&'static [u8], &'static [u8], u32, &'static [u8]);
 
 /// Lines at the limit of a name, and what comes of the text. A name has at most 1,024 bytes as it is decoded, and a path any number.
 /// The limit of a file, 16,777,216 bytes, is tried by cases of the built program: a row takes a minute under `rt try`.
-const LIMITS: [(Repeated, Told); 12] = [
+static LIMITS: [(Repeated, Told); 12] = [
     ((b"f 644 ", b"a", 1_024, b" -\n"), Read),
     ((b"f 644 ", b"a", 1_025, b" -\n"), Line(3)),
     ((b"f 644 ", b"%61", 1_024, b" -\n"), Read),

@@ -99,23 +99,26 @@ fn told_both(along: &mut Tree, alone: &mut Tree, replay: &mut Replay<'_>, at: u3
     }
 }
 
-/// How many calls step, how many do not, and the code that the first of these is told, 0 where there is none.
+/// How many calls step, how many do not, and the greatest code that one of these is told, 0 where there is none. `UNTOLD` is greater than
+/// all others.
 type Steps = (u32, u32, u16);
 
 /// What comes of all calls in their order.
 fn steps_told(alloc: Global, along: &mut Tree, alone: &mut Tree, calls: &Calls<'_>) -> Steps {
     let mut replay = Replay::new(alloc, calls);
-    let (mut steps, mut others, mut first) = (0u32, 0u32, 0);
+    let (mut steps, mut others, mut greatest) = (0u32, 0u32, 0);
     for call in &calls.list {
         let code = told_both(along, alone, &mut replay, call.asked);
         if code == 0 {
             steps = steps.saturating_add(1);
         } else {
-            first = if others == 0 { code } else { first };
             others = others.saturating_add(1);
         }
+        if code > greatest {
+            greatest = code;
+        }
     }
-    (steps, others, first)
+    (steps, others, greatest)
 }
 
 /// The same of the calls of a sample. None where a message is refused, or memory was.
