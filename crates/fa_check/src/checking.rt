@@ -51,10 +51,27 @@ pub fn check(
     ensures never_unknown { (entry at : ℕ) → result ≡ Ok (NotShown entry at UNKNOWN_HERE) → ⊥ }
 {
     let mut tree = tree;
+    let answer = answer(alloc, calls, &mut tree, order);
+    drop(tree);
+    answer
+}
+
+/// The same from a tree that is lent, which the entries change up to the first that fails.
+fn answer(
+    alloc: Global,
+    calls: &Calls<'_>,
+    tree: &mut Tree,
+    order: &[Entry],
+) -> Result<Verdict, AllocError>
+    ensures legal { (c : List Message) → AreMessagesOf calls.now c → (messages placed left : ℕ) → Exactly result (Legal messages placed left) (IsLegalWith c tree.old order.now messages placed left) }
+    ensures not_shown { (c : List Message) → AreMessagesOf calls.now c → (entry at code : ℕ) → Exactly result (NotShown entry at code) (IsOrderAtFault c tree.old order.now entry at code) }
+    ensures never_fault { (at code : ℕ) → result ≡ Ok (Fault at code) → ⊥ }
+    ensures never_unknown { (entry at : ℕ) → result ≡ Ok (NotShown entry at UNKNOWN_HERE) → ⊥ }
+{
     let mut placing = Placing::new(alloc, calls)?;
     let mut replay = Replay::new(alloc, calls);
     for entry in order {
-        if let Err(error) = placing.place_in(&mut replay, &mut tree, *entry) {
+        if let Err(error) = placing.place_in(&mut replay, tree, *entry) {
             return told(placing.count, entry.at, error);
         }
     }
