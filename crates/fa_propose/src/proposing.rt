@@ -41,13 +41,22 @@ pub fn propose(alloc: Global, calls: &Calls<'_>, tree: Tree) -> Result<Vec<Entry
     ensures { IfOk result (λ order. (c : List Message) → AreMessagesOf calls.now c → IsProposal c tree order.items) }
 {
     let mut tree = tree;
+    let order = guess(alloc, calls, &mut tree);
+    drop(tree);
+    order
+}
+
+/// The same from a tree that is lent, which the entries of the order change.
+fn guess(alloc: Global, calls: &Calls<'_>, tree: &mut Tree) -> Result<Vec<Entry>, AllocError>
+    ensures { IfOk result (λ order. (c : List Message) → AreMessagesOf calls.now c → IsProposal c tree.old order.items) }
+{
     let mut placing = Placing::new(alloc, calls)?;
     let mut replay = Replay::new(alloc, calls);
     let mut ready = Ready::new(alloc);
     let mut order = Vec::new(alloc);
     while placing.front() < calls.messages as usize {
         ready.admit(calls, placing.front())?;
-        let Some(entry) = ready.place_next(&mut replay, &mut tree, &mut placing)? else {
+        let Some(entry) = ready.place_next(&mut replay, tree, &mut placing)? else {
             break;
         };
         order.push(entry)?;

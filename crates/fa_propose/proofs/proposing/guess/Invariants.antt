@@ -1,6 +1,6 @@
 use Rattle.std.proofs.Common.{◌≡◌, length, ◌-◌}
 use Rattle.fa_propose.proofs.ProposeLemmas.{IsProposing}
-use Rattle.fa_propose.proofs.proposing.propose.Given as goal
+use Rattle.fa_propose.proofs.proposing.guess.Given as goal
 
 abbrev pub invariant-loop-calls : goal.invariant-loop-calls
 invariant-loop-calls l = (l.replay ≡ l.calls) × IsProposing l.calls l.fn.tree l.tree l.order.items l.placing l.ready.seen l.ready.entries.entries
