@@ -14,6 +14,7 @@ use Rattle.fa_tree_text.specs.Paths.{path_text, name_of}
 use Rattle.fa_tree_text.specs.TreeLines.{TreeLine, letter, octal, body_text, fields_text, line_text, Adds}
 use Rattle.fa_tree_text.specs.TreeLines.TreeLine.{NewFile, FurtherName}
 use Rattle.fa_tree_text.specs.TreeText.{tree_first_line, root_line, Builds, BeginsTree, IsTreeText, LacksRoot, LacksAddition, IsTreeFault}
+use Rattle.fa_tree_text.specs.parts.Reading.{IsTreeSoFar}
 use Rattle.fa_tree_text.proofs.SplitLemmas.{one_split}
 use Rattle.fa_tree_text.proofs.FieldLemmas.{first_byte, SameFile, one_file, one_name, one_octal, file_or_name}
 use Rattle.fa_tree_text.proofs.PathLemmas.{one_path, leads_one, at_one}
@@ -162,12 +163,6 @@ lines_count bytes left bits lines tree begins =
     omega arith
 
 -- ---- the reader
-
--- what the loop of the reader keeps: these lines were added, and the next has this number
-pub record IsTreeSoFar (bytes : List ℕ) (bits : ℕ) (tree : TreeState) (left : List ℕ) (line : ℕ) : Type 0 where
-  pub lines : List TreeLine
-  pub begins : BeginsTree bytes bits lines tree left
-  pub place : line ≡ length lines + 3
 
 pub so_far_first : (bytes behind left : List ℕ) (bits : ℕ) (tree : TreeState) → bytes ≡ tree_first_line ++ behind → behind ≡ root_line bits ++ left → bits ≤ all_bits → tree ≡ empty_tree bits → IsTreeSoFar bytes bits tree left 3
 so_far_first bytes behind left bits tree first line fits empty = record {

@@ -18,10 +18,11 @@
 //! compared as decoded. A file has at most 16,777,216 bytes, a target too. Each line ends with one line feed, and one space parts
 //! two fields. The format is this profile's.
 
-ghost use Rattle.std.specs.Prelude.{◌≡◌, ◌≤◌, ◌++◌, length, IfOk, IfErr, IfSome, IfNone};
+ghost use Rattle.std.specs.Prelude.{◌≡◌, ◌≤◌, ◌++◌, ℕ, List, length, IfOk, IfErr, IfSome, IfNone, OnOk};
 ghost use Rattle.fa_tree.specs.Attributes.{all_bits};
 ghost use Rattle.fa_tree_text.specs.TreeText.{root_line, LacksRoot, IsTreeText};
 ghost use Rattle.fa_tree_text.specs.Faults.{IsTreeFaultTold};
+ghost use Rattle.fa_tree_text.specs.parts.Reading.{IsTreeSoFar};
 
 use crate::additions::add_line;
 use crate::fields::read_bits;
@@ -70,20 +71,31 @@ pub fn read_tree(alloc: Global, bytes: &[u8]) -> Result<Tree, TextError>
     let Some(left) = bytes.strip_prefix(FIRST_LINE.as_slice()) else {
         return Err(TextError::Line(1));
     };
-    let Some((bits, mut left)) = read_root(left) else {
+    let Some((bits, left)) = read_root(left) else {
         return Err(TextError::Line(2));
     };
     let mut tree = Tree::empty(alloc, bits)?;
+    add_lines(alloc, &mut tree, left)?;
+    Ok(tree)
+}
+
+/// Adds what the lines behind the root's say to the tree of the root alone, up to the end of the text.
+fn add_lines(alloc: Global, tree: &mut Tree, left: &[u8]) -> Result<(), TextError>
+    requires { (bytes : List ℕ) × (bits : ℕ) × IsTreeSoFar bytes bits tree.old left.now 3 × (length bytes ≤ MAX_TEXT_BYTES) }
+    ensures read { OnOk result ((bytes : List ℕ) (bits : ℕ) → IsTreeSoFar bytes bits tree.old left.now 3 → IsTreeText bytes tree.new) }
+    ensures fault { IfErr result (λ error. (bytes : List ℕ) (bits : ℕ) → IsTreeSoFar bytes bits tree.old left.now 3 → IsTreeFaultTold bytes error) }
+{
     let mut folders = Folders::new();
     let mut last_name = Vec::new(alloc);
+    let mut left = left;
     let mut line = 3;
-    while let Some(rest) = add_line(alloc, &mut tree, &mut folders, &mut last_name, left)? {
+    while let Some(rest) = add_line(alloc, tree, &mut folders, &mut last_name, left)? {
         left = rest;
         line += 1;
     }
     match left.strip_prefix(END_LINE.as_slice()) {
         None => Err(TextError::Line(line)),
-        Some([]) => Ok(tree),
+        Some([]) => Ok(()),
         Some(_) => Err(TextError::Line(line + 1)),
     }
 }
