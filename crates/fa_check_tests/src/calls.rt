@@ -5,14 +5,16 @@ use fa_bodies::ROOT_ID as ROOT;
 use fa_capture::codes::BYTES_READ;
 use fa_capture::read_capture;
 use fa_check::{Verdict, check, cut};
+use fa_ledger::Calls;
 use fa_order::Entry;
 use fa_propose::propose;
 use fa_tests::messages::begun;
-use fa_tests::paired::calls_of;
+use fa_tests::paired::{calls_in, calls_of};
 use fa_tests::sent::Sent::{self, *};
 use fa_tests::sent::{CREAT, with_all};
 use fa_tree::Tree;
 use std::alloc::Global;
+use std::process::Abort;
 
 /// A new file, the messages 2 and 3, and a WRITE of one byte, of which a READ tells before its answer: the messages 4 to 7.
 static WRITTEN: &[Sent] = &[
@@ -54,34 +56,50 @@ static LEFT: [&[Entry]; 9] = [
     ORDER,
 ];
 
-/// Whether the order is cut so at this message, and what is left is legal for the messages before. None
-/// where a message is refused, or memory was.
-fn is_cut(alloc: Global, at: u32, left: &[Entry]) -> Option<bool> {
-    let bytes = with_all(begun(alloc, (0, 0)), WRITTEN).capture().ok()?;
-    let capture = read_capture(alloc, &bytes).ok()?;
-    let entries = cut(alloc, &calls_of(alloc, &capture.packets)?, ORDER, at).ok()?;
-    let before = calls_of(alloc, capture.packets.get(..at as usize)?)?;
-    let tree = Tree::empty(alloc, 0o755).ok()?;
-    let is_legal = matches!(
-        check(alloc, &before, tree, &entries).ok()?,
-        Verdict::Legal { .. }
-    );
-    Some(is_legal && entries.as_slice() == left)
+/// The bytes of the capture.
+fn written(rt: &impl Abort, alloc: Global) -> Vec<u8> {
+    with_all(begun(alloc, (0, 0)), WRITTEN)
+        .capture()
+        .expect(rt, "memory")
+}
+
+/// The verdict on an order of these calls, from a tree of its root alone.
+fn verdict_on(rt: &impl Abort, alloc: Global, calls: &Calls<'_>, order: &[Entry]) -> Verdict {
+    let tree = Tree::empty(alloc, 0o755).expect(rt, "memory");
+    check(alloc, calls, tree, order).expect(rt, "memory")
+}
+
+/// Whether the order is cut so at this message, and what is left is legal for the messages before.
+fn is_cut(rt: &impl Abort, alloc: Global, at: u32, left: &[Entry]) -> bool {
+    let bytes = written(rt, alloc);
+    let capture = read_capture(alloc, &bytes).expect(rt, "memory");
+    let calls = calls_of(alloc, &capture.packets).expect(rt, "calls");
+    let entries = cut(alloc, &calls, ORDER, at).expect(rt, "memory");
+    drop(calls);
+    let front = capture
+        .packets
+        .get(..at as usize)
+        .expect(rt, "so many messages");
+    let before = calls_of(alloc, front).expect(rt, "calls");
+    let verdict = verdict_on(rt, alloc, &before, &entries);
+    drop(before);
+    matches!(verdict, Verdict::Legal { .. }) && entries.as_slice() == left
 }
 
 #[test]
 fn what_is_left_of_an_order(rt: HostRuntime) {
     for (at, left) in (0..9).zip(&LEFT) {
-        assert!(rt; is_cut(rt.alloc(), at, left) == Some(true), "cut at {at}");
+        assert!(rt; is_cut(&rt, rt.alloc(), at, left), "cut at {at}");
     }
 }
 
-/// The verdict on an order of the whole capture. None as above.
-fn verdict(alloc: Global, order: &[Entry]) -> Option<Verdict> {
-    let bytes = with_all(begun(alloc, (0, 0)), WRITTEN).capture().ok()?;
-    let capture = read_capture(alloc, &bytes).ok()?;
-    let calls = calls_of(alloc, &capture.packets)?;
-    check(alloc, &calls, Tree::empty(alloc, 0o755).ok()?, order).ok()
+/// The verdict on an order of the whole capture.
+fn verdict(rt: &impl Abort, alloc: Global, order: &[Entry]) -> Verdict {
+    let bytes = written(rt, alloc);
+    let calls = calls_in(alloc, &bytes).expect(rt, "calls");
+    let verdict = verdict_on(rt, alloc, &calls, order);
+    drop(calls);
+    verdict
 }
 
 #[test]
@@ -96,19 +114,21 @@ fn what_is_answered_of_orders(rt: HostRuntime) {
         at: 5,
         code: BYTES_READ,
     };
-    assert_eq!(rt; verdict(rt.alloc(), ORDER), Some(legal));
-    assert_eq!(rt; verdict(rt.alloc(), TOO_EARLY), Some(not_shown));
+    assert_eq!(rt; verdict(&rt, rt.alloc(), ORDER), legal);
+    assert_eq!(rt; verdict(&rt, rt.alloc(), TOO_EARLY), not_shown);
 }
 
-/// The order that is proposed for the whole capture. None as above.
-fn proposed(alloc: Global) -> Option<Vec<Entry>> {
-    let bytes = with_all(begun(alloc, (0, 0)), WRITTEN).capture().ok()?;
-    let capture = read_capture(alloc, &bytes).ok()?;
-    let calls = calls_of(alloc, &capture.packets)?;
-    propose(alloc, &calls, Tree::empty(alloc, 0o755).ok()?).ok()
+/// The order that is proposed for the whole capture.
+fn proposed(rt: &impl Abort, alloc: Global) -> Vec<Entry> {
+    let bytes = written(rt, alloc);
+    let calls = calls_in(alloc, &bytes).expect(rt, "calls");
+    let tree = Tree::empty(alloc, 0o755).expect(rt, "memory");
+    let order = propose(alloc, &calls, tree).expect(rt, "memory");
+    drop(calls);
+    order
 }
 
 #[test]
 fn what_is_proposed(rt: HostRuntime) {
-    assert!(rt; proposed(rt.alloc()).as_deref() == Some(ORDER));
+    assert!(rt; proposed(&rt, rt.alloc()).as_slice() == ORDER);
 }

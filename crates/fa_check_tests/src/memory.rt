@@ -86,7 +86,9 @@ fn a_check_without_memory_is_made_again(rt: HostRuntime) {
     let mut paired = Paired::new(rt.alloc());
     paired.take_each(&packets, &mut codes);
     assert!(rt; codes == [0; 7]);
-    let verdict = verdict_again(rt.alloc(), &paired.into_calls(), ORDER);
+    let calls = paired.into_calls();
+    let verdict = verdict_again(rt.alloc(), &calls, ORDER);
+    drop(calls);
     let legal = Verdict::Legal {
         messages: 7,
         placed: 3,

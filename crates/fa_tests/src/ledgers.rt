@@ -1,7 +1,7 @@
 //! Ledgers of a few messages. The unique of each request is the number of its message.
 
 use crate::messages::{INIT, INIT_ANSWER, begun, packet, spelled, thirty};
-use crate::paired::{Paired, calls_of, handed_in};
+use crate::paired::{Paired, calls_in, handed_in};
 use crate::sent::Sent::{self, *};
 use crate::sent::{CREAT, with, with_all};
 use Mark::*;
@@ -33,7 +33,8 @@ const ATOMIC_O_TRUNC: u32 = 8;
 fn codes_of(alloc: Global, sample: Sample) -> Option<Vec<u16>> {
     let bytes = sample.capture().ok()?;
     let capture = read_capture(alloc, &bytes).ok()?;
-    let (_, codes) = handed_in(alloc, &capture.packets)?;
+    let (paired, codes) = handed_in(alloc, &capture.packets)?;
+    drop(paired);
     Some(codes)
 }
 
@@ -468,17 +469,23 @@ fn is_call(found: &Call<'_>, shows: &Shows) -> bool {
     is_answered && is_end && is_request && is_use && found.listing == listing
 }
 
+/// Whether the calls are these, and as many messages were handed in.
+fn are_calls(calls: &Calls<'_>, shown: &[Shows], messages: usize) -> bool {
+    let mut are_calls = calls.list.len() == shown.len();
+    for (call, shows) in calls.list.iter().zip(shown) {
+        are_calls = are_calls && is_call(call, shows);
+    }
+    are_calls && calls.messages as usize == messages && are_found(calls)
+}
+
 /// Whether the calls of messages behind INIT and its answer are these.
 fn are_called(alloc: Global, called: &Called) -> Option<bool> {
     let (flags, messages, shown) = called;
     let bytes = with_all(begun(alloc, *flags), messages).capture().ok()?;
-    let capture = read_capture(alloc, &bytes).ok()?;
-    let calls = calls_of(alloc, &capture.packets)?;
-    let mut are_called = calls.list.len() == shown.len();
-    for (call, shows) in calls.list.iter().zip(*shown) {
-        are_called = are_called && is_call(call, shows);
-    }
-    Some(are_called && calls.messages as usize == 2 + messages.len() && are_found(&calls))
+    let calls = calls_in(alloc, &bytes)?;
+    let are_called = are_calls(&calls, shown, messages.len().saturating_add(2));
+    drop(calls);
+    Some(are_called)
 }
 
 /// Whether each call is found by the number of its request, and by no other.
@@ -546,17 +553,10 @@ static CHOICES: [(Sent, Choices); 19] = [
     (Readdirplus(27, 1, 7, 0), LEFT_OUT),
 ];
 
-/// Whether an order may name the calls of these requests so, and those in front of them, which are answered, without a count
+/// Whether an order may name the calls of these requests so, and the four in front of them, which are answered, without a count
 /// alone.
-fn are_choices(alloc: Global, rows: &[(Sent, Choices)]) -> Option<bool> {
-    let mut sample = with_all(with_all(begun(alloc, (0, 0)), OPENED), &IN_FRONT);
-    for (message, _) in rows {
-        sample = with(sample, *message);
-    }
-    let bytes = sample.capture().ok()?;
-    let capture = read_capture(alloc, &bytes).ok()?;
-    let calls = calls_of(alloc, &capture.packets)?;
-    let (front, asked) = calls.list.split_at_checked(4)?;
+fn are_choices(calls: &[Call<'_>], rows: &[(Sent, Choices)]) -> Option<bool> {
+    let (front, asked) = calls.split_at_checked(4)?;
     let mut are_choices = asked.len() == rows.len();
     for call in front {
         are_choices = are_choices && choices(call) == ALONE;
@@ -565,6 +565,19 @@ fn are_choices(alloc: Global, rows: &[(Sent, Choices)]) -> Option<bool> {
         are_choices = are_choices && choices(call) == *expected;
     }
     Some(are_choices)
+}
+
+/// The same of the calls of these requests. None also where a message is refused, or memory was.
+fn have_choices(alloc: Global, rows: &[(Sent, Choices)]) -> Option<bool> {
+    let mut sample = with_all(with_all(begun(alloc, (0, 0)), OPENED), &IN_FRONT);
+    for (message, _) in rows {
+        sample = with(sample, *message);
+    }
+    let bytes = sample.capture().ok()?;
+    let calls = calls_in(alloc, &bytes)?;
+    let are_choices = are_choices(&calls.list, rows);
+    drop(calls);
+    are_choices
 }
 
 /// What an order may name a call with.
@@ -579,7 +592,7 @@ fn choices(call: &Call<'_>) -> Choices {
 
 #[test]
 fn what_an_order_may_name(rt: HostRuntime) {
-    assert!(rt; are_choices(rt.alloc(), &CHOICES) == Some(true));
+    assert!(rt; have_choices(rt.alloc(), &CHOICES) == Some(true));
 }
 
 /// LOOKUP of `a` in the root, an entry, OPEN, and a file handle.
@@ -677,7 +690,10 @@ fn an_event_without_memory_is_handed_in_again(rt: HostRuntime) {
     let mut paired = Paired::new(rt.alloc());
     paired.take_each(&packets, &mut codes);
     assert!(rt; codes == [0; 127]);
-    assert!(rt; are_grown(&paired.into_calls()));
+    let calls = paired.into_calls();
+    let are_grown = are_grown(&calls);
+    drop(calls);
+    assert!(rt; are_grown);
 }
 
 #[test]

@@ -575,7 +575,10 @@ fn is_listed(
     let capture = read_capture(alloc, &bytes).ok()?;
     let (paired, mut codes) = handed_in(alloc, &capture.packets)?;
     let is_taken = are_taken(&mut codes, refused);
-    Some(is_taken && are_listed(&paired.into_calls().list, expected))
+    let calls = paired.into_calls();
+    let are_listed = are_listed(&calls.list, expected);
+    drop(calls);
+    Some(is_taken && are_listed)
 }
 
 /// The number of the first row whose calls list otherwise, where there is one. The rows stand behind INIT, its answer and

@@ -1,4 +1,7 @@
 //! A ledger beside sessions that took the same messages.
+//!
+//! What owns many tables is let go by `drop` here and in the tests: where it goes at the end of a function, or at a `?`, all of its tables are
+//! proved to go there.
 
 ghost use Rattle.std.specs.Prelude.{◌≡◌, ◌<◌, ◌∷◌, ◌++◌, List, [], IfOk, IfSome, OnOk, OnErr};
 ghost use Rattle.fa_capture.specs.declared.limits.TheConstants.{MAX_MESSAGES};
@@ -139,7 +142,14 @@ impl<'a> Paired<'a> {
 
     /// The calls of the messages that were taken.
     pub fn into_calls(self) -> Calls<'a> {
-        let Paired { ledger, .. } = self;
+        let Paired {
+            ledger,
+            session,
+            spare,
+            ..
+        } = self;
+        drop(session);
+        drop(spare);
         ledger.into_calls()
     }
 }
@@ -163,6 +173,7 @@ pub fn calls_of<'a>(alloc: Global, packets: &[Packet<'a>]) -> Option<Calls<'a>> 
     if all_taken(&codes) {
         Some(paired.into_calls())
     } else {
+        drop(paired);
         None
     }
 }

@@ -24,7 +24,9 @@ fn seen_of_each(alloc: Global, sample: Sample) -> Option<Vec<Seen>> {
     let bytes = sample.capture().ok()?;
     let capture = read_capture(alloc, &bytes).ok()?;
     let mut seen = vec![in alloc; UNSEEN; capture.packets.len()].ok()?;
-    Tried::new(alloc).tell_each(&capture.packets, &mut seen);
+    let mut tried = Tried::new(alloc);
+    tried.tell_each(&capture.packets, &mut seen);
+    drop(tried);
     Some(seen)
 }
 
@@ -324,7 +326,9 @@ fn a_message_without_memory_is_handed_in_again(rt: HostRuntime) {
         packets[2 + 2 * place] = packet(Direction::ToServer, &messages[place]);
         packets[3 + 2 * place] = packet(Direction::ToServer, &messages[place]);
     }
-    Tried::new(rt.alloc()).tell_each(&packets, &mut seen);
+    let mut tried = Tried::new(rt.alloc());
+    tried.tell_each(&packets, &mut seen);
+    drop(tried);
     assert!(rt; seen[0].told == Asked(0) && seen[0].negotiated.is_none());
     assert!(rt; seen[1].told == Answered(1, 0) && seen[1].negotiated == Some(0));
     assert!(rt; seen[202].told == Answered(102, 2));

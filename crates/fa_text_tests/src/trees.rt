@@ -270,7 +270,10 @@ fn outcome_of(alloc: Global, text: &[u8]) -> Told {
         return Nothing;
     }
     match read_tree(alloc, text) {
-        Ok(_) => Read,
+        Ok(tree) => {
+            drop(tree);
+            Read
+        }
         Err(TextError::Line(line)) => Line(line),
         Err(TextError::Memory) => Nothing,
     }
@@ -442,13 +445,20 @@ fn file_at(tree: &Tree, names: &[&[u8]]) -> Option<FileId> {
     Some(file)
 }
 
-/// Of the text, whether two ways down lead to one file. None where one leads nowhere, or the text is not read.
+/// Whether two ways down lead to one file. None where one leads nowhere.
+fn lead_to_one(tree: &Tree, left: &[&[u8]], right: &[&[u8]]) -> Option<bool> {
+    Some(file_at(tree, left)? == file_at(tree, right)?)
+}
+
+/// The same of the tree of a text. None also where the text is not read.
 fn are_one(alloc: Global, text: &[u8], left: &[&[u8]], right: &[&[u8]]) -> Option<bool> {
     if text.len() > MAX_TEXT_BYTES {
         return None;
     }
     let tree = read_tree(alloc, text).ok()?;
-    Some(file_at(&tree, left)? == file_at(&tree, right)?)
+    let are_one = lead_to_one(&tree, left, right);
+    drop(tree);
+    are_one
 }
 
 /// The tree of a recorded capture, with a shorter `big`.

@@ -2,7 +2,7 @@
 
 use crate::steps::{step, step_in};
 use crate::trees::Added::{self, File};
-use crate::trees::tree_of;
+use crate::trees::{empty_tree, tree_of};
 use fa_bodies::ROOT_ID as ROOT;
 use fa_capture::codes::{ATTRIBUTES, LISTING};
 use fa_ledger::Calls;
@@ -26,15 +26,15 @@ fn name_of(number: u32) -> [u8; 2] {
     [b'0'.wrapping_add(high as u8), b'0'.wrapping_add(low as u8)]
 }
 
-/// A tree of a file of each name. None where memory was refused.
-fn large(alloc: Global) -> Option<Tree> {
-    let mut tree = Tree::empty(alloc, 0o755).ok()?;
+/// A tree of a file of each name.
+fn large(rt: &impl Abort, alloc: Global) -> Tree {
+    let mut tree = empty_tree(rt, alloc);
     let root = tree.root();
     for number in 0..NAMES {
-        tree.add(root, &name_of(number), Kind::Regular, 0o644, b"")
-            .ok()?;
+        let added = tree.add(root, &name_of(number), Kind::Regular, 0o644, b"");
+        assert!(rt; added.is_ok());
     }
-    Some(tree)
+    tree
 }
 
 /// The names behind so many, as many as an answer gives.
@@ -118,14 +118,23 @@ fn steps_told(alloc: Global, along: &mut Tree, alone: &mut Tree, calls: &Calls<'
             greatest = code;
         }
     }
+    drop(replay);
     (steps, others, greatest)
 }
 
-/// The same of the calls of a sample. None where a message is refused, or memory was.
-fn steps_of(alloc: Global, along: &mut Tree, alone: &mut Tree, sample: Sample) -> Option<Steps> {
-    let bytes = sample.capture().ok()?;
-    let calls = calls_in(alloc, &bytes)?;
-    Some(steps_told(alloc, along, alone, &calls))
+/// The same of the calls of a sample.
+fn steps_of(
+    rt: &impl Abort,
+    alloc: Global,
+    along: &mut Tree,
+    alone: &mut Tree,
+    sample: Sample,
+) -> Steps {
+    let bytes = sample.capture().expect(rt, "memory");
+    let calls = calls_in(alloc, &bytes).expect(rt, "calls");
+    let told = steps_told(alloc, along, alone, &calls);
+    drop(calls);
+    told
 }
 
 /// A directory of many names, listed in pieces while another name comes and goes: to its end, and up to its last names.
@@ -133,10 +142,12 @@ fn steps_of(alloc: Global, along: &mut Tree, alone: &mut Tree, sample: Sample) -
 fn a_large_directory(rt: HostRuntime) {
     let alloc = rt.alloc();
     for (end, expected) in [(NAMES, (302, 0, 0)), (NAMES - PIECE, (298, 1, LISTING))] {
-        let mut along = large(alloc).expect(&rt, "a tree");
-        let mut alone = large(alloc).expect(&rt, "a tree");
-        let told = steps_of(alloc, &mut along, &mut alone, listed_to(alloc, end));
-        assert!(rt; told == Some(expected), "up to {end}");
+        let mut along = large(&rt, alloc);
+        let mut alone = large(&rt, alloc);
+        let told = steps_of(&rt, alloc, &mut along, &mut alone, listed_to(alloc, end));
+        drop(along);
+        drop(alone);
+        assert!(rt; told == expected, "up to {end}");
     }
 }
 
@@ -171,16 +182,24 @@ static BELOW_LISTED: &[Sent] = &[
     DirentsPlus(6, 7, &[("b", 1)]),
 ];
 
-/// The code that the last of these calls is told, each by the number of its request, where a tree takes them in turn. None where a
-/// message is refused, or memory was.
-fn told_last(alloc: Global, tree: &mut Tree, messages: &[Sent], numbers: &[u32]) -> Option<u16> {
-    let bytes = with_all(begun(alloc, (0, 0)), messages).capture().ok()?;
-    let calls = calls_in(alloc, &bytes)?;
+/// The code that the last of these calls is told, each by the number of its request, where a tree takes them in turn.
+fn told_last(
+    rt: &impl Abort,
+    alloc: Global,
+    tree: &mut Tree,
+    messages: &[Sent],
+    numbers: &[u32],
+) -> u16 {
+    let bytes = with_all(begun(alloc, (0, 0)), messages)
+        .capture()
+        .expect(rt, "memory");
+    let calls = calls_in(alloc, &bytes).expect(rt, "calls");
     let mut told = UNTOLD;
     for at in numbers {
         told = step(tree, &calls, *at);
     }
-    Some(told)
+    drop(calls);
+    told
 }
 
 /// The names and types of a listing are those of the directory that its handle is open on, also where the request names another: the
@@ -189,10 +208,11 @@ fn told_last(alloc: Global, tree: &mut Tree, messages: &[Sent], numbers: &[u32])
 fn the_directory_that_is_open(rt: HostRuntime) {
     let alloc = rt.alloc();
     for (files, code) in [(REGULAR_IN_ROOT, 0), (REGULAR_BELOW, ATTRIBUTES)] {
-        let mut tree = tree_of(alloc, files).expect(&rt, "a tree");
-        let opened = told_last(alloc, &mut tree, ROOT_OPENED, &[4]);
-        let listed = told_last(alloc, &mut tree, BELOW_LISTED, &[2, 6]);
-        assert!(rt; opened == Some(0) && listed == Some(code));
+        let mut tree = tree_of(&rt, alloc, files);
+        let opened = told_last(&rt, alloc, &mut tree, ROOT_OPENED, &[4]);
+        let listed = told_last(&rt, alloc, &mut tree, BELOW_LISTED, &[2, 6]);
+        drop(tree);
+        assert!(rt; (opened, listed) == (0, code));
     }
 }
 
@@ -270,11 +290,14 @@ fn listed_in_turn(alloc: Global, handles: u64, pieces: &[(u64, Entries)]) -> Sam
     sample
 }
 
-/// What comes of the calls of a sample on two trees of these files.
-fn steps_on(rt: &impl Abort, alloc: Global, files: &[Added], sample: Sample) -> Option<Steps> {
-    let mut along = tree_of(alloc, files).expect(rt, "a tree");
-    let mut alone = tree_of(alloc, files).expect(rt, "a tree");
-    steps_of(alloc, &mut along, &mut alone, sample)
+/// What comes of the calls of a sample on two trees of the five files.
+fn steps_on_five(rt: &impl Abort, alloc: Global, sample: Sample) -> Steps {
+    let mut along = tree_of(rt, alloc, FIVE);
+    let mut alone = tree_of(rt, alloc, FIVE);
+    let told = steps_of(rt, alloc, &mut along, &mut alone, sample);
+    drop(along);
+    drop(alone);
+    told
 }
 
 /// What is kept of a listing shows nowhere, where it goes on, where it goes back, and where it ends; nor where there are more handles
@@ -283,8 +306,7 @@ fn steps_on(rt: &impl Abort, alloc: Global, files: &[Added], sample: Sample) -> 
 fn a_listing_along_one_replay(rt: HostRuntime) {
     let alloc = rt.alloc();
     let back_and_forth = with_all(begun(alloc, (0, 0)), LISTED_BACK_AND_FORTH);
-    let told = steps_on(&rt, alloc, FIVE, back_and_forth);
-    assert!(rt; told == Some((8, 4, LISTING)));
-    let told = steps_on(&rt, alloc, FIVE, listed_in_turn(alloc, 20, PIECES));
-    assert!(rt; told == Some((100, 0, 0)));
+    assert!(rt; steps_on_five(&rt, alloc, back_and_forth) == (8, 4, LISTING));
+    let in_turn = listed_in_turn(alloc, 20, PIECES);
+    assert!(rt; steps_on_five(&rt, alloc, in_turn) == (100, 0, 0));
 }

@@ -19,9 +19,10 @@ use fa_tests::sent::Sent::{self, *};
 use fa_tests::sent::with_all;
 use fa_tree::{FileId, Kind, Replay, StepError, Tree};
 use std::alloc::Global;
+use std::process::Abort;
 
 /// What stands for a code where memory was refused, and where no call has the number or an order may not name it without a count.
-const MEMORY: u16 = 998;
+pub const MEMORY: u16 = 998;
 
 /// The place of the call of this number, if there is one, and an order may name it without a count of bytes.
 fn place_of(calls: &Calls<'_>, at: u32) -> Option<usize>
@@ -105,24 +106,28 @@ static BEFORE_IT_IS_GIVEN: [Row; 6] = [
     ),
 ];
 
-/// The code of the step of the message 4, by itself. None where a message is refused, or memory was.
-fn code_alone(alloc: Global, row: &Row) -> Option<u16> {
+/// The code of the step of the message 4, by itself.
+fn code_alone(rt: &impl Abort, alloc: Global, row: &Row) -> u16 {
     let (files, messages) = row;
-    let bytes = with_all(begun(alloc, (0, 0)), messages).capture().ok()?;
-    let calls = calls_in(alloc, &bytes)?;
-    let mut tree = tree_of(alloc, files)?;
-    Some(step(&mut tree, &calls, 4))
-}
-
-/// The number of the first row that is told otherwise, where there is one.
-fn first_known(alloc: Global, rows: &[Row]) -> Option<usize> {
-    rows.iter()
-        .position(|row| code_alone(alloc, row) != Some(UNKNOWN_HERE))
+    let bytes = with_all(begun(alloc, (0, 0)), messages)
+        .capture()
+        .expect(rt, "memory");
+    let calls = calls_in(alloc, &bytes).expect(rt, "calls");
+    let mut tree = tree_of(rt, alloc, files);
+    let code = step(&mut tree, &calls, 4);
+    drop(tree);
+    drop(calls);
+    code
 }
 
 #[test]
 fn what_a_request_names_has_to_be_known(rt: HostRuntime) {
-    assert_eq!(rt; first_known(rt.alloc(), &BEFORE_IT_IS_GIVEN), None);
+    for (number, row) in BEFORE_IT_IS_GIVEN.iter().enumerate() {
+        assert!(rt;
+            code_alone(&rt, rt.alloc(), row) == UNKNOWN_HERE,
+            "row {number}"
+        );
+    }
 }
 
 /// OPENDIR of the root, and its file handle.
@@ -200,18 +205,17 @@ fn is_made_once(tree: &mut Tree, calls: &Calls<'_>) -> bool {
     step(tree, calls, SYMLINK_AT) == SUCCESS_NOT_ALLOWED
 }
 
-/// Whether all calls step, and leave `t` and the names of 30 files, and the file that was made is made once.
-fn all_step(alloc: Global, calls: &Calls<'_>) -> Option<bool> {
-    let mut tree = empty_again(alloc)?;
+/// Whether all calls step from an empty tree, and leave `t` and the names of 30 files, and the file that was made is made once.
+fn all_step(tree: &mut Tree, calls: &Calls<'_>) -> bool {
     let mut all_step = true;
     for at in 0..calls.messages {
         if calls.find(at).is_some() {
-            all_step = all_step && steps_again(&mut tree, calls, at);
+            all_step = all_step && steps_again(tree, calls, at);
         }
     }
-    let names = named(&tree).iter().filter(|file| file.is_some()).count();
+    let names = named(tree).iter().filter(|file| file.is_some()).count();
     let is_there = tree.find(tree.root(), b"t").is_some();
-    Some(all_step && names == 31 && is_there && is_made_once(&mut tree, calls))
+    all_step && names == 31 && is_there && is_made_once(tree, calls)
 }
 
 /// The sessions, the ledger and the tree alone take memory here. An ordinary run has ample memory, so only a run by
@@ -249,5 +253,10 @@ fn a_step_without_memory_is_taken_again(rt: HostRuntime) {
     let mut paired = Paired::new(rt.alloc());
     paired.take_each(&packets, &mut codes);
     assert!(rt; codes == [0; 72]);
-    assert!(rt; all_step(rt.alloc(), &paired.into_calls()) == Some(true));
+    let calls = paired.into_calls();
+    let mut tree = empty_again(&rt, rt.alloc());
+    let all_step = all_step(&mut tree, &calls);
+    drop(tree);
+    drop(calls);
+    assert!(rt; all_step);
 }

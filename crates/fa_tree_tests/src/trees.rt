@@ -1,4 +1,6 @@
 //! Trees that are put together. Files are numbered as they are added, the root as 0.
+//!
+//! A tree is let go by `drop` in all of these tests: where it goes at the end of a function, or at a `?`, all of its tables are proved to go there.
 
 ghost use Rattle.std.specs.Prelude.{◌≤◌};
 
@@ -6,6 +8,7 @@ use Added::*;
 use fa_capture::codes::SUCCESS_NOT_ALLOWED;
 use fa_tree::{FileId, Kind, StepError, Tree};
 use std::alloc::Global;
+use std::process::Abort;
 
 /// A name of as many bytes as a name may have, and one byte more.
 const LONG: &[u8] = &[b'n'; 1_024];
@@ -121,17 +124,28 @@ fn told(tree: &mut Tree, files: &mut Vec<FileId>, added: Added) -> Option<u16> {
     }
 }
 
-/// A tree of these files. None where one is refused, or memory was.
-pub fn tree_of(alloc: Global, files: &[Added]) -> Option<Tree> {
-    let mut tree = Tree::empty(alloc, 0o755).ok()?;
+/// Whether these files are added to an empty tree. None where memory was refused.
+fn are_added(alloc: Global, tree: &mut Tree, files: &[Added]) -> Option<bool> {
     let mut numbered = Vec::new(alloc);
     numbered.push(tree.root()).ok()?;
     for added in files {
-        if told(&mut tree, &mut numbered, *added) != Some(0) {
-            return None;
+        if told(tree, &mut numbered, *added) != Some(0) {
+            return Some(false);
         }
     }
-    Some(tree)
+    Some(true)
+}
+
+/// A tree of its root alone.
+pub fn empty_tree(rt: &impl Abort, alloc: Global) -> Tree {
+    Tree::empty(alloc, 0o755).expect(rt, "memory")
+}
+
+/// A tree of these files.
+pub fn tree_of(rt: &impl Abort, alloc: Global, files: &[Added]) -> Tree {
+    let mut tree = empty_tree(rt, alloc);
+    assert!(rt; are_added(alloc, &mut tree, files) == Some(true));
+    tree
 }
 
 /// The number of the first row that is told another code, where there is one.
@@ -164,30 +178,32 @@ fn first_wrong_file(tree: &Tree, files: &[FileId], rows: &[Found]) -> Option<usi
         .position(|found| is_found(tree, files, found) != Some(true))
 }
 
-/// The numbers of the first row that is told another code, and of the first that finds another file then. None where memory
-/// was refused.
+/// The numbers of the first row that is told another code by an empty tree, and of the first that finds another file then. None where
+/// memory was refused.
 fn first_wrong(
     alloc: Global,
+    tree: &mut Tree,
     added: &[(Added, u16)],
     found: &[Found],
 ) -> Option<(Option<usize>, Option<usize>)> {
-    let mut tree = Tree::empty(alloc, 0o755).ok()?;
     let mut files = Vec::new(alloc);
     files.push(tree.root()).ok()?;
-    let told = first_wrong_code(&mut tree, &mut files, added);
-    Some((told, first_wrong_file(&tree, &files, found)))
+    let told = first_wrong_code(tree, &mut files, added);
+    Some((told, first_wrong_file(tree, &files, found)))
 }
 
 #[test]
 fn what_may_be_added(rt: HostRuntime) {
-    assert_eq!(rt; first_wrong(rt.alloc(), &ADDED, &FOUND), Some((None, None)));
+    let mut tree = empty_tree(&rt, rt.alloc());
+    let wrong = first_wrong(rt.alloc(), &mut tree, &ADDED, &FOUND);
+    drop(tree);
+    assert_eq!(rt; wrong, Some((None, None)));
 }
 
-/// The code that is told where a file of so many bytes is added, 0 where it is taken, and whether its name is there then. None
-/// where memory was refused.
-fn size_told(alloc: Global, size: usize) -> Option<(u16, bool)> {
+/// The code that is told where a file of so many bytes is added to an empty tree, 0 where it is taken, and whether its name is there
+/// then. None where memory was refused.
+fn size_told(alloc: Global, tree: &mut Tree, size: usize) -> Option<(u16, bool)> {
     let body = vec![in alloc; 0u8; size].ok()?;
-    let mut tree = Tree::empty(alloc, 0o755).ok()?;
     let root = tree.root();
     let code = match tree.add(root, b"f", Kind::Regular, 0o644, &body) {
         Ok(_) => 0,
@@ -200,11 +216,15 @@ fn size_told(alloc: Global, size: usize) -> Option<(u16, bool)> {
 /// A file of as many bytes as a file may have, and one of one byte more.
 #[test]
 fn how_many_bytes_may_be_added(rt: HostRuntime) {
-    assert_eq!(rt; size_told(rt.alloc(), 16_777_216), Some((0, true)));
-    assert_eq!(rt;
-        size_told(rt.alloc(), 16_777_217),
-        Some((SUCCESS_NOT_ALLOWED, false))
-    );
+    for (size, expected) in [
+        (16_777_216, (0, true)),
+        (16_777_217, (SUCCESS_NOT_ALLOWED, false)),
+    ] {
+        let mut tree = empty_tree(&rt, rt.alloc());
+        let told = size_told(rt.alloc(), &mut tree, size);
+        drop(tree);
+        assert_eq!(rt; told, Some(expected));
+    }
 }
 
 /// Adds a file, and again where memory was refused, which leaves no name.
@@ -228,10 +248,10 @@ fn link_again(tree: &mut Tree, parent: FileId, name: &[u8], file: FileId) -> Opt
 }
 
 /// A tree of its root alone, asked for again where memory was refused.
-pub fn empty_again(alloc: Global) -> Option<Tree> {
+pub fn empty_again(rt: &impl Abort, alloc: Global) -> Tree {
     match Tree::empty(alloc, 0o755) {
-        Ok(tree) => Some(tree),
-        Err(_) => Tree::empty(alloc, 0o755).ok(),
+        Ok(tree) => tree,
+        Err(_) => empty_tree(rt, alloc),
     }
 }
 
@@ -247,20 +267,22 @@ fn are_found(tree: &Tree, directory: FileId) -> bool {
 }
 
 /// Adds a directory, a file of each letter to it, and a further name of two letters for it to the root.
-fn grown(alloc: Global) -> Option<bool> {
-    let mut tree = empty_again(alloc)?;
+fn grown(tree: &mut Tree) -> Option<bool> {
     let root = tree.root();
-    let directory = add_again(&mut tree, root, b"d", Kind::Directory)?;
+    let directory = add_again(tree, root, b"d", Kind::Directory)?;
     for letter in b'a'..=b'z' {
-        let file = add_again(&mut tree, directory, &[letter], Kind::Regular)?;
-        link_again(&mut tree, root, &[letter, letter], file)?;
+        let file = add_again(tree, directory, &[letter], Kind::Regular)?;
+        link_again(tree, root, &[letter, letter], file)?;
     }
-    Some(are_found(&tree, directory))
+    Some(are_found(tree, directory))
 }
 
 /// The tree alone takes memory here. An ordinary run has ample memory, so only a run by `rt try --test --fail-alloc N`, which
 /// refuses the Nth allocation, shows what the tree does without it.
 #[test]
 fn what_memory_was_refused_for_is_added_again(rt: HostRuntime) {
-    assert!(rt; grown(rt.alloc()) == Some(true));
+    let mut tree = empty_again(&rt, rt.alloc());
+    let has_grown = grown(&mut tree);
+    drop(tree);
+    assert!(rt; has_grown == Some(true));
 }
