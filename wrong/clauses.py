@@ -1,9 +1,9 @@
 #!/usr/bin/env python3
 """Tells for each wrong program which goals refuse it: the clauses of the function that it changes, or what else is not proved.
 
-usage: wrong/clauses.py CRATE..
+usage: wrong/clauses.py CRATE[/NAME]..
 
-It takes the edits of crates/CRATE/must-fail and of wrong/CRATE. `rt check` has to have proved the crate: what it kept is taken along.
+It takes the edits of crates/CRATE/must-fail and of wrong/CRATE, or the one of this name. `rt check` has to have proved the crate: what it kept is taken along.
 Those that change different functions are tried together, on a copy in a temporary folder; one of which nothing is told there is
 tried once more by itself. For each edit it prints the function and its goals, whose names end in the clause (`clause-NAME`), and
 what is told of an answer written by hand. The last line is 'N passed, M failed': an edit fails that is not refused, or refused by no
@@ -86,8 +86,9 @@ def told(members):
 
 def main():
     failed = count = 0
-    for crate in sys.argv[1:]:
-        for members in edits.rounds_of(edits.all_edits([crate])):
+    for word in sys.argv[1:]:
+        crate, _, name = word.partition("/")
+        for members in edits.rounds_of([it for it in edits.all_edits([crate]) if name in ("", it.name)]):
             count += len(members)
             status, found, elsewhere, lines = told(members)
             for it in members:
