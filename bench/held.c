@@ -2,9 +2,9 @@
  *
  * usage: HELD_REFUSED=N LD_PRELOAD=./held.so PROGRAM ..
  *
- * A mark is an allocation of MARK bytes, which nothing else asks for. Between the first and the second mark the Nth allocation is
- * refused, none where N is 0; at the second mark a line on standard error says how many bytes were held at each mark, and how many
- * allocations were asked for in between.
+ * Counted are malloc, realloc and free, by which alone proved programs take and give back memory. A mark is an allocation of MARK
+ * bytes, which nothing else asks for. Between the first and the second mark the Nth allocation is refused, none where N is 0; at the
+ * second mark a line on standard error says how many bytes were held at each mark, and how many allocations were asked for in between.
  */
 #define _GNU_SOURCE
 #include <dlfcn.h>

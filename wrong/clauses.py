@@ -88,7 +88,10 @@ def main():
     failed = count = 0
     for word in sys.argv[1:]:
         crate, _, name = word.partition("/")
-        for members in edits.rounds_of([it for it in edits.all_edits([crate]) if name in ("", it.name)]):
+        wanted = [it for it in edits.all_edits([crate]) if name in ("", it.name)]
+        if not wanted:
+            sys.exit(f"there is no wrong body {word}")
+        for members in edits.rounds_of(wanted):
             count += len(members)
             status, found, elsewhere, lines = told(members)
             for it in members:

@@ -51,13 +51,14 @@ pub fn check(
     ensures never_unknown { (entry at : ℕ) → result ≡ Ok (NotShown entry at UNKNOWN_HERE) → ⊥ }
 {
     let mut tree = tree;
-    let answer = answer(alloc, calls, &mut tree, order);
+    let verdict = verdict_along(alloc, calls, &mut tree, order);
+    // It has many tables: they are proved to go in one place.
     drop(tree);
-    answer
+    verdict
 }
 
 /// The same from a tree that is lent, which the entries change up to the first that fails.
-fn answer(
+fn verdict_along(
     alloc: Global,
     calls: &Calls<'_>,
     tree: &mut Tree,

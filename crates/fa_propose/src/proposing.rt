@@ -42,6 +42,7 @@ pub fn propose(alloc: Global, calls: &Calls<'_>, tree: Tree) -> Result<Vec<Entry
 {
     let mut tree = tree;
     let order = guess(alloc, calls, &mut tree);
+    // It has many tables: they are proved to go in one place.
     drop(tree);
     order
 }

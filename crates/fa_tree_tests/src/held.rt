@@ -44,12 +44,12 @@ fn writes_again(alloc: Global, tree: &mut Tree, calls: &Calls<'_>) -> bool {
 }
 
 #[test]
-fn a_write_without_memory_holds_no_more(rt: HostRuntime) {
+fn a_write_between_two_marks(rt: HostRuntime) {
     let payload = vec![in rt.alloc(); 1u8; WRITTEN as usize].expect(&rt, "memory");
     let bytes = created_and_written(rt.alloc(), &payload)
         .capture()
         .expect(&rt, "memory");
-    let calls = calls_in(rt.alloc(), &bytes).expect(&rt, "good calls");
+    let calls = calls_in(rt.alloc(), &bytes).expect(&rt, "good calls, and memory");
     let mut tree = empty_tree(&rt, rt.alloc());
     let is_written = writes_again(rt.alloc(), &mut tree, &calls);
     drop(tree);

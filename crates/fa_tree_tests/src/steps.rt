@@ -21,7 +21,7 @@ use fa_tree::{FileId, Kind, Replay, StepError, Tree};
 use std::alloc::Global;
 use std::process::Abort;
 
-/// What stands for a code where memory was refused, and where no call has the number or an order may not name it without a count.
+/// What stands for a code where memory was refused.
 pub const MEMORY: u16 = 998;
 
 /// The place of the call of this number, if there is one, and an order may name it without a count of bytes.

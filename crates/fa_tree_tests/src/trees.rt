@@ -124,7 +124,8 @@ fn told(tree: &mut Tree, files: &mut Vec<FileId>, added: Added) -> Option<u16> {
     }
 }
 
-/// Whether these files are added to an empty tree. None where memory was refused.
+/// Whether these files are added to an empty tree: not where one is refused, or memory for it was. None where memory for their numbers
+/// was refused.
 fn are_added(alloc: Global, tree: &mut Tree, files: &[Added]) -> Option<bool> {
     let mut numbered = Vec::new(alloc);
     numbered.push(tree.root()).ok()?;

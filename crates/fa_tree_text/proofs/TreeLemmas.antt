@@ -14,7 +14,6 @@ use Rattle.fa_tree_text.specs.Paths.{path_text, name_of}
 use Rattle.fa_tree_text.specs.TreeLines.{TreeLine, letter, octal, body_text, fields_text, line_text, Adds}
 use Rattle.fa_tree_text.specs.TreeLines.TreeLine.{NewFile, FurtherName}
 use Rattle.fa_tree_text.specs.TreeText.{tree_first_line, root_line, Builds, BeginsTree, IsTreeText, LacksRoot, LacksAddition, IsTreeFault}
-use Rattle.fa_tree_text.specs.parts.Reading.{IsTreeSoFar}
 use Rattle.fa_tree_text.proofs.SplitLemmas.{one_split}
 use Rattle.fa_tree_text.proofs.FieldLemmas.{first_byte, SameFile, one_file, one_name, one_octal, file_or_name}
 use Rattle.fa_tree_text.proofs.PathLemmas.{one_path, leads_one, at_one}
@@ -147,29 +146,27 @@ line_some line rest =
     let feed : length (line_text line) ≡ length (fields_text line) + 1 = length-append (fields_text line) (10 ∷ []) in
     omega arith
 
-lines_fit : (lines : List TreeLine) (x : List ℕ) → length lines + length x ≤ length (flat_map line_text lines ++ x)
-lines_fit [] x = omega arith
-lines_fit (line ∷ lines) x =
-    let later = lines_fit lines x in
-    let some = line_some line (flat_map line_text lines ++ x) in
-    let same : length (flat_map line_text (line ∷ lines) ++ x) ≡ length (line_text line ++ (flat_map line_text lines ++ x)) = ap length (append_assoc (line_text line) (flat_map line_text lines) x) in
-    omega arith
-
--- no more lines than bytes
-pub lines_count : (bytes left : List ℕ) (bits : ℕ) (lines : List TreeLine) (tree : TreeState) → BeginsTree bytes bits lines tree left → length lines ≤ length bytes
-lines_count bytes left bits lines tree begins =
-    let fit = lines_fit lines left in
-    let whole : length bytes ≡ length (tree_first_line ++ (root_line bits ++ (flat_map line_text lines ++ left))) = ap length begins.spelled in
-    omega arith
-
 -- ---- the reader
 
-pub so_far_first : (bytes behind left : List ℕ) (bits : ℕ) (tree : TreeState) → bytes ≡ tree_first_line ++ behind → behind ≡ root_line bits ++ left → bits ≤ all_bits → tree ≡ empty_tree bits → IsTreeSoFar bytes bits tree left 3
-so_far_first bytes behind left bits tree first line fits empty = record {
-  lines = [];
-  begins = record { are_bits = fits; built = empty; spelled = first ∙ ap (λ (x : List ℕ). tree_first_line ++ x) line };
-  place = refl;
-}
+-- what the loop of the reader keeps: these lines were added, and the next has this number
+pub record IsTreeSoFar (bytes : List ℕ) (bits : ℕ) (tree : TreeState) (left : List ℕ) (line : ℕ) : Type 0 where
+  pub lines : List TreeLine
+  pub begins : BeginsTree bytes bits lines tree left
+  pub place : line ≡ length lines + 3
+
+-- before the first line
+pub begins_first : (bytes behind left : List ℕ) (bits : ℕ) (tree : TreeState) → bytes ≡ tree_first_line ++ behind → behind ≡ root_line bits ++ left → bits ≤ all_bits → tree ≡ empty_tree bits → BeginsTree bytes bits [] tree left
+begins_first bytes behind left bits tree first line fits empty = record { are_bits = fits; built = empty; spelled = first ∙ ap (λ (x : List ℕ). tree_first_line ++ x) line }
+
+-- what stands behind the root's line is no longer than all
+pub left_within : (bytes behind left : List ℕ) (bits : ℕ) → bytes ≡ tree_first_line ++ behind → behind ≡ root_line bits ++ left → length left ≤ length bytes
+left_within bytes behind left bits first line =
+    let all : length bytes ≡ length tree_first_line + length behind = ap length first ∙ length-append tree_first_line behind in
+    let rest : length behind ≡ length (root_line bits) + length left = ap length line ∙ length-append (root_line bits) left in
+    omega arith
+
+pub so_far_first : (bytes left : List ℕ) (bits : ℕ) (tree : TreeState) → BeginsTree bytes bits [] tree left → IsTreeSoFar bytes bits tree left 3
+so_far_first bytes left bits tree begins = record { lines = []; begins = begins; place = refl }
 
 pub so_far_more : (bytes left rest : List ℕ) (bits number : ℕ) (tree new : TreeState) → IsTreeSoFar bytes bits tree left number → ((line : TreeLine) × Adds tree new line × (left ≡ line_text line ++ rest)) → IsTreeSoFar bytes bits new rest (number + 1)
 so_far_more bytes left rest bits number tree new so_far added = record {
@@ -178,11 +175,9 @@ so_far_more bytes left rest bits number tree new so_far added = record {
   place = (let more : length (so_far.lines ++ added.0 ∷ []) ≡ length so_far.lines + 1 = length-append so_far.lines (added.0 ∷ []) in let before : number ≡ length so_far.lines + 3 = so_far.place in omega arith);
 }
 
-pub so_far_number : (bytes left : List ℕ) (bits number : ℕ) (tree : TreeState) → IsTreeSoFar bytes bits tree left number → number ≤ length bytes + 3
-so_far_number bytes left bits number tree so_far =
-    let few = lines_count bytes left bits so_far.lines tree so_far.begins in
-    let before : number ≡ length so_far.lines + 3 = so_far.place in
-    omega arith
+-- a line that was added leaves fewer bytes
+pub fewer_left : (left rest : List ℕ) (tree new : TreeState) → ((line : TreeLine) × Adds tree new line × (left ≡ line_text line ++ rest)) → length rest < length left
+fewer_left left rest tree new added = subst (λ (bytes : List ℕ). length rest < length bytes) (sym added.2) (line_some added.0 rest)
 
 -- the tree is as it was where nothing more was added
 begins_same : (bytes left : List ℕ) (bits number : ℕ) (tree new : TreeState) → new ≡ tree → IsTreeSoFar bytes bits tree left number → IsTreeSoFar bytes bits new left number

@@ -10,5 +10,3 @@ pub mod Folders
 pub mod Fields
 -- what comes of a line
 pub mod Outcomes
--- a text that is read line by line
-pub mod Reading

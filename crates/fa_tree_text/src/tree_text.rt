@@ -18,11 +18,10 @@
 //! compared as decoded. A file has at most 16,777,216 bytes, a target too. Each line ends with one line feed, and one space parts
 //! two fields. The format is this profile's.
 
-ghost use Rattle.std.specs.Prelude.{◌≡◌, ◌≤◌, ◌++◌, ℕ, List, length, IfOk, IfErr, IfSome, IfNone, OnOk};
+ghost use Rattle.std.specs.Prelude.{◌≡◌, ◌≤◌, ◌++◌, ℕ, List, [], length, IfOk, IfErr, IfSome, IfNone, OnOk};
 ghost use Rattle.fa_tree.specs.Attributes.{all_bits};
-ghost use Rattle.fa_tree_text.specs.TreeText.{root_line, LacksRoot, IsTreeText};
+ghost use Rattle.fa_tree_text.specs.TreeText.{root_line, BeginsTree, LacksRoot, IsTreeText};
 ghost use Rattle.fa_tree_text.specs.Faults.{IsTreeFaultTold};
-ghost use Rattle.fa_tree_text.specs.parts.Reading.{IsTreeSoFar};
 
 use crate::additions::add_line;
 use crate::fields::read_bits;
@@ -79,11 +78,12 @@ pub fn read_tree(alloc: Global, bytes: &[u8]) -> Result<Tree, TextError>
     Ok(tree)
 }
 
-/// Adds what the lines behind the root's say to the tree of the root alone, up to the end of the text.
+/// Adds what the lines behind the root's say to the tree of the root alone, up to the end of the text. On an error the tree has what the
+/// lines before that one added.
 fn add_lines(alloc: Global, tree: &mut Tree, left: &[u8]) -> Result<(), TextError>
-    requires { (bytes : List ℕ) × (bits : ℕ) × IsTreeSoFar bytes bits tree.old left.now 3 × (length bytes ≤ MAX_TEXT_BYTES) }
-    ensures read { OnOk result ((bytes : List ℕ) (bits : ℕ) → IsTreeSoFar bytes bits tree.old left.now 3 → IsTreeText bytes tree.new) }
-    ensures fault { IfErr result (λ error. (bytes : List ℕ) (bits : ℕ) → IsTreeSoFar bytes bits tree.old left.now 3 → IsTreeFaultTold bytes error) }
+    requires { length left.now ≤ MAX_TEXT_BYTES }
+    ensures read { OnOk result ((bytes : List ℕ) (bits : ℕ) → BeginsTree bytes bits [] tree.old left.now → IsTreeText bytes tree.new) }
+    ensures fault { IfErr result (λ error. (bytes : List ℕ) (bits : ℕ) → BeginsTree bytes bits [] tree.old left.now → IsTreeFaultTold bytes error) }
 {
     let mut folders = Folders::new();
     let mut last_name = Vec::new(alloc);

@@ -4,7 +4,7 @@ use Rattle.fa_check.specs.declared.placing.Placing.{Placing}
 use Rattle.fa_check.specs.Verdicts.{IsVerdict}
 use Rattle.fa_check.proofs.VerdictLemmas.{legal_exactly, not_shown_exactly, never_fault, along_next, all_replayed, failed_along}
 use Rattle.fa_check.proofs.UnknownLemmas.{never_unknown}
-use Rattle.fa_check.proofs.checking.answer.Goals as goal
+use Rattle.fa_check.proofs.checking.verdict_along.Goals as goal
 
 -- what is no error is a success
 on_ok : {A E : Type 0} (r : Result A E) (P : Type 0) → OnOk r P → ((e : E) → r ≡ Err e → ⊥) → P
