@@ -100,12 +100,12 @@ order_line_apart line same = absurd cc
 -- ---- the verdict on an order
 
 -- the calls of good messages
-pub messages_of : (packets given : List Packet) (calls : Calls) → given ≡ packets → AreGood (messages given) → calls.messages ≡ length given → AreCalls (messages given) (map call_shown calls.list.items)
+pub messages_of : (packets given : List Packet) (calls : Calls) → given ≡ packets → AreGood (messages given) → calls.messages ≡ length given → AreCalls (messages given) calls.list
     → AreMessagesOf calls (messages packets)
 messages_of packets given calls same good counted are = record {
   good = subst (λ (ps : List Packet). AreGood (messages ps)) same good;
   counted = counted ∙ ap (λ (ps : List Packet). length ps) same ∙ sym (messages_length packets);
-  are = subst (λ (ps : List Packet). AreCalls (messages ps) (map call_shown calls.list.items)) same are;
+  are = subst (λ (ps : List Packet). AreCalls (messages ps) calls.list) same are;
 }
 
 -- what is answered of an order, as an answer of the audit
@@ -141,7 +141,7 @@ order_told capture tree order c first Memory good given fault = tt
 
 -- the calls of a good capture
 pub calls_of_good : (bytes : List ℕ) (packets given : List Packet) (framing : Option CaptureFault) (calls : Calls)
-    → IsReading bytes (messages packets) framing → given ≡ packets → AreGood (messages given) → calls.messages ≡ length given → AreCalls (messages given) (map call_shown calls.list.items)
+    → IsReading bytes (messages packets) framing → given ≡ packets → AreGood (messages given) → calls.messages ≡ length given → AreCalls (messages given) calls.list
     → framing ≡ None → AreCallsOf bytes calls
 calls_of_good bytes packets given framing calls read same good counted are none = record {
   messages = messages packets;

@@ -1,9 +1,9 @@
 //! The messages of a capture, one after the other: whether they keep the protocol, and their calls.
 
-ghost use Rattle.std.specs.Prelude.{◌≡◌, ◌<◌, ◌≤◌, ◌∷◌, ◌++◌, [], List, length, map, IfOk, IfErr, OnOk};
+ghost use Rattle.std.specs.Prelude.{◌≡◌, ◌<◌, ◌≤◌, ◌∷◌, ◌++◌, [], List, length, IfOk, IfErr, OnOk};
 ghost use Rattle.fa_capture.specs.Message.{Message, message, messages};
 ghost use Rattle.fa_capture.specs.declared.limits.TheConstants.{MAX_MESSAGES};
-ghost use Rattle.fa_ledger.specs.Calls.{call_shown, AreCalls};
+ghost use Rattle.fa_ledger.specs.Calls.{AreCalls};
 ghost use Rattle.fa_ledger.specs.Passing.{AreGood, Passes};
 ghost use Rattle.fa_audit.specs.parts.Protocol.{ShowBoth, IsRefusal, IsBroken};
 
@@ -101,7 +101,7 @@ pub(crate) fn calls_of<'a>(alloc: Global, packets: &[Packet<'a>]) -> Result<Call
     requires { length packets.now ≤ MAX_MESSAGES }
     ensures good { OnOk result (AreGood (messages packets.now)) }
     ensures counted { IfOk result (λ calls. calls.messages ≡ length packets.now) }
-    ensures calls { IfOk result (λ calls. AreCalls (messages packets.now) (map call_shown calls.list.items)) }
+    ensures calls { IfOk result (λ calls. AreCalls (messages packets.now) calls.list) }
     ensures fault { IfErr result (IsBroken (messages packets.now)) }
 {
     let mut session = Session::new(alloc);

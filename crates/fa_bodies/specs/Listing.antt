@@ -93,6 +93,10 @@ first_entries (suc count) plus bytes =
 unfoldable pub entries_in : (plus : Bool) → List ℕ → List PlainDirent
 entries_in plus bytes = first_entries (length bytes) plus bytes
 
+-- the entries are those of a READDIRPLUS
+abbrev pub is_plus : Entries → Bool
+is_plus it = it.plus
+
 -- the entries that the iterator has not yielded
 abbrev pub entries_left : Entries → List PlainDirent
 entries_left it = entries_in it.plus it.bytes.now

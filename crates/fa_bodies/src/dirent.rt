@@ -4,7 +4,7 @@ ghost use Rattle.std.specs.Prelude.{◌≡◌, ◌∷◌, [], ℕ, List, length,
 ghost use Rattle.fa_bodies.specs.declared.entry.EntryOut.{EntryOut};
 ghost use Rattle.fa_bodies.specs.Dirents.{PlainDirent, dirent_shown, HasEntry, IsPaddedName, IsDirent};
 ghost use Rattle.fa_bodies.specs.Structs.{dirent_head};
-ghost use Rattle.fa_bodies.specs.Listing.{entries_in};
+ghost use Rattle.fa_bodies.specs.Listing.{entries_in, is_plus};
 
 use crate::block::{Block, front};
 use crate::entry::EntryOut;
@@ -114,6 +114,17 @@ pub(crate) fn dirent_at(plus: bool, bytes: &[u8]) -> Option<(Dirent<'_>, &[u8])>
         entry,
     };
     Some((dirent, rest))
+}
+
+impl Entries<'_> {
+    /// Whether they are those of a READDIRPLUS, in which each entry of the directory has a `struct fuse_entry_out` before it.
+    ///
+    /// Takes no memory, in constant time.
+    pub fn is_plus(&self) -> bool
+        ensures { result ≡ is_plus self.now }
+    {
+        self.plus
+    }
 }
 
 impl<'a> Iterator for Entries<'a> {

@@ -30,54 +30,50 @@ on_none (Some x) P holds other = absurd (other x refl)
 -- ---- one entry
 
 -- no call, no tree request
-pub no_call : (calls : Calls) (at : ℕ) → ((place : ℕ) (call : PlainCall) → slice_get (map call_shown calls.list.items) place ≡ Some call → call.asked ≡ at → ⊥)
+pub no_call : (calls : Calls) (at : ℕ) → ((place : ℕ) (call : PlainCall) → slice_get calls.list place ≡ Some call → call.asked ≡ at → ⊥)
     → (c : List Message) → AreMessagesOf calls c → IsTreeRequestAt c at → ⊥
 no_call calls at none c is tree =
-    let found = tree_is_call c (map call_shown calls.list.items) is.are at tree in
+    let found = tree_is_call c calls.list is.are at tree in
     none found.0 found.1.0 found.1.1 found.1.2
 
 -- the call that was found
 pub record IsFoundAs (calls : Calls) (place at : ℕ) (call : Call) : Type 0 where
-  pub there : slice_get (map call_shown calls.list.items) place ≡ Some (call_shown call)
+  pub there : slice_get calls.list place ≡ Some (call_shown call)
   pub asked : call.asked ≡ at
 
-pub found_as : (calls : Calls) (place at : ℕ) (call : Call) → (found : PlainCall) × (slice_get (map call_shown calls.list.items) place ≡ Some found) × (found.asked ≡ at)
-    → call ≡ slice_index_or calls.list.items place call → IsFoundAs calls place at call
-found_as calls place at call found index =
-    let list = calls.list.items in
-    let within = slice_get_within (map call_shown list) place found.0 found.1 in
-    let there = shown_at list place call (omega (arith, within, length-map list call_shown)) index in
-    let same : call_shown call ≡ found.0 = same_Some (call_shown call) found.0 (sym there ∙ found.1) in
-    record { there = there; asked = ap (λ (x : PlainCall). x.asked) same ∙ found.2 }
+pub found_as : (calls : Calls) (place at : ℕ) (call : Call) → (found : PlainCall) × (slice_get calls.list place ≡ Some found) × (found.asked ≡ at)
+    → slice_get calls.list place ≡ Some (call_shown call) → IsFoundAs calls place at call
+found_as calls place at call found there =
+    record { there = there; asked = ap (λ (x : PlainCall). x.asked) (same_Some (call_shown call) found.0 (sym there ∙ found.1)) ∙ found.2 }
 
 module _ (calls : Calls) (place m : ℕ) (e : Entry) (call : Call) (f : IsFoundAs calls place e.at call) (c : List Message) (is : AreMessagesOf calls c) where
   pub shown_open : call.answer ≡ None → Stays c m e e
-  shown_open none = open_stays c (map call_shown calls.list.items) is.are m place (call_shown call) e f.there f.asked (ap (option_map answer_shown) none)
+  shown_open none = open_stays c calls.list is.are m place (call_shown call) e f.there f.asked (ap (option_map answer_shown) none)
 
   pub shown_not_done : call.answer ≡ None → IsAnsweredEntry c m e → ⊥
-  shown_not_done none = open_not_done c (map call_shown calls.list.items) is.are m place (call_shown call) e f.there f.asked (ap (option_map answer_shown) none)
+  shown_not_done none = open_not_done c calls.list is.are m place (call_shown call) e f.there f.asked (ap (option_map answer_shown) none)
 
   module _ (answer : Answer) (has : call.answer ≡ Some answer) where
     pub shown_early : answer.at < m → Stays c m e e
     shown_early early =
-        early_stays c (map call_shown calls.list.items) is.are m place (call_shown call) e f.there f.asked (answer_shown answer) (ap (option_map answer_shown) has) early
+        early_stays c calls.list is.are m place (call_shown call) e f.there f.asked (answer_shown answer) (ap (option_map answer_shown) has) early
 
     pub shown_done : answer.at < m → IsAnsweredEntry c m e
     shown_done early =
-        early_done c (map call_shown calls.list.items) is.are m place (call_shown call) e f.there f.asked (answer_shown answer) (ap (option_map answer_shown) has) early
+        early_done c calls.list is.are m place (call_shown call) e f.there f.asked (answer_shown answer) (ap (option_map answer_shown) has) early
 
     pub shown_late : m ≤ answer.at → IsAnsweredEntry c m e → ⊥
     shown_late late =
-        late_not_done c (map call_shown calls.list.items) is.are m place (call_shown call) e f.there f.asked (answer_shown answer) (ap (option_map answer_shown) has) late
+        late_not_done c calls.list is.are m place (call_shown call) e f.there f.asked (answer_shown answer) (ap (option_map answer_shown) has) late
 
     pub shown_goes : m ≤ answer.at → KeepsTree (call_shown call).operation → Goes c m e
     shown_goes late leaves =
-        late_goes c (map call_shown calls.list.items) is.are m place (call_shown call) e f.there f.asked (answer_shown answer) (ap (option_map answer_shown) has) late leaves
+        late_goes c calls.list is.are m place (call_shown call) e f.there f.asked (answer_shown answer) (ap (option_map answer_shown) has) late leaves
 
     pub shown_stays : m ≤ answer.at → (KeepsTree (call_shown call).operation → ⊥)
         → Stays c m e (record { at = e.at; wrote = wrote_without (call_shown call).operation e.wrote })
     shown_stays late keeps =
-        late_stays c (map call_shown calls.list.items) is.are m place (call_shown call) e f.there f.asked (answer_shown answer) (ap (option_map answer_shown) has) late keeps
+        late_stays c calls.list is.are m place (call_shown call) e f.there f.asked (answer_shown answer) (ap (option_map answer_shown) has) late keeps
 
 -- ---- the front
 

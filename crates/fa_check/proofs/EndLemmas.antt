@@ -128,39 +128,39 @@ unplaced_rise (call ∷ calls) (false ∷ marks) rise =
 
 module _ (calls : Calls) (first last : TreeState) (es : List Entry) (s : Placing) (so_far : IsReplayed calls first last es s) (c : List Message) (is : AreMessagesOf calls c) where
   -- a call that is not placed is in no entry
-  left_apart : (place p : ℕ) → IsCallOf (map call_shown calls.list.items) place p → IsUnset s.marks.items place → Contains (numbers es) p → ⊥
+  left_apart : (place p : ℕ) → IsCallOf calls.list place p → IsUnset s.marks.items place → Contains (numbers es) p → ⊥
   left_apart place p found left there =
       not_both s.marks.items place ((so_far.placed.exact place found.0 found.1).1 (subst (Contains (numbers es)) (sym found.2) there)) left
 
   -- and one that is in no entry is not placed
-  apart_left : (place p : ℕ) → IsCallOf (map call_shown calls.list.items) place p → (Contains (numbers es) p → ⊥) → IsUnset s.marks.items place
+  apart_left : (place p : ℕ) → IsCallOf calls.list place p → (Contains (numbers es) p → ⊥) → IsUnset s.marks.items place
   apart_left place p found apart =
-      let within = slice_get_within (map call_shown calls.list.items) place found.0 found.1 in
+      let within = slice_get_within calls.list place found.0 found.1 in
       elim (set_or_unset s.marks.items place (omega (arith, within, so_far.shape.sized))) [
         | inl is_set ↦ absurd (apart (subst (Contains (numbers es)) found.2 ((so_far.placed.exact place found.0 found.1).0 is_set)))
         | inr is_unset ↦ is_unset
       ]
 
   -- an answered tree request that is left out is a call that is not placed
-  left_call : (p : ℕ) → IsAnsweredUnplaced c es p → (place q : ℕ) × IsCallOf (map call_shown calls.list.items) place p × IsAnswerAt (map call_shown calls.list.items) place q × IsUnset s.marks.items place
+  left_call : (p : ℕ) → IsAnsweredUnplaced c es p → (place q : ℕ) × IsCallOf calls.list place p × IsAnswerAt calls.list place q × IsUnset s.marks.items place
   left_call p unplaced =
-      let found = tree_is_call c (map call_shown calls.list.items) is.are p unplaced.0 in
+      let found = tree_is_call c calls.list is.are p unplaced.0 in
       let answered : IsAnsweredBy c found.1.0.asked unplaced.1.0 = subst (λ n. IsAnsweredBy c n unplaced.1.0) (sym found.1.2) unplaced.1.1 in (
         found.0,
         unplaced.1.0,
         found.1,
-        answered_call c (map call_shown calls.list.items) is.are found.0 found.1.0 unplaced.1.0 found.1.1 answered,
+        answered_call c calls.list is.are found.0 found.1.0 unplaced.1.0 found.1.1 answered,
         apart_left found.0 p found.1 unplaced.2,
       )
 
   -- an answered tree request is left out
-  pub left_out : (at : ℕ) → IsLeastLeft (map call_shown calls.list.items) s.marks.items (Some at) → IsOrderAtFault c first es s.count at ANSWERED_LEFT_OUT
+  pub left_out : (at : ℕ) → IsLeastLeft calls.list s.marks.items (Some at) → IsOrderAtFault c first es s.count at ANSWERED_LEFT_OUT
   left_out at least =
       let before = so_far.run c is in
       let place = least.0.0 in
       let found = least.0.2 in
       let answer = least.0.3 in
-      let answered = call_answered c (map call_shown calls.list.items) is.are place answer.0 answer.1 answer.2 answer.3 in
+      let answered = call_answered c calls.list is.are place answer.0 answer.1 answer.2 answer.3 in
       let asked : answer.0.asked ≡ at = ap (λ (x : PlainCall). x.asked) (same_Some answer.0 found.0 (sym answer.2 ∙ found.1)) ∙ found.2 in
       inr (record {
         tree = last;
@@ -169,7 +169,7 @@ module _ (calls : Calls) (first last : TreeState) (es : List Entry) (s : Placing
         number = so_far.counted;
         told = refl;
         left_out = (
-          subst (IsTreeRequestAt c) found.2 (call_is_tree c (map call_shown calls.list.items) is.are place found.0 found.1),
+          subst (IsTreeRequestAt c) found.2 (call_is_tree c calls.list is.are place found.0 found.1),
           (answer.1.at, subst (λ n. IsAnsweredBy c n answer.1.at) asked answered),
           left_apart place at found least.0.4,
         );
@@ -180,35 +180,35 @@ module _ (calls : Calls) (first last : TreeState) (es : List Entry) (s : Placing
       })
 
   -- where none is, what is left out was not answered
-  left_unanswered : IsLeastLeft (map call_shown calls.list.items) s.marks.items None → (place : ℕ) (call : PlainCall) → slice_get (map call_shown calls.list.items) place ≡ Some call → IsUnset s.marks.items place → IsUnanswered c call.asked
+  left_unanswered : IsLeastLeft calls.list s.marks.items None → (place : ℕ) (call : PlainCall) → slice_get calls.list place ≡ Some call → IsUnset s.marks.items place → IsUnanswered c call.asked
   left_unanswered none place call there left = by call.answer refl
     where
       by : (answer : Option PlainAnswer) → call.answer ≡ answer → IsUnanswered c call.asked
-      by None has = call_unanswered c (map call_shown calls.list.items) is.are place call there has
+      by None has = call_unanswered c calls.list is.are place call there has
       by (Some answer) has = absurd (none answer.at (place, (call, answer, there, has, refl), left))
 
   -- so many are
-  left_counted : IsLeastLeft (map call_shown calls.list.items) s.marks.items None → Counts (IsUnansweredUnplaced c es) (length calls.list.items - s.count)
+  left_counted : IsLeastLeft calls.list s.marks.items None → Counts (IsUnansweredUnplaced c es) (length calls.list - s.count)
   left_counted none = record {
-    all = unplaced_numbers (map call_shown calls.list.items) s.marks.items;
-    rising = unplaced_rise (map call_shown calls.list.items) s.marks.items (asked_rise c (map call_shown calls.list.items) is.are);
+    all = unplaced_numbers calls.list s.marks.items;
+    rising = unplaced_rise calls.list s.marks.items (asked_rise c calls.list is.are);
     each = λ p has.
-        let found = unplaced_call (map call_shown calls.list.items) s.marks.items p has in (
-          subst (IsTreeRequestAt c) found.1.2 (call_is_tree c (map call_shown calls.list.items) is.are found.0 found.1.0 found.1.1),
+        let found = unplaced_call calls.list s.marks.items p has in (
+          subst (IsTreeRequestAt c) found.1.2 (call_is_tree c calls.list is.are found.0 found.1.0 found.1.1),
           subst (IsUnanswered c) found.1.2 (left_unanswered none found.0 found.1.0 found.1.1 found.2),
           left_apart found.0 p found.1 found.2,
         );
     complete = λ p unplaced.
-        let found = tree_is_call c (map call_shown calls.list.items) is.are p unplaced.0 in
-        subst (Contains (unplaced_numbers (map call_shown calls.list.items) s.marks.items)) found.1.2
-        (call_unplaced (map call_shown calls.list.items) s.marks.items found.0 found.1.0 found.1.1 (apart_left found.0 p found.1 unplaced.2));
+        let found = tree_is_call c calls.list is.are p unplaced.0 in
+        subst (Contains (unplaced_numbers calls.list s.marks.items)) found.1.2
+        (call_unplaced calls.list s.marks.items found.0 found.1.0 found.1.1 (apart_left found.0 p found.1 unplaced.2));
     number =
-        let whole = unplaced_count (map call_shown calls.list.items) s.marks.items so_far.shape.sized in
-        omega (arith, whole, so_far.shape.counted, length-map calls.list.items call_shown);
+        let whole = unplaced_count calls.list s.marks.items so_far.shape.sized in
+        omega (arith, whole, so_far.shape.counted);
   }
 
   -- all answered tree requests are placed
-  pub all_placed : IsLeastLeft (map call_shown calls.list.items) s.marks.items None → IsLegalWith c first es calls.messages s.count (length calls.list.items - s.count)
+  pub all_placed : IsLeastLeft calls.list s.marks.items None → IsLegalWith c first es calls.messages s.count (length calls.list - s.count)
   all_placed none =
       let before = so_far.run c is in
       record {

@@ -153,18 +153,18 @@ module _ (c : List Message) (calls : List PlainCall) (are : AreCalls c calls) (e
 -- ---- the next entry fails
 
 -- at its place
-pub place_fails : (calls : Calls) (tree : TreeState) (e : Entry) (s : Placing) (code : ℕ) → FirstFailure (place_checks (map call_shown calls.list.items) s.marks.items e) code → NextFails calls tree e s (Refused code)
+pub place_fails : (calls : Calls) (tree : TreeState) (e : Entry) (s : Placing) (code : ℕ) → FirstFailure (place_checks calls.list s.marks.items e) code → NextFails calls tree e s (Refused code)
 place_fails calls tree e s code fails first es so_far c is =
-    inl (fail_order c (map call_shown calls.list.items) is.are es s.marks.items so_far.placed so_far.shape.sized e code fails)
+    inl (fail_order c calls.list is.are es s.marks.items so_far.placed so_far.shape.sized e code fails)
 
 -- in its step
-pub step_fails : (calls : Calls) (tree : TreeState) (e : Entry) (s : Placing) (place : ℕ) (error : StepError) → IsCallOf (map call_shown calls.list.items) place e.at
-    → AllHold (place_checks (map call_shown calls.list.items) s.marks.items e)
-    → OfCallAt (map call_shown calls.list.items) place (λ call. TellsOf error call (step_checks tree call e.wrote (listing_so_far (map call_shown calls.list.items) place)))
+pub step_fails : (calls : Calls) (tree : TreeState) (e : Entry) (s : Placing) (place : ℕ) (error : StepError) → IsCallOf calls.list place e.at
+    → AllHold (place_checks calls.list s.marks.items e)
+    → OfCallAt calls.list place (λ call. TellsOf error call (step_checks tree call e.wrote (listing_so_far calls.list place)))
     → NextFails calls tree e s error
 step_fails calls tree e s place Memory found hold tells = tt
 step_fails calls tree e s place (Refused code) found hold tells = λ first es so_far c is.
-    let plain = map call_shown calls.list.items in
+    let plain = calls.list in
     inr (
       hold_order c plain is.are es s.marks.items so_far.placed so_far.shape.sized e hold,
       record {
@@ -214,13 +214,13 @@ each_more c es e each hold earlier later f same =
 
 -- and is a step
 pub replayed_more : (calls : Calls) (first tree new : TreeState) (es : List Entry) (e : Entry) (s t : Placing) (place : ℕ)
-    → ((i j : ℕ) (a b : PlainCall) → slice_get (map call_shown calls.list.items) i ≡ Some a → slice_get (map call_shown calls.list.items) j ≡ Some b → a.asked ≡ b.asked → i ≡ j)
-    → IsCallOf (map call_shown calls.list.items) place e.at → AllHold (place_checks (map call_shown calls.list.items) s.marks.items e)
-    → OfCallAt (map call_shown calls.list.items) place (λ call. Steps tree new call e.wrote (listing_so_far (map call_shown calls.list.items) place))
-    → IsPlacing (map call_shown calls.list.items) calls.messages t → t.marks.items ≡ set s.marks.items place true → t.count ≡ s.count + 1
+    → ((i j : ℕ) (a b : PlainCall) → slice_get calls.list i ≡ Some a → slice_get calls.list j ≡ Some b → a.asked ≡ b.asked → i ≡ j)
+    → IsCallOf calls.list place e.at → AllHold (place_checks calls.list s.marks.items e)
+    → OfCallAt calls.list place (λ call. Steps tree new call e.wrote (listing_so_far calls.list place))
+    → IsPlacing calls.list calls.messages t → t.marks.items ≡ set s.marks.items place true → t.count ≡ s.count + 1
     → IsReplayed calls first tree es s → IsReplayed calls first new (es ++ e ∷ []) t
 replayed_more calls first tree new es e s t place one found hold steps shape marked counted so_far =
-    let plain = map call_shown calls.list.items in
+    let plain = calls.list in
     record {
       shape = shape;
       placed = subst (ArePlaced plain (es ++ e ∷ [])) (sym marked) (placed_more plain es s.marks.items e place one so_far.shape.sized found so_far.placed);

@@ -32,7 +32,7 @@ use Rattle.fa_check.proofs.EntryLemmas.{allowed_choice, choice_allowed, waits_pl
 -- it is the first answer that waits
 pub replayed_front : (calls : Calls) (first tree : TreeState) (es : List Entry) (s : Placing) → IsReplayed calls first tree es s → (c : List Message) → AreMessagesOf calls c → IsFront c es s.waiting.front
 replayed_front calls first tree es s so_far c is =
-    let plain = map call_shown calls.list.items in
+    let plain = calls.list in
     let marks = s.marks.items in
     let shape = so_far.shape in
     let front = s.waiting.front in
@@ -103,10 +103,10 @@ refused_no_step calls first tree es e s code so_far fails c is hold new steps = 
 -- ---- the end
 
 -- there are no more entries than calls
-pub entries_within : (calls : Calls) (first tree : TreeState) (es : List Entry) (s : Placing) → IsReplayed calls first tree es s → length es ≤ length calls.list.items
+pub entries_within : (calls : Calls) (first tree : TreeState) (es : List Entry) (s : Placing) → IsReplayed calls first tree es s → length es ≤ length calls.list
 entries_within calls first tree es s so_far =
     let within = count_within s.marks.items in
-    omega (arith, within, so_far.counted, so_far.shape.counted, so_far.shape.sized, length-map calls.list.items call_shown)
+    omega (arith, within, so_far.counted, so_far.shape.counted, so_far.shape.sized)
 
 -- where the front is behind all messages, all answered requests are placed
 pub all_before_front : (c : List Message) (es : List Entry) (front : ℕ) → IsFront c es front → length c ≤ front → (p : ℕ) → IsAnsweredUnplaced c es p → ⊥

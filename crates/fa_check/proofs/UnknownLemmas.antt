@@ -67,7 +67,7 @@ module _ (c : List Message) (es : List PlainEvent) (are : AreEvents c es) (old n
   exact = subst (λ xs. IsCall xs step.call) (events_are_one c step.of_request.events es step.of_request.are are) step.of_request.exact
 
   -- the step of the request whose answer gives a node knows its name
-  entry_gives : (p id g : ℕ) (named : IsNamedSince c es p id g) → e.at ≡ named.asked → IsKnownIn (Given id g) new
+  entry_gives : (p id g : ℕ) (named : IsNamedSince c es p id g) → e.at ≡ named.asked → IsKnownIn (Given g id) new
   entry_gives p id g named at =
       let call = step.call in
       let number : call.asked ≡ named.asked = step.of_request.number ∙ at in
@@ -84,7 +84,7 @@ module _ (c : List Message) (es : List PlainEvent) (are : AreEvents c es) (old n
       step_gives old new call e.wrote step.so_far name_of id id g step.steps
       (ap (map name_of) (sym gives_these) ∙ replied.of_call.given ∙ ap (map (λ n. Some n)) names)
       (subst (λ (nodes : List ℕ). Contains nodes id) gives_these there)
-      (subst (λ n. name_at (take n es) id ≡ Some (Given id g)) behind named.named)
+      (subst (λ n. name_at (take n es) id ≡ Some (Given g id)) behind named.named)
 
   -- that of an OPENDIR whose answer opens a handle anew knows the directory
   entry_opens : (p handle : ℕ) → IsOpenedBefore c es p handle → e.at ≡ handle → IsOpenedIn handle new
@@ -119,9 +119,9 @@ module _ (c : List Message) (es : List PlainEvent) (are : AreEvents c es) (first
   -- Where all that was answered before message p is placed, what it names is known: nodes
   named_known : (node : ℕ) (name : NodeName) → name_at (take p es) node ≡ Some name → IsKnownIn name last
   named_known node Root is = (root, refl)
-  named_known node (Given id g) is =
+  named_known node (Given g id) is =
       let named = name_given c es are p node id g is in
-      run_makes c (IsKnownIn (Given id g)) (entry_keeps_node c (Given id g)) named.asked (λ old new e at step. entry_gives c es are old new e step p id g named at)
+      run_makes c (IsKnownIn (Given g id)) (entry_keeps_node c (Given g id)) named.asked (λ old new e at step. entry_gives c es are old new e step p id g named at)
       earlier first last run (placed named.asked g named.answer.tree named.answer.answered named.answer.before)
 
   -- and open directories

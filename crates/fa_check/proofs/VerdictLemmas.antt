@@ -77,7 +77,7 @@ never_fault calls first es result told at code same =
 -- ---- the loop over the entries
 
 -- before any entry
-pub none_replayed : (calls : Calls) (first : TreeState) (s : Placing) → IsPlacing (map call_shown calls.list.items) calls.messages s → AreUnset (length calls.list.items) s.marks.items → IsReplayed calls first first [] s
+pub none_replayed : (calls : Calls) (first : TreeState) (s : Placing) → IsPlacing calls.list calls.messages s → AreUnset (length calls.list) s.marks.items → IsReplayed calls first first [] s
 none_replayed calls first s shape none = record {
   shape = shape;
   placed = record {

@@ -1,10 +1,10 @@
 -- How far an order is placed, where it is placed entry by entry: which calls are placed, by their places in the list, and which
 -- tree the entries lead to.
-use Rattle.std.specs.Prelude.{◌≡◌, ◌↔◌, ℕ, ◌^◌, ◌≤◌, ◌<◌, Bool, List, length, map, slice_get, Contains, Some}
+use Rattle.std.specs.Prelude.{◌≡◌, ◌↔◌, ℕ, ◌^◌, ◌≤◌, ◌<◌, Bool, List, length, slice_get, Contains, Some}
 use Rattle.fa_capture.specs.Message.{Message}
 use Rattle.fa_session.specs.Answers.{IsAnsweredBy}
 use Rattle.fa_ledger.specs.declared.calls.Calls.{Calls}
-use Rattle.fa_ledger.specs.Calls.{PlainAnswer, PlainCall, call_shown}
+use Rattle.fa_ledger.specs.Calls.{PlainAnswer, PlainCall}
 use Rattle.fa_tree.specs.State.{TreeState}
 use Rattle.fa_tree.specs.declared.error.StepError.{StepError}
 use Rattle.fa_tree.specs.declared.error.StepError.TheVariants.{Refused, Memory}
@@ -53,8 +53,8 @@ pub record ArePlaced (calls : List PlainCall) (es : List Entry) (placed : List B
 
 -- These entries were replayed: they are placed, and lead from the first tree to this one.
 pub record IsReplayed (calls : Calls) (first now : TreeState) (es : List Entry) (s : Placing) : Type 0 where
-  pub shape : IsPlacing (map call_shown calls.list.items) calls.messages s
-  pub placed : ArePlaced (map call_shown calls.list.items) es s.marks.items
+  pub shape : IsPlacing calls.list calls.messages s
+  pub placed : ArePlaced calls.list es s.marks.items
   pub counted : s.count ≡ length es
   pub run : (c : List Message) → AreMessagesOf calls c → EachPlaced c es × Runs first now c es
 

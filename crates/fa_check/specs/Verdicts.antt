@@ -1,12 +1,12 @@
 -- What is answered of an order.
-use Rattle.std.specs.Prelude.{◌≡◌, ℕ, List, length, map, Contains, Result, Ok, IfOk}
+use Rattle.std.specs.Prelude.{◌≡◌, ℕ, List, length, Contains, Result, Ok, IfOk}
 use Rattle.std.specs.List.Sorted.{IsStrictlyIncreasing}
 use Rattle.std.specs.declared.alloc.AllocError.{AllocError}
 use Rattle.fa_capture.specs.Message.{Message}
 use Rattle.fa_session.specs.Answers.{IsUnanswered}
 use Rattle.fa_ledger.specs.declared.calls.Calls.{Calls}
 use Rattle.fa_ledger.specs.Passing.{AreGood}
-use Rattle.fa_ledger.specs.Calls.{AreCalls, call_shown}
+use Rattle.fa_ledger.specs.Calls.{AreCalls}
 use Rattle.fa_tree.specs.State.{TreeState}
 use Rattle.fa_order.specs.declared.entry.Entry.{Entry}
 use Rattle.fa_check.specs.declared.verdict.Verdict.{Verdict}
@@ -19,7 +19,7 @@ use Rattle.fa_check.specs.Faults.{IsOrderAtFault}
 pub record AreMessagesOf (calls : Calls) (c : List Message) : Type 0 where
   pub good : AreGood c
   pub counted : calls.messages ≡ length c
-  pub are : AreCalls c (map call_shown calls.list.items)
+  pub are : AreCalls c calls.list
 
 -- an unanswered tree request that is in no entry
 abbrev pub IsUnansweredUnplaced : List Message → List Entry → ℕ → Type 0

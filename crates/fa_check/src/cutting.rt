@@ -27,7 +27,8 @@ use std::alloc::{AllocError, Global};
 ///
 /// # Cost
 ///
-/// Memory for the entries that are left. Time linear in the entries, with a logarithm of the calls for each.
+/// Memory for the entries that are left. Time linear in the entries, with a logarithm of the calls for each, and in the names
+/// and listings of the messages of those whose requests were answered later.
 pub fn cut(
     alloc: Global,
     calls: &Calls<'_>,
@@ -67,7 +68,7 @@ fn is_answered_entry(calls: &Calls<'_>, entry: Entry, messages: u32) -> bool
     let Some(place) = calls.find(entry.at) else {
         return false;
     };
-    match &calls.list[place].answer {
+    match calls.list.call(place).answer {
         Some(answer) => answer.at < messages,
         None => false,
     }
@@ -81,19 +82,20 @@ fn left_of(calls: &Calls<'_>, entry: Entry, messages: u32) -> Option<Entry>
     let Some(place) = calls.find(entry.at) else {
         return None;
     };
-    let call = &calls.list[place];
+    let call = calls.list.call(place);
     let Some(answer) = &call.answer else {
         return Some(entry);
     };
     if answer.at < messages {
         return Some(entry);
     }
-    if call.operation.keeps_tree() {
+    let operation = call.operation();
+    if operation.keeps_tree() {
         return None;
     }
     Some(Entry {
         at: entry.at,
-        wrote: wrote_without(&call.operation, entry.wrote),
+        wrote: wrote_without(&operation, entry.wrote),
     })
 }
 

@@ -1,9 +1,9 @@
 //! How far an order is placed.
 
-ghost use Rattle.std.specs.Prelude.{◌≡◌, ◌+◌, ◌++◌, ◌∷◌, [], ℕ, List, Some, map, set, slice_get, true, IfSome, IfNone, IfOk, IfErr, OnOk, OnErr};
+ghost use Rattle.std.specs.Prelude.{◌≡◌, ◌+◌, ◌++◌, ◌∷◌, [], ℕ, List, Some, set, slice_get, true, IfSome, IfNone, IfOk, IfErr, OnOk, OnErr};
 ghost use Rattle.fa_capture.specs.Checks.{AllHold, FirstFailure};
 ghost use Rattle.fa_capture.specs.Message.{Message};
-ghost use Rattle.fa_ledger.specs.Calls.{PlainCall, call_shown};
+ghost use Rattle.fa_ledger.specs.Calls.{PlainCall};
 ghost use Rattle.fa_ledger.specs.declared.calls.Calls.{Calls as TheCalls};
 ghost use Rattle.fa_tree.specs.State.{TreeState};
 ghost use Rattle.fa_order.specs.declared.entry.Entry.{Entry as TheEntry};
@@ -50,11 +50,11 @@ impl Placing {
     /// Takes no memory. Constant time where as many calls are placed as stand before it, as in an order in which all are placed one
     /// after the other; logarithmic in the calls otherwise.
     fn place_of(&self, calls: &Calls<'_>, at: u32) -> Option<usize>
-        ensures found { IfSome result (λ place. (call : PlainCall) × (slice_get (map call_shown calls.now.list.items) place ≡ Some call) × (call.asked ≡ at)) }
-        ensures none { IfNone result ((place : ℕ) (call : PlainCall) → slice_get (map call_shown calls.now.list.items) place ≡ Some call → call.asked ≡ at → ⊥) }
+        ensures found { IfSome result (λ place. (call : PlainCall) × (slice_get calls.now.list place ≡ Some call) × (call.asked ≡ at)) }
+        ensures none { IfNone result ((place : ℕ) (call : PlainCall) → slice_get calls.now.list place ≡ Some call → call.asked ≡ at → ⊥) }
     {
         let next = self.count as usize;
-        if next < calls.list.len() && calls.list[next].asked == at {
+        if next < calls.list.len() && calls.list.call(next).asked == at {
             return Some(next);
         }
         calls.find(at)
@@ -63,10 +63,10 @@ impl Placing {
     /// The place of the call that an entry names, where the entry may come next. The error is the code of the first check of
     /// its place that it fails.
     fn check(&self, calls: &Calls<'_>, entry: Entry) -> Result<usize, u16>
-        requires { IsPlacing (map call_shown calls.now.list.items) calls.now.messages self.now }
-        ensures found { IfOk result (λ place. IsCallOf (map call_shown calls.now.list.items) place entry.at) }
-        ensures holds { OnOk result (AllHold (place_checks (map call_shown calls.now.list.items) self.now.marks.items entry)) }
-        ensures fault { IfErr result (FirstFailure (place_checks (map call_shown calls.now.list.items) self.now.marks.items entry)) }
+        requires { IsPlacing calls.now.list calls.now.messages self.now }
+        ensures found { IfOk result (λ place. IsCallOf calls.now.list place entry.at) }
+        ensures holds { OnOk result (AllHold (place_checks calls.now.list self.now.marks.items entry)) }
+        ensures fault { IfErr result (FirstFailure (place_checks calls.now.list self.now.marks.items entry)) }
     {
         let Some(place) = self.place_of(calls, entry.at) else {
             return Err(codes::NO_TREE_REQUEST);
@@ -77,7 +77,7 @@ impl Placing {
         if self.waiting.front < entry.at as usize {
             return Err(codes::EARLIER_NOT_PLACED);
         }
-        if !calls.list[place].allows(entry.wrote) {
+        if !calls.list.call(place).allows(entry.wrote) {
             return Err(codes::CHOICE_NOT_ALLOWED);
         }
         Ok(place)
@@ -85,15 +85,15 @@ impl Placing {
 
     /// Notes that the call at this place is placed.
     fn note(&mut self, calls: &Calls<'_>, place: usize)
-        requires shape { IsPlacing (map call_shown calls.now.list.items) calls.now.messages self.old }
+        requires shape { IsPlacing calls.now.list calls.now.messages self.old }
         requires unplaced { IsUnset self.old.marks.items place }
-        ensures shape { IsPlacing (map call_shown calls.now.list.items) calls.now.messages self.new }
+        ensures shape { IsPlacing calls.now.list calls.now.messages self.new }
         ensures marked { self.new.marks.items ≡ set self.old.marks.items place true }
         ensures counted { self.new.count ≡ self.old.count + 1 }
     {
         self.marks[place] = true;
         self.count += 1;
-        if let Some(answer) = &calls.list[place].answer {
+        if let Some(answer) = calls.list.call(place).answer {
             self.waiting.remove(answer.at);
         }
     }
@@ -129,7 +129,7 @@ impl Placing {
         tree: &mut Tree,
         entry: Entry,
     ) -> Result<(), StepError>
-        requires { IsPlacing (map call_shown calls.now.list.items) calls.now.messages self.old }
+        requires { IsPlacing calls.now.list calls.now.messages self.old }
         ensures placed { OnOk result ((first : TreeState) (es : List TheEntry) → IsReplayed calls.now first tree.old es self.old → IsReplayed calls.now first tree.new (es ++ entry ∷ []) self.new) }
         ensures refused { IfErr result (NextFails calls.now tree.old entry self.old) }
         ensures unchanged { OnErr result ((self.new ≡ self.old) × (tree.new ≡ tree.old)) }
@@ -154,7 +154,7 @@ impl Placing {
         tree: &mut Tree,
         entry: Entry,
     ) -> Result<(), StepError>
-        requires { IsPlacing (map call_shown replay.old.list.items) replay.old.messages self.old }
+        requires { IsPlacing replay.old.list replay.old.messages self.old }
         ensures placed { OnOk result ((first : TreeState) (es : List TheEntry) → IsReplayed replay.old first tree.old es self.old → IsReplayed replay.old first tree.new (es ++ entry ∷ []) self.new) }
         ensures refused { IfErr result (NextFails replay.old tree.old entry self.old) }
         ensures unchanged { OnErr result ((self.new ≡ self.old) × (tree.new ≡ tree.old)) }
@@ -169,10 +169,11 @@ impl Placing {
 
     /// The least message number of an answered call that is not placed.
     fn least_left(&self, calls: &Calls<'_>) -> Option<u32>
-        requires { IsPlacing (map call_shown calls.now.list.items) calls.now.messages self.now }
-        ensures { IsLeastLeft (map call_shown calls.now.list.items) self.now.marks.items result }
+        requires { IsPlacing calls.now.list calls.now.messages self.now }
+        ensures { IsLeastLeft calls.now.list self.now.marks.items result }
     {
-        for (place, call) in calls.list.iter().enumerate() {
+        for place in 0..calls.list.len() {
+            let call = calls.list.call(place);
             if call.answer.is_some() && !self.marks[place] {
                 return Some(call.asked);
             }
@@ -182,7 +183,7 @@ impl Placing {
 
     /// What is answered after all entries.
     pub(crate) fn verdict(&self, calls: &Calls<'_>) -> Verdict
-        requires { IsPlacing (map call_shown calls.now.list.items) calls.now.messages self.now }
+        requires { IsPlacing calls.now.list calls.now.messages self.now }
         ensures { (first last : TreeState) (es : List TheEntry) → IsReplayed calls.now first last es self.now → (c : List Message) → AreMessagesOf calls.now c → IsVerdict c first es result }
     {
         match self.least_left(calls) {

@@ -1,7 +1,6 @@
 //! Which answers wait for an entry that places their requests.
 
-ghost use Rattle.std.specs.Prelude.{◌≡◌, ◌<◌, ◌^◌, false, length, map, set, position, IfOk};
-ghost use Rattle.fa_ledger.specs.Calls.{call_shown};
+ghost use Rattle.std.specs.Prelude.{◌≡◌, ◌<◌, ◌^◌, false, length, set, position, IfOk};
 ghost use Rattle.fa_check.specs.Marks.{AreUnset, IsFirstSet};
 ghost use Rattle.fa_check.specs.parts.Placing.{AreAnswers};
 
@@ -22,7 +21,7 @@ impl UnplacedAnswers {
     pub fn all(alloc: Global, calls: &Calls<'_>) -> Result<Self, AllocError>
         ensures wide { IfOk result (λ unplaced. length unplaced.answers.items ≡ calls.now.messages) }
         ensures few { IfOk result (λ unplaced. length unplaced.answers.items < 2 ^ 32) }
-        ensures answers { IfOk result (λ unplaced. AreAnswers (map call_shown calls.now.list.items) unplaced.answers.items) }
+        ensures answers { IfOk result (λ unplaced. AreAnswers calls.now.list unplaced.answers.items) }
         ensures front { IfOk result (λ unplaced. IsFirstSet unplaced.answers.items unplaced.front) }
     {
         let answers = answers_of(alloc, calls)?;
@@ -47,11 +46,11 @@ impl UnplacedAnswers {
 fn answers_of(alloc: Global, calls: &Calls<'_>) -> Result<Vec<bool>, AllocError>
     ensures wide { IfOk result (λ marks. length marks.items ≡ calls.now.messages) }
     ensures few { IfOk result (λ marks. length marks.items < 2 ^ 32) }
-    ensures answers { IfOk result (λ marks. AreAnswers (map call_shown calls.now.list.items) marks.items) }
+    ensures answers { IfOk result (λ marks. AreAnswers calls.now.list marks.items) }
 {
     let mut marks = unset(alloc, calls.messages as usize)?;
-    for call in &calls.list {
-        if let Some(answer) = &call.answer {
+    for place in 0..calls.list.len() {
+        if let Some(answer) = calls.list.call(place).answer {
             marks[answer.at as usize] = true;
         }
     }

@@ -55,7 +55,7 @@ known_name es node known =
       | inl root ↦ (Root, rw root refl)
       | inr other ↦ elim known [
         | inl root ↦ absurd (other root)
-        | inr counted ↦ let named = counted_named es node other counted in (Given node named.0, named.1)
+        | inr counted ↦ let named = counted_named es node other counted in (Given named.0 node, named.1)
       ]
     ]
 

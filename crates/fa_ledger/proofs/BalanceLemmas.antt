@@ -112,4 +112,4 @@ given_names c es are good at p r reply may =
     let before : lookups_taken es node ≤ lookups_given es node = subst (λ x. lookups_taken x node ≤ lookups_given x node) whole (lookups_balanced c es are good node (length es) (omega arith)) in
     let gives : 0 < times_given node e = count_some (nodes_given r.body reply) k node there in
     let named = counted_named (es ++ e ∷ []) node other.1 (omega (arith, before, gives, given_more es e node, taken_more es e node)) in
-    (Given node named.0, named.1))
+    (Given named.0 node, named.1))

@@ -1,5 +1,5 @@
 -- The list of the calls, and the places of those that wait.
-use Rattle.std.proofs.Common.{◌≡◌, ◌⊎◌, ℕ, zero, suc, ◌+◌, ◌<◌, Bool, true, false, cond, List, [], ◌∷◌, ◌++◌, length, get_or, Some, None, refl, sym, ap, subst, ◌∙◌, inl, inr, arith}
+use Rattle.std.proofs.Common.{◌≡◌, ◌⊎◌, ℕ, zero, suc, ◌+◌, ◌<◌, Bool, true, false, cond, List, [], ◌∷◌, ◌++◌, length, get_or, Option, Some, None, refl, sym, ap, subst, ◌∙◌, inl, inr, arith}
 use Rattle.std.specs.Prelude.{◌==◌, if◌then◌else◌, nat_eq, slice_get, slice_set, map, option_map}
 use Rattle.std.specs.List.Sorted.{IsStrictlyIncreasing}
 use Rattle.std.specs.Map.{lookup}
@@ -9,14 +9,13 @@ use Rattle.std.proofs.lemmas.Bool.Decides.{nat_tests, eqb_tells}
 use Rattle.std.proofs.lemmas.List.{length-map, map-append, map-set}
 use Rattle.std.proofs.lemmas.Option.{slice_get_within, slice_get-map, slice_get-get_or, get_or_from_slice_get, same_Some}
 use Rattle.fa_capture.proofs.CallerLemmas.{get_kept, get_back, get_last, get_cases}
-use Rattle.fa_ledger.specs.declared.call.Answer.{Answer}
-use Rattle.fa_ledger.specs.declared.call.Call.{Call}
+use Rattle.fa_ledger.specs.declared.row.Row.{Row}
 use Rattle.fa_ledger.specs.declared.call_list.WaitingCall.{WaitingCall}
-use Rattle.fa_ledger.specs.Calls.{PlainAnswer, PlainCall, answer_shown, call_shown}
+use Rattle.fa_ledger.specs.Calls.{PlainAnswer, PlainCall}
 use Rattle.fa_ledger.specs.parts.CallParts.{WaitsAt, IsNewNumber, AreTheirPlaces, waiting_of}
-use Rattle.fa_ledger.specs.declared.operation.Operation.{Operation}
-use Rattle.fa_ledger.specs.Operations.{PlainOperation, operation_shown}
-use Rattle.fa_ledger.specs.parts.Steps.{with_answer}
+use Rattle.fa_ledger.specs.Operations.{PlainOperation}
+use Rattle.fa_ledger.specs.parts.RowParts.{row_shown, handle_kept, listing_kept}
+use Rattle.fa_ledger.specs.parts.Steps.{answered_by, with_answer}
 
 -- ---- the table
 
@@ -60,16 +59,22 @@ place_added calls call old new waits later are wrote q place =
           )
     ]
 
+-- what the list shows with one row more
+pub shown_pushed : (items pushed : List Row) (row : Row) (call : PlainCall) → pushed ≡ items ++ row ∷ [] → row_shown row ≡ call
+    → map row_shown pushed ≡ map row_shown items ++ call ∷ []
+shown_pushed items pushed row call added is =
+    ap (map row_shown) added ∙ map-append row_shown items (row ∷ []) ∙ ap (λ (c : PlainCall). map row_shown items ++ c ∷ []) is
+
 -- the table after a call is added to the list
-pub places_pushed : (calls : List PlainCall) (items pushed : List Call) (call : Call) (place : ℕ) (old new : List (ℕ × ℕ)) → map call_shown items ≡ calls
-    → pushed ≡ items ++ call ∷ [] → place ≡ length items → call.answer ≡ None → IsNewNumber calls call.asked → AreTheirPlaces (map call_shown items) old
+pub places_pushed : (calls : List PlainCall) (items pushed : List Row) (row : Row) (call : PlainCall) (place : ℕ) (old new : List (ℕ × ℕ)) → map row_shown items ≡ calls
+    → pushed ≡ items ++ row ∷ [] → row_shown row ≡ call → place ≡ length items → call.answer ≡ None → IsNewNumber calls call.asked → AreTheirPlaces (map row_shown items) old
     → ((q : ℕ) → lookup (nat_eq q) new ≡ cond (nat_eq call.asked q) (Some place) (lookup (nat_eq q) old))
-    → AreTheirPlaces (map call_shown pushed) new
-places_pushed calls items pushed call place old new view added last waits later are wrote =
-    let shown : map call_shown pushed ≡ map call_shown items ++ call_shown call ∷ [] = ap (map call_shown) added ∙ map-append call_shown items (call ∷ []) in
-    let at : place ≡ length (map call_shown items) = last ∙ sym (length-map items call_shown) in
+    → AreTheirPlaces (map row_shown pushed) new
+places_pushed calls items pushed row call place old new view added is last waits later are wrote =
+    let shown : map row_shown pushed ≡ map row_shown items ++ call ∷ [] = shown_pushed items pushed row call added is in
+    let at : place ≡ length (map row_shown items) = last ∙ sym (length-map items row_shown) in
     subst (λ cs. AreTheirPlaces cs new) (sym shown)
-    (place_added (map call_shown items) (call_shown call) old new (ap (option_map answer_shown) waits)
+    (place_added (map row_shown items) call old new waits
     (subst (λ cs. IsNewNumber cs call.asked) (sym view) later) are
     (subst (λ (k : ℕ). (q : ℕ) → lookup (nat_eq q) new ≡ cond (nat_eq call.asked q) (Some k) (lookup (nat_eq q) old)) at wrote))
 
@@ -142,32 +147,32 @@ only_call calls rise place asked call there numbered k other at same =
     (slice_get-map number calls place ∙ ap (option_map number) there ∙ ap (λ n. Some n) numbered)
 
 -- the call at a place of the list, as it is shown
-shown_at : (items : List Call) (place : ℕ) (call : Call) → call ≡ get_or items place call → place < length items → slice_get (map call_shown items) place ≡ Some (call_shown call)
+shown_at : (items : List Row) (place : ℕ) (call : Row) → call ≡ get_or items place call → place < length items → slice_get (map row_shown items) place ≡ Some (row_shown call)
 shown_at items place call read within =
-    slice_get-map call_shown items place
-    ∙ ap (option_map call_shown) (slice_get-get_or items place call within ∙ ap (λ c. Some c) (sym read))
+    slice_get-map row_shown items place
+    ∙ ap (option_map row_shown) (slice_get-get_or items place call within ∙ ap (λ c. Some c) (sym read))
 
 -- a place that the table has is that of a call that waits
-place_waits : (items : List Call) (calls : List PlainCall) (table : List (ℕ × ℕ)) (asked place : ℕ) → map call_shown items ≡ calls → AreTheirPlaces (map call_shown items) table
+place_waits : (items : List Row) (calls : List PlainCall) (table : List (ℕ × ℕ)) (asked place : ℕ) → map row_shown items ≡ calls → AreTheirPlaces (map row_shown items) table
     → lookup (nat_eq asked) table ≡ Some place → (call : PlainCall) × WaitsAt calls asked place call
 place_waits items calls table asked place view are found =
     subst (λ cs. (call : PlainCall) × WaitsAt cs asked place call) view ((are asked place).0 found)
 
 -- such a place is within the list
-pub place_within : (items : List Call) (table : List (ℕ × ℕ)) (asked place : ℕ) → AreTheirPlaces (map call_shown items) table → lookup (nat_eq asked) table ≡ Some place → place < length items
+pub place_within : (items : List Row) (table : List (ℕ × ℕ)) (asked place : ℕ) → AreTheirPlaces (map row_shown items) table → lookup (nat_eq asked) table ≡ Some place → place < length items
 place_within items table asked place are found =
     let waiting = (are asked place).0 found in
-    let within : place < length (map call_shown items) = slice_get_within (map call_shown items) place waiting.0 waiting.1.there in
-    omega (arith, within, length-map items call_shown)
+    let within : place < length (map row_shown items) = slice_get_within (map row_shown items) place waiting.0 waiting.1.there in
+    omega (arith, within, length-map items row_shown)
 
 -- where a call waits, the table has its place
-pub waits_found : (items : List Call) (calls : List PlainCall) (table : List (ℕ × ℕ)) (asked place : ℕ) (call : PlainCall) → map call_shown items ≡ calls → AreTheirPlaces (map call_shown items) table
+pub waits_found : (items : List Row) (calls : List PlainCall) (table : List (ℕ × ℕ)) (asked place : ℕ) (call : PlainCall) → map row_shown items ≡ calls → AreTheirPlaces (map row_shown items) table
     → WaitsAt calls asked place call → lookup (nat_eq asked) table ≡ Some place
 waits_found items calls table asked place call view are waits =
     (are asked place).1 (call, subst (λ cs. WaitsAt cs asked place call) (sym view) waits)
 
 -- where no call has a number, the table has no place for it
-pub no_place : (items : List Call) (calls : List PlainCall) (table : List (ℕ × ℕ)) (asked : ℕ) → map call_shown items ≡ calls → AreTheirPlaces (map call_shown items) table → IsNewNumber calls asked
+pub no_place : (items : List Row) (calls : List PlainCall) (table : List (ℕ × ℕ)) (asked : ℕ) → map row_shown items ≡ calls → AreTheirPlaces (map row_shown items) table → IsNewNumber calls asked
     → lookup (nat_eq asked) table ≡ None
 no_place items calls table asked view are new =
     elim (lookup (nat_eq asked) table) as (λ o. lookup (nat_eq asked) table ≡ o → o ≡ None) [
@@ -176,42 +181,43 @@ no_place items calls table asked view are new =
     ] refl
 
 -- where the table has no place, no call waits
-pub none_waits : (items : List Call) (calls : List PlainCall) (table : List (ℕ × ℕ)) (asked : ℕ) → map call_shown items ≡ calls → AreTheirPlaces (map call_shown items) table
+pub none_waits : (items : List Row) (calls : List PlainCall) (table : List (ℕ × ℕ)) (asked : ℕ) → map row_shown items ≡ calls → AreTheirPlaces (map row_shown items) table
     → lookup (nat_eq asked) table ≡ None → (place : ℕ) (call : PlainCall) → WaitsAt calls asked place call → ⊥
 none_waits items calls table asked view are none place call waits =
     let clash : None ≡ Some place = sym none ∙ waits_found items calls table asked place call view are waits in
     absurd cc
 
 -- the call at a place of the table is the one that waits
-the_call : (items : List Call) (calls : List PlainCall) (table : List (ℕ × ℕ)) (asked place : ℕ) (call : Call) → map call_shown items ≡ calls → AreTheirPlaces (map call_shown items) table
-    → lookup (nat_eq asked) table ≡ Some place → call ≡ get_or items place call → WaitsAt calls asked place (call_shown call)
+the_call : (items : List Row) (calls : List PlainCall) (table : List (ℕ × ℕ)) (asked place : ℕ) (call : Row) → map row_shown items ≡ calls → AreTheirPlaces (map row_shown items) table
+    → lookup (nat_eq asked) table ≡ Some place → call ≡ get_or items place call → WaitsAt calls asked place (row_shown call)
 the_call items calls table asked place call view are found read =
     let waits = place_waits items calls table asked place view are found in
-    let there : slice_get calls place ≡ Some (call_shown call) =
+    let there : slice_get calls place ≡ Some (row_shown call) =
     ap (λ cs. slice_get cs place) (sym view) ∙ shown_at items place call read (place_within items table asked place are found) in
-    let same : waits.0 ≡ call_shown call = same_Some waits.0 (call_shown call) (sym waits.1.there ∙ there) in
+    let same : waits.0 ≡ row_shown call = same_Some waits.0 (row_shown call) (sym waits.1.there ∙ there) in
     subst (WaitsAt calls asked place) same waits.1
 
 -- what is known of it
-pub waiting_there : (items : List Call) (calls : List PlainCall) (table : List (ℕ × ℕ)) (asked place : ℕ) (call : Call) (adrift : Bool) → map call_shown items ≡ calls → AreTheirPlaces (map call_shown items) table
-    → lookup (nat_eq asked) table ≡ Some place → call ≡ get_or items place call → adrift ≡ option_map_or (λ l. l.adrift) call.listing false
-    → (k : ℕ) × (waiting : PlainCall) × WaitsAt calls asked k waiting × (◌≡◌ {A = WaitingCall} (record { node = call.node; handle = call.handle; adrift = adrift }) (waiting_of waiting))
-waiting_there items calls table asked place call adrift view are found read is =
-    let waiting : Bool → WaitingCall = λ b. record { node = call.node; handle = call.handle; adrift = b } in
-    (place, call_shown call, the_call items calls table asked place call view are found read, ap waiting is)
+pub waiting_there : (items : List Row) (calls : List PlainCall) (table : List (ℕ × ℕ)) (asked place : ℕ) (row : Row) (handle : Option ℕ) (adrift : Bool) → map row_shown items ≡ calls → AreTheirPlaces (map row_shown items) table
+    → lookup (nat_eq asked) table ≡ Some place → row ≡ get_or items place row → handle ≡ handle_kept row → adrift ≡ option_map_or (λ l. l.adrift) (listing_kept row.beside) false
+    → (k : ℕ) × (waiting : PlainCall) × WaitsAt calls asked k waiting × (◌≡◌ {A = WaitingCall} (record { node = row.node; handle = handle; adrift = adrift }) (waiting_of waiting))
+waiting_there items calls table asked place row handle adrift view are found read used is =
+    let waiting : Option ℕ → Bool → WaitingCall = λ h b. record { node = row.node; handle = h; adrift = b } in
+    (place, row_shown row, the_call items calls table asked place row view are found read, ap (λ (h : Option ℕ). waiting h adrift) used ∙ ap (waiting (handle_kept row)) is)
 
--- the list after the answer is set at its place, with what it makes of the operation
-pub answer_set : (items : List Call) (calls : List PlainCall) (table : List (ℕ × ℕ)) (asked place : ℕ) (call : Call) (o : Operation) (answer : Answer) → map call_shown items ≡ calls → AreTheirPlaces (map call_shown items) table
-    → lookup (nat_eq asked) table ≡ Some place → call ≡ get_or items place call → IsStrictlyIncreasing (map (λ call. call.asked) calls)
-    → map call_shown (slice_set items place (record call { operation = o; answer = Some answer })) ≡ with_answer calls asked (operation_shown o) (answer_shown answer)
-answer_set items calls table asked place call o answer view are found read rise =
-    let after : Call = record call { operation = o; answer = Some answer } in
-    let waits = the_call items calls table asked place call view are found read in
-    let only = only_call calls rise place asked (call_shown call) waits.there waits.numbered in
-    let test : (call.asked == asked) ≡ true = grind (arith, nat_tests, waits.numbered) in
-    map-set call_shown items place after
-    ∙ ap (λ cs. slice_set cs place (call_shown after)) view
-    ∙ one_answered calls place asked (call_shown call) (call_shown after) (operation_shown o) (answer_shown answer) waits.there only (rw test refl)
+-- the list after the answer is set at its place
+pub answer_set : (rows : List Row) (calls : List PlainCall) (table : List (ℕ × ℕ)) (asked place : ℕ) (row after : Row) (o : PlainOperation) (answer : PlainAnswer)
+    → map row_shown rows ≡ calls → AreTheirPlaces (map row_shown rows) table
+    → lookup (nat_eq asked) table ≡ Some place → row ≡ get_or rows place row → IsStrictlyIncreasing (map (λ call. call.asked) calls)
+    → row_shown after ≡ answered_by o answer (row_shown row)
+    → map row_shown (slice_set rows place after) ≡ with_answer calls asked o answer
+answer_set rows calls table asked place row after o answer view are found read rise is =
+    let waits = the_call rows calls table asked place row view are found read in
+    let only = only_call calls rise place asked (row_shown row) waits.there waits.numbered in
+    let test : (row.asked == asked) ≡ true = grind (arith, nat_tests, waits.numbered) in
+    map-set row_shown rows place after
+    ∙ ap (λ cs. slice_set cs place (row_shown after)) view
+    ∙ one_answered calls place asked (row_shown row) (row_shown after) o answer waits.there only (rw test (ap (λ (c : PlainCall). c ∷ []) (sym is)))
 
 -- ---- the table after an answer
 

@@ -1,15 +1,18 @@
 -- Nodes that are given: which of them are new, and the names that a listing gives.
-use Rattle.std.proofs.Common.{append_assoc, ◌≡◌, ◌≢◌, ℕ, zero, suc, true, false, List, [], ◌∷◌, ◌++◌, Option, None, Some, refl, sym, ap, subst, ◌∙◌, arith}
-use Rattle.std.specs.Prelude.{nat_eq, is_none, map, All, ◌==◌, if◌then◌else◌}
+use Rattle.std.proofs.Common.{append_assoc, ◌≡◌, ◌≢◌, ℕ, zero, suc, ◌+◌, Bool, true, false, List, [], ◌∷◌, ◌++◌, length, take, drop, Option, None, Some, refl, sym, ap, subst, ◌∙◌, arith}
+use Rattle.std.specs.Prelude.{nat_eq, nat_le, ◌&&◌, is_none, map, All, ◌==◌, if◌then◌else◌}
 use Rattle.std.specs.Map.{lookup}
-use Rattle.std.specs.Option.{option_eq, option_to_list}
+use Rattle.std.specs.Option.{option_eq, option_map_or, option_to_list}
+use Rattle.std.proofs.lemmas.Option.{same_Some}
 use Rattle.std.proofs.lemmas.Bool.Decides.{nat_tests}
 use Rattle.std.proofs.lemmas.List.{append-nil, map-append}
 use Rattle.std.proofs.lemmas.List.Elements.{All-nil, All-push}
 use Rattle.fa_capture.proofs.CallerLemmas.{all_middle}
 use Rattle.fa_bodies.specs.declared.entry.EntryOut.{EntryOut}
 use Rattle.fa_bodies.specs.declared.requests.TheConstants.{ROOT_ID}
+use Rattle.fa_bodies.specs.declared.dirent.Entries.{Entries}
 use Rattle.fa_bodies.specs.Dirents.{PlainDirent}
+use Rattle.fa_bodies.specs.Listing.{entries_in, entries_left, first_dirent, first_entries, first_entry, is_listed_name, is_plus, padded, u32_in}
 use Rattle.fa_ledger.specs.declared.name.NodeName.{NodeName}
 use Rattle.fa_ledger.specs.declared.name.NodeName.TheVariants.{Root, Given}
 use Rattle.fa_ledger.specs.declared.nodes.Lookups.{Lookups}
@@ -30,7 +33,7 @@ pub name_new_before : (at : ℕ) (known now : List (ℕ × Lookups)) (given : Li
     → ((node : ℕ) → lookup (nat_eq node) now ≡ given_again at (times_named node given) (lookup (nat_eq node) known))
     → is_new now name ≡ true → is_new known name ≡ true
 name_new_before at known now given Root stands new = new
-name_new_before at known now given (Given id by) stands new = new_before at (times_named id given) (lookup (nat_eq id) known) (rw (stands id) at new)
+name_new_before at known now given (Given by id) stands new = new_before at (times_named id given) (lookup (nat_eq id) known) (rw (stands id) at new)
 
 -- ---- listings
 
@@ -115,3 +118,35 @@ some_listed all front rest d r id is gives some nothing =
     let around : nodes_of_listing all ≡ nodes_of_listing front ++ id ∷ nodes_of_listing rest =
     listing_around all front rest d is ∙ ap (λ ns. nodes_of_listing front ++ (ns ++ nodes_of_listing rest)) (sym own) in
     no_item (nodes_of_listing front) id (nodes_of_listing rest) (sym nothing ∙ around)
+
+-- ---- a READDIR
+
+bare_dirent : (bytes : List ℕ) (found : PlainDirent × List ℕ) → first_dirent None bytes ≡ Some found → found.0.entry ≡ None
+unfolding first_dirent
+bare_dirent bytes found is =
+    let namelen = u32_in (drop 16 bytes) in
+    by (nat_le (24 + padded namelen) (length bytes) && is_listed_name (take namelen (drop 24 bytes))) _ refl is
+  where
+    by : (b : Bool) (it : PlainDirent × List ℕ) → it.0.entry ≡ None → (if b then Some it else None) ≡ Some found → found.0.entry ≡ None
+    by true it none is = ap (λ (f : PlainDirent × List ℕ). f.0.entry) (sym (same_Some it found is)) ∙ none
+    by false it none is = absurd cc
+
+one_bare : (rest : List ℕ → List PlainDirent) → ((bytes : List ℕ) → nodes_of_listing (rest bytes) ≡ []) → (bytes : List ℕ) (found : Option (PlainDirent × List ℕ)) → first_dirent None bytes ≡ found
+    → nodes_of_listing (option_map_or (λ f. f.0 ∷ rest f.1) found []) ≡ []
+one_bare rest bare bytes None is = refl
+one_bare rest bare bytes (Some found) is =
+    ap (λ (e : Option EntryOut). nodes_of_entry e found.0.name ++ nodes_of_listing (rest found.1)) (bare_dirent bytes found is) ∙ bare found.1
+
+bare_entries : (count : ℕ) (bytes : List ℕ) → nodes_of_listing (first_entries count false bytes) ≡ []
+unfolding first_entries first_entry
+bare_entries zero bytes = refl
+bare_entries (suc count) bytes = one_bare (first_entries count false) (bare_entries count) bytes (first_dirent None bytes) refl
+
+-- no entry of a READDIR gives a node
+pub readdir_gives_none : (listing : Entries) → is_plus listing ≡ false → nodes_of_listing (entries_left listing) ≡ []
+unfolding entries_in
+readdir_gives_none listing bare =
+    ap (λ (plus : Bool). nodes_of_listing (first_entries (length listing.bytes.now) plus listing.bytes.now)) bare ∙ bare_entries (length listing.bytes.now) listing.bytes.now
+
+pub none_may : (nodes : List ℕ) → nodes ≡ [] → All MayBeGiven nodes
+none_may nodes none = subst (All MayBeGiven) (sym none) (All-nil MayBeGiven)

@@ -26,12 +26,12 @@ uncounted_unnamed es node other uncounted =
     elim (least_below (length es) (stays_from es node)) as (λ t. least_below (length es) (stays_from es node) ≡ t → name_at es node ≡ None) [
       | None ↦ λ is. rw (not_root node other, is) refl
       | Some g ↦ λ is.
-          let named : name_at es node ≡ Some (Given node g) = rw (not_root node other, is) refl in
+          let named : name_at es node ≡ Some (Given g node) = rw (not_root node other, is) refl in
           absurd (uncounted (since_counted es node g ((name_is_least es node g other).0 named).since))
     ] refl
 
 -- a name has the id of its node, and the node is counted
-pub named_counted : (es : List PlainEvent) (node g : ℕ) → node ≢ ROOT_ID → name_at es node ≡ Some (Given node g) → IsCounted es node
+pub named_counted : (es : List PlainEvent) (node g : ℕ) → node ≢ ROOT_ID → name_at es node ≡ Some (Given g node) → IsCounted es node
 named_counted es node g other named = since_counted es node g ((name_is_least es node g other).0 named).since
 
 -- ---- counts
@@ -97,7 +97,7 @@ module _ (es : List PlainEvent) (e : PlainEvent) (node : ℕ) where
   -- ---- names after one event more
 
   -- a node that stays counted keeps its name
-  pub name_kept : (g : ℕ) → node ≢ ROOT_ID → name_at es node ≡ Some (Given node g) → IsCounted (es ++ e ∷ []) node → name_at (es ++ e ∷ []) node ≡ Some (Given node g)
+  pub name_kept : (g : ℕ) → node ≢ ROOT_ID → name_at es node ≡ Some (Given g node) → IsCounted (es ++ e ∷ []) node → name_at (es ++ e ∷ []) node ≡ Some (Given g node)
   name_kept g other named now =
       let is = (name_is_least es node g other).0 named in
       (name_is_least (es ++ e ∷ []) node g other).1 (record {
@@ -109,7 +109,7 @@ module _ (es : List PlainEvent) (e : PlainEvent) (node : ℕ) where
       })
 
   -- a node that is newly counted is named by the event
-  pub name_new : node ≢ ROOT_ID → (IsCounted es node → ⊥) → IsCounted (es ++ e ∷ []) node → name_at (es ++ e ∷ []) node ≡ Some (Given node (length es))
+  pub name_new : node ≢ ROOT_ID → (IsCounted es node → ⊥) → IsCounted (es ++ e ∷ []) node → name_at (es ++ e ∷ []) node ≡ Some (Given (length es) node)
   name_new other not_before now =
       (name_is_least (es ++ e ∷ []) node (length es) other).1 (record {
         since = since_now (newly_counted not_before now) now;
@@ -139,12 +139,12 @@ since_some es node (suc n) within counted =
     ]
 
 -- a node that is counted has a name
-pub counted_named : (es : List PlainEvent) (node : ℕ) → node ≢ ROOT_ID → IsCounted es node → (g : ℕ) × (name_at es node ≡ Some (Given node g))
+pub counted_named : (es : List PlainEvent) (node : ℕ) → node ≢ ROOT_ID → IsCounted es node → (g : ℕ) × (name_at es node ≡ Some (Given g node))
 counted_named es node other counted =
     let whole : take (length es) es ≡ es = take_all (length es) es (omega arith) in
     let found = since_some es node (length es) (omega arith) (subst (λ x. IsCounted x node) (sym whole) counted) in
     let since : IsCountedSince es node found.0 = subst (λ x. IsCountedSince x node found.0) whole found.2 in
-    elim (least_below (length es) (stays_from es node)) as (λ t. least_below (length es) (stays_from es node) ≡ t → (g : ℕ) × (name_at es node ≡ Some (Given node g))) [
+    elim (least_below (length es) (stays_from es node)) as (λ t. least_below (length es) (stays_from es node) ≡ t → (g : ℕ) × (name_at es node ≡ Some (Given g node))) [
       | None ↦ λ is. let fails = least_below-none (length es) (stays_from es node) is found.0 found.1 in let holds = since_stays es node found.0 since in absurd cc
       | Some g ↦ λ is. (g, rw (not_root node other, is) refl)
     ] refl

@@ -24,17 +24,17 @@ use Rattle.fa_ledger.proofs.SumLemmas.{sum_of-append}
 
 name_same : (a b : NodeName) → name_eq a b ≡ true → a ≡ b
 name_same Root Root is = refl
-name_same Root (Given id by) is = absurd cc
-name_same (Given id by) Root is = absurd cc
-name_same (Given id by) (Given other since) is =
-    let both = and_parts (id == other) (by == since) is in
-    let ids : id ≡ other = grind (arith, nat_tests, both.0) in
-    let bys : by ≡ since = grind (arith, nat_tests, both.1) in
+name_same Root (Given by id) is = absurd cc
+name_same (Given by id) Root is = absurd cc
+name_same (Given by id) (Given since other) is =
+    let both = and_parts (by == since) (id == other) is in
+    let bys : by ≡ since = grind (arith, nat_tests, both.0) in
+    let ids : id ≡ other = grind (arith, nat_tests, both.1) in
     cc
 
 name_self : (a : NodeName) → name_eq a a ≡ true
 name_self Root = refl
-name_self (Given id by) =
+name_self (Given by id) =
     let first : (id == id) ≡ true = grind (arith, nat_tests) in
     let second : (by == by) ≡ true = grind (arith, nat_tests) in
     rw (first, second) refl

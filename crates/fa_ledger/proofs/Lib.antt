@@ -31,4 +31,5 @@ pub mod LedgerLemmas
 pub mod ReplyLemmas
 pub mod ReplyBookLemmas
 pub mod RequestBookLemmas
+pub mod SaidLemmas
 pub mod CallerLemmas

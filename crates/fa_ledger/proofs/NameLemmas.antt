@@ -60,7 +60,7 @@ since_stays es node g since =
 pub not_root : (node : ℕ) → node ≢ ROOT_ID → (node == ROOT_ID) ≡ false
 not_root node other = false_from_ne_true (node == ROOT_ID) (λ is. other (grind (arith, nat_tests, is)))
 
-named : (node : ℕ) (t : Option ℕ) (g : ℕ) → option_map (λ h. Given node h) t ≡ Some (Given node g) → t ≡ Some g
+named : (node : ℕ) (t : Option ℕ) (g : ℕ) → option_map (λ h. Given h node) t ≡ Some (Given g node) → t ≡ Some g
 named node None g is = absurd cc
 named node (Some h) g is = let same : h ≡ g = cc in ap (λ x. Some x) same
 

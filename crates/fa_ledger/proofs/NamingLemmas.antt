@@ -76,14 +76,14 @@ tree_answer c es are p q at asked request reply stands tree =
 -- ---- nodes
 
 -- a name that is not the root's has the id of its node
-not_root_named : (es : List PlainEvent) (node id g : ℕ) → name_at es node ≡ Some (Given id g) → (node ≢ ROOT_ID) × (id ≡ node)
+not_root_named : (es : List PlainEvent) (node id g : ℕ) → name_at es node ≡ Some (Given g id) → (node ≢ ROOT_ID) × (id ≡ node)
 not_root_named es node id g is = by (node == ROOT_ID) refl is
   where
-    same : (t : Option ℕ) → option_map (λ h. Given node h) t ≡ Some (Given id g) → id ≡ node
+    same : (t : Option ℕ) → option_map (λ h. Given h node) t ≡ Some (Given g id) → id ≡ node
     same None named = absurd cc
-    same (Some h) named = let whole : Given node h ≡ Given id g = cc in cc
+    same (Some h) named = let whole : Given h node ≡ Given g id = cc in cc
 
-    by : (b : Bool) → (node == ROOT_ID) ≡ b → (if b then Some Root else option_map (λ h. Given node h) (least_below (length es) (stays_from es node))) ≡ Some (Given id g)
+    by : (b : Bool) → (node == ROOT_ID) ≡ b → (if b then Some Root else option_map (λ h. Given h node) (least_below (length es) (stays_from es node))) ≡ Some (Given g id)
         → (node ≢ ROOT_ID) × (id ≡ node)
     by true test named = absurd cc
     by false test named = ((λ root. grind (arith, nat_tests, test, root)), same (least_below (length es) (stays_from es node)) named)
@@ -139,10 +139,10 @@ pub record IsNamedSince (c : List Message) (es : List PlainEvent) (p id g : ℕ)
   pub reply : PlainReply
   pub answer : IsTreeAnswer c es p g asked request reply
   pub gives : Contains (nodes_given request.body reply) id
-  pub named : name_at (take (suc g) es) id ≡ Some (Given id g)
+  pub named : name_at (take (suc g) es) id ≡ Some (Given g id)
 
 -- a name comes from the answer to a tree request
-pub name_given : (c : List Message) (es : List PlainEvent) → AreEvents c es → (p node id g : ℕ) → name_at (take p es) node ≡ Some (Given id g) → IsNamedSince c es p id g
+pub name_given : (c : List Message) (es : List PlainEvent) → AreEvents c es → (p node id g : ℕ) → name_at (take p es) node ≡ Some (Given g id) → IsNamedSince c es p id g
 name_given c es are p node id g is =
     subst (λ n. IsNamedSince c es p n g) (sym same) (by since.event refl)
   where
@@ -152,8 +152,8 @@ name_given c es are p node id g is =
     same : id ≡ node
     same = (not_root_named (take p es) node id g is).1
 
-    by_node : name_at (take p es) node ≡ Some (Given node g)
-    by_node = subst (λ n. name_at (take p es) node ≡ Some (Given n g)) same is
+    by_node : name_at (take p es) node ≡ Some (Given g node)
+    by_node = subst (λ n. name_at (take p es) node ≡ Some (Given g n)) same is
 
     named : IsNamedBy (take p es) node g
     named = (name_is_least (take p es) node g other).0 by_node
@@ -161,7 +161,7 @@ name_given c es are p node id g is =
     since : IsCountedSince (take p es) node g
     since = named.since
 
-    now : name_at (take (suc g) es) node ≡ Some (Given node g)
+    now : name_at (take (suc g) es) node ≡ Some (Given g node)
     now = (name_is_least (take (suc g) es) node g other).1 (named_since es node g p since named.least)
 
     by : (e : PlainEvent) → since.event ≡ e → IsNamedSince c es p node g

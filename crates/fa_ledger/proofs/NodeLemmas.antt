@@ -63,7 +63,7 @@ lookups_kept es e node l m is same some left =
     record {
       some = some;
       left = left;
-      named = name_kept es e node l.by other is.named (omega (arith, some, left)) ∙ ap (λ g. Some (Given node g)) (sym same);
+      named = name_kept es e node l.by other is.named (omega (arith, some, left)) ∙ ap (λ g. Some (Given g node)) (sym same);
     }
 
 -- a node that the event gives so often has so many lookups more
@@ -98,7 +98,7 @@ node_kept es e node x gives takes is = node_given es e node zero x gives takes (
 -- ---- names
 
 -- the name of a node, by what stands for it
-pub name_of_node : (es : List PlainEvent) (node : ℕ) (x : Option Lookups) → IsNodeOf es node x → name_at es node ≡ (if node == ROOT_ID then Some Root else option_map (λ l. Given node l.by) x)
+pub name_of_node : (es : List PlainEvent) (node : ℕ) (x : Option Lookups) → IsNodeOf es node x → name_at es node ≡ (if node == ROOT_ID then Some Root else option_map (λ l. Given l.by node) x)
 name_of_node es node None is =
     elim (root_or_not node) [
       | inl root ↦ rw root refl
@@ -109,7 +109,7 @@ name_of_node es node None is =
     ]
 name_of_node es node (Some l) is =
     let other = lookups_not_root es node l is in
-    let same : (if node == ROOT_ID then Some Root else Some (Given node l.by)) ≡ Some (Given node l.by) = rw (not_root node other) refl in
+    let same : (if node == ROOT_ID then Some Root else Some (Given l.by node)) ≡ Some (Given l.by node) = rw (not_root node other) refl in
     is.named ∙ sym same
 
 -- a node with a name is known
@@ -145,7 +145,7 @@ within_now es node (Some l) taken nlookup is = (λ within. omega (arith, within,
 -- ---- how often a list of names has a node
 
 -- names that are given to nodes have a node as often as these
-pub names_counted : (nodes : List ℕ) (node : ℕ) (name_for : ℕ → NodeName) → ((n : ℕ) → (by : ℕ) × (name_for n ≡ Given n by)) → count_by (λ name. is_named node name) (map name_for nodes) ≡ count_by (λ n. n == node) nodes
+pub names_counted : (nodes : List ℕ) (node : ℕ) (name_for : ℕ → NodeName) → ((n : ℕ) → (by : ℕ) × (name_for n ≡ Given by n)) → count_by (λ name. is_named node name) (map name_for nodes) ≡ count_by (λ n. n == node) nodes
 names_counted [] node name_for each = refl
 names_counted (n ∷ nodes) node name_for each =
     let later = names_counted nodes node name_for each in

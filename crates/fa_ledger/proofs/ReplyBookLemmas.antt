@@ -1,7 +1,6 @@
 -- The books, and the answer to a request.
 use Rattle.std.proofs.Common.{◌≡◌, ◌≢◌, ℕ, ◌+◌, ◌<◌, ◌≤◌, Bool, cond, List, [], ◌∷◌, ◌++◌, length, take, Option, None, Some, refl, sym, ap, subst, ◌∙◌, inl, inr, arith}
-use Rattle.std.specs.Option.{IsSome}
-use Rattle.std.specs.Prelude.{◌↔◌, ◌||◌, ◌==◌, nat_eq, map, count_by, All, IsTrue, IfSome, option_map}
+use Rattle.std.specs.Prelude.{◌↔◌, ◌||◌, ◌==◌, nat_eq, map, count_by, All, IsTrue, IfSome}
 use Rattle.std.specs.Map.{lookup}
 use Rattle.std.proofs.lemmas.List.{length-map}
 use Rattle.fa_capture.specs.declared.limits.TheConstants.{MAX_MESSAGES}
@@ -41,8 +40,7 @@ use Rattle.fa_ledger.specs.parts.CallParts.{WaitsAt, waiting_of}
 use Rattle.fa_ledger.specs.parts.ListingParts.{place_of, noted, ListsNew, ListsStillIfAny, IsNotedBy}
 use Rattle.fa_ledger.specs.Listings.{count_to}
 use Rattle.fa_ledger.specs.parts.BookParts.{BooksShow, Stands, IsAnsweredRefusal}
-use Rattle.fa_ledger.specs.declared.operation.Operation.{Operation}
-use Rattle.fa_ledger.specs.Operations.{PlainOperation, operation_of, operation_shown}
+use Rattle.fa_ledger.specs.Operations.{PlainOperation, operation_of}
 use Rattle.fa_ledger.proofs.OperationLemmas.{reply_done}
 use Rattle.fa_ledger.proofs.CallStepLemmas.{calls_kept, calls_answered, call_waits, waiting_call}
 use Rattle.fa_ledger.proofs.KeyLemmas.{opened_within, key_unmoved, none_unopened}
@@ -125,15 +123,11 @@ module _ (c : List Message) (m : Message) (es : List PlainEvent) (at asked : ℕ
   -- ---- the answer to a tree request
 
   -- an answer to a call makes its operation
-  pub operation_there : Stands c m es (Answered at asked r reply) old → (place : ℕ) (call : PlainCall) → WaitsAt old.calls asked place call
-      → (found : Option Operation) → option_map operation_shown found ≡ operation_of r.body (Some reply) → IsSome found
-  operation_there stands place call waits found is =
+  pub operation_there : Stands c m es (Answered at asked r reply) old → (place : ℕ) (call : PlainCall) → WaitsAt old.calls asked place call → (o : PlainOperation) × (operation_of r.body (Some reply) ≡ Some o)
+  operation_there stands place call waits =
       let w = call_waits c m es stands.are at asked r reply stands.event old.calls stands.shown.calls place call waits.there waits.numbered in
-      some_found found (is ∙ (reply_done r m.bytes reply stands.event.2 w.1.tree).1)
-    where
-      some_found : {o : PlainOperation} (x : Option Operation) → option_map operation_shown x ≡ Some o → IsSome x
-      some_found None none = absurd cc
-      some_found (Some y) some = refl
+      let done = reply_done r m.bytes reply stands.event.2 w.1.tree in
+      (done.0, done.1)
 
   -- the event's place
   event_place : Stands c m es (Answered at asked r reply) old → at ≡ length es

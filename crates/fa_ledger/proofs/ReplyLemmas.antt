@@ -83,7 +83,7 @@ given_counted at known names nodes node named =
     ∙ ap (times_named node) (sym named)
 
 -- the name of a node that was given
-name_again : (node at n : ℕ) (x : Option Lookups) → 0 < n → option_map (λ l. Given node l.by) (given_again at n x) ≡ Some (given_to node at x)
+name_again : (node at n : ℕ) (x : Option Lookups) → 0 < n → option_map (λ l. Given l.by node) (given_again at n x) ≡ Some (given_to node at x)
 name_again node at zero x some = absurd (omega (arith, some))
 name_again node at (suc n) None some = refl
 name_again node at (suc n) (Some l) some = refl
@@ -269,7 +269,7 @@ module _ (es : List PlainEvent) (at asked : ℕ) (r : PlainRequest) (reply : Pla
       let now = given_again at (times_named node names) (lookup (nat_eq node) known) in
       let other : node ≢ ROOT_ID = (All-contains MayBeGiven nodes node may has).1 in
       let often : 0 < times_named node names = omega (arith, has_often nodes node has, given_counted at known names nodes node named) in
-      let bare : (if node == ROOT_ID then Some Root else option_map (λ l. Given node l.by) now) ≡ option_map (λ l. Given node l.by) now =
+      let bare : (if node == ROOT_ID then Some Root else option_map (λ l. Given l.by node) now) ≡ option_map (λ l. Given l.by node) now =
       rw (not_root node other) refl in
       name_of_node more node now (node_answered known names place shown may named node) ∙ bare
       ∙ name_again node at (times_named node names) (lookup (nat_eq node) known) often in

@@ -1,6 +1,6 @@
 -- A request that is noted in the books: what it leaves, what it takes, what it closes and what it adds.
 use Rattle.std.proofs.Common.{◌≡◌, ℕ, ◌<◌, ◌≤◌, Bool, true, false, cond, List, [], ◌∷◌, ◌++◌, length, Option, None, Some, refl, sym, ap, subst, ◌∙◌, inl, inr, arith}
-use Rattle.std.specs.Prelude.{◌↔◌, nat_eq, All, IsTrue, IsSome, MatchOption, IsSomeAnd, is_none, option_map, option_and_then}
+use Rattle.std.specs.Prelude.{◌↔◌, nat_eq, All, IsTrue, IsSome, MatchOption, IsSomeAnd, is_none, is_some, slice_get, option_map, option_and_then}
 use Rattle.std.specs.Borrow.{Bor}
 use Rattle.std.specs.Map.{lookup}
 use Rattle.fa_capture.specs.declared.codes.TheConstants.{FORGOTTEN_TOO_OFTEN, CLOSED_HANDLE}
@@ -24,11 +24,13 @@ use Rattle.fa_ledger.specs.declared.handles.Handle.{Handle}
 use Rattle.fa_ledger.specs.declared.handles.Handles.{Handles}
 use Rattle.fa_ledger.specs.declared.key.Key.{Key}
 use Rattle.fa_ledger.specs.declared.listings.Listings.{Listings}
+use Rattle.fa_ledger.specs.declared.listings.Place.{Place}
+use Rattle.fa_ledger.specs.declared.name.NodeName.{NodeName}
 use Rattle.fa_ledger.specs.declared.nodes.Lookups.{Lookups}
 use Rattle.fa_ledger.specs.declared.nodes.Nodes.{Nodes}
 use Rattle.fa_ledger.specs.Mentions.{mentions}
 use Rattle.fa_ledger.specs.Counts.{request_takes, total_taken, lookups_given, IsKnown}
-use Rattle.fa_ledger.specs.Names.{nodes_named}
+use Rattle.fa_ledger.specs.Names.{name_at, nodes_named}
 use Rattle.fa_ledger.specs.Keys.{key_eq, key_at, key_used, handle_used}
 use Rattle.fa_ledger.specs.Kinds.{IsTreeRequest}
 use Rattle.fa_ledger.specs.Handles.{is_closing, closing, IsDirect}
@@ -40,6 +42,7 @@ use Rattle.fa_ledger.specs.Passing.{NamesKnown, TakesWithin, UsesOpen}
 use Rattle.fa_ledger.specs.Listings.{IsListingIfAny, offset_asked}
 use Rattle.fa_ledger.specs.Shows.{IsNodeOf, IsKeyOf, ArePlaces}
 use Rattle.fa_ledger.specs.parts.ListingParts.{place_of, listing_by}
+use Rattle.fa_ledger.specs.parts.RowParts.{AreNotBoth}
 use Rattle.fa_ledger.specs.parts.BookParts.{NodesShow, KeysShow, BooksShow, Stands, AreNames, AreNamesIfAny, IsUsed, IsUsedIfAny, asked_checks}
 use Rattle.fa_ledger.specs.parts.Steps.{closed_once, but_root, AreWithin, IsTakenFrom, count_left}
 use Rattle.fa_ledger.proofs.HandleLemmas.{key_same}
@@ -75,12 +78,22 @@ names_none node (BatchForget count items) none = record { no_tree = λ tree. abs
 names_none node Passed none = record { no_tree = λ tree. absurd cc; leaves = refl; uses = refl }
 names_none node other none = absurd cc
 
--- what is no operation is no tree request
-pub not_tree : (found : Option Operation) (body : PlainBody) → option_map operation_shown found ≡ operation_of body None → ((o : Operation) → found ≡ Some o → ⊥) → IsTreeRequest body → ⊥
-not_tree None body is none tree =
-    let clash : IsSome (option_map operation_shown None) = subst IsSome (sym is) tree in
-    absurd cc
-not_tree (Some o) body is none tree = none o refl
+-- a request that lists names one node
+names_one : (node : ℕ) (b : PlainBody) (offset : ℕ) → offset_asked b ≡ Some offset → slice_get ((mentions b).names node) 1 ≡ None
+names_one node (PlainBody.Readdir r) offset asks = refl
+names_one node (PlainBody.Readdirplus r) offset asks = refl
+names_one node other offset asks = absurd cc
+
+pub listing_apart : (es : List PlainEvent) (r : PlainRequest) (names : Names) (used : Option Used) (place : Key → ℕ → Option Place) → AreNames es r names → AreNotBoth names.other (listing_by (offset_asked r.body) used place)
+listing_apart es r names used place are = by names.other are.other (offset_asked r.body) refl
+  where
+    by : (other : Option NodeName) → option_map (λ node. name_at es node) (slice_get (nodes_named r) 1) ≡ option_map (λ name. Some name) other → (asked : Option ℕ) → offset_asked r.body ≡ asked
+        → AreNotBoth other (listing_by asked used place)
+    by None is asked asks = tt
+    by (Some other) is None asks = tt
+    by (Some other) is (Some offset) asks =
+        let clash : None ≡ Some (Some other) = sym (ap (option_map (λ node. name_at es node)) (names_one r.node r.body offset asks)) ∙ is in
+        absurd cc
 
 -- only FORGET and BATCH_FORGET take
 pub takes_none : (node : ℕ) (b : RequestBody) → ((nlookup : ℕ) → b ≡ declared.Forget nlookup → ⊥) → ((count : ℕ) (items : Bor (List ℕ)) → b ≡ declared.BatchForget count items → ⊥) → but_root ((mentions (body_shown b)).takes node) ≡ []

@@ -33,9 +33,9 @@ numbers_alike m n = grind (arith, nat_tests)
 
 names_alike : (a b : NodeName) → derived_name.eq-value.it a b ≡ name_eq a b
 names_alike Root Root = refl
-names_alike Root (Given id by) = refl
-names_alike (Given id by) Root = refl
-names_alike (Given id by) (Given other since) = rw (numbers_alike id other, numbers_alike by since) refl
+names_alike Root (Given by id) = refl
+names_alike (Given by id) Root = refl
+names_alike (Given by id) (Given since other) = rw (numbers_alike id other, numbers_alike by since) refl
 
 kinds_alike : (a b : HandleKind) → derived_kind.eq-value.it a b ≡ kind_eq a b
 kinds_alike File File = refl

@@ -23,7 +23,7 @@ use Rattle.fa_ledger.specs.declared.name.NodeName.{NodeName}
 use Rattle.fa_ledger.specs.Events.{AreEvents}
 use Rattle.fa_ledger.specs.Kinds.{IsTreeRequest}
 use Rattle.fa_ledger.specs.Names.{name_at, nodes_named}
-use Rattle.fa_ledger.specs.Operations.{PlainOperation, operation_of, operation_shown}
+use Rattle.fa_ledger.specs.Operations.{PlainOperation, operation_of}
 use Rattle.fa_ledger.specs.Counts.{nodes_given}
 use Rattle.fa_ledger.specs.Keys.{key_used}
 use Rattle.fa_ledger.specs.Listings.{IsListingIfAny}
@@ -133,7 +133,7 @@ pub record AreCalls (c : List Message) (calls : List PlainCall) : Type 0 where
 abbrev pub given_shown : GivenNodes → List NodeName
 given_shown Nothing = []
 given_shown (One name) = name ∷ []
-given_shown (Several names) = names.items
+given_shown (Several names) = names.now
 
 -- what an answer shows
 abbrev pub answer_shown : Answer → PlainAnswer
@@ -143,7 +143,7 @@ answer_shown a = record { at = a.at; given = given_shown a.given; opens = a.open
 abbrev pub call_shown : Call → PlainCall
 call_shown c = record {
   asked = c.asked;
-  operation = operation_shown c.operation;
+  operation = c.messages.said.0;
   node = c.node;
   other = c.other;
   handle = c.handle;

@@ -15,9 +15,9 @@ use Rattle.fa_ledger.specs.Names.{name_at}
 
 abbrev pub name_eq : NodeName → NodeName → Bool
 name_eq Root Root = true
-name_eq Root (Given id by) = false
-name_eq (Given id by) Root = false
-name_eq (Given id by) (Given other since) = id == other && by == since
+name_eq Root (Given by id) = false
+name_eq (Given by id) Root = false
+name_eq (Given by id) (Given since other) = by == since && id == other
 
 abbrev pub kind_eq : HandleKind → HandleKind → Bool
 kind_eq File File = true

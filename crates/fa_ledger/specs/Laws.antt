@@ -24,7 +24,7 @@ use Rattle.fa_ledger.specs.SoFar.{listing_so_far}
 -- A node other than the root has the name of the least event since which it is counted, and has one where there is one.
 abbrev pub NameIsLeast : Type 0
 NameIsLeast =
-    (es : List PlainEvent) (node g : ℕ) → node ≢ ROOT_ID → (name_at es node ≡ Some (Given node g)) ↔ IsNamedBy es node g
+    (es : List PlainEvent) (node g : ℕ) → node ≢ ROOT_ID → (name_at es node ≡ Some (Given g node)) ↔ IsNamedBy es node g
 
 -- Messages have one list of events at most.
 abbrev pub EventsAreOne : Type 0

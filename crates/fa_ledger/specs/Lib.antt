@@ -16,6 +16,7 @@ pub mod Listings
 pub mod Passing
 -- what tree requests ask for, with what came of it, their calls, and what an order may say of them
 pub mod Operations
+pub mod Said
 pub mod Kinds
 pub mod Calls
 pub mod Choices

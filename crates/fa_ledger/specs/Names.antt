@@ -30,7 +30,7 @@ stays_from es node g =
 -- that its count stayed positive from there on. A node without such an event has none.
 abbrev pub name_at : List PlainEvent → ℕ → Option NodeName
 name_at es node =
-    (if node == ROOT_ID then Some Root else option_map (λ g. Given node g) (least_below (length es) (stays_from es node)))
+    (if node == ROOT_ID then Some Root else option_map (λ g. Given g node) (least_below (length es) (stays_from es node)))
 
 -- Event g gives the node, and its count is positive after each event from g on.
 pub record IsCountedSince (es : List PlainEvent) (node g : ℕ) : Type 0 where

@@ -26,7 +26,7 @@ use Rattle.fa_ledger.specs.Plain.{PlainLedger}
 pub record IsLookups (es : List PlainEvent) (node : ℕ) (l : Lookups) : Type 0 where
   pub some : 0 < l.count
   pub left : lookups_taken es node + l.count ≡ lookups_given es node
-  pub named : name_at es node ≡ Some (Given node l.by)
+  pub named : name_at es node ≡ Some (Given l.by node)
 
 -- what stands for a node after these events: what is left of its lookups, or that none is
 abbrev pub IsNodeOf : List PlainEvent → ℕ → Option Lookups → Type 0

@@ -4,6 +4,10 @@
 pub mod Steps
 -- the places of the calls that wait
 pub mod WaitingParts
+-- that what two messages say is one operation
+pub mod SaidLaws
+-- a call as their list keeps it
+pub mod RowParts
 -- the list of the calls
 pub mod CallParts
 -- the table of the offsets that were reached

@@ -19,20 +19,22 @@ ghost use Rattle.fa_ledger.specs.Listings.{offset_asked};
 ghost use Rattle.fa_ledger.specs.parts.CallParts.{WaitsAt, waiting_of};
 ghost use Rattle.fa_ledger.specs.parts.ListingParts.{place_of, listing_by, ListsStillIfAny};
 
-use crate::call::{Answer, Call, Listing};
+use crate::call::{Call, Listing};
 use crate::call_list::{CallList, WaitingCall};
 use crate::error::LedgerError;
 use crate::giving::{may_be_given, names_given, opened, settles_truncation};
 use crate::handles::{Handle, Handles};
 use crate::key::Key;
 use crate::listings::{ListedOn, Listings, entries_count};
+use crate::messages::CallMessages;
 use crate::name::NodeName;
-use crate::naming::{handle_used, is_closing, nodes_named, offset_asked, truncates};
+use crate::naming::{
+    handle_used, is_closing, is_tree_request, nodes_named, offset_asked, truncates,
+};
 use crate::nodes::Nodes;
-use crate::operation::Operation;
 use fa_bodies::{Reply, Request, RequestBody};
 use fa_capture::codes;
-use fa_session::Event;
+use fa_session::{Event, ReplyMessages, RequestMessage};
 use std::alloc::Global;
 
 /// The books of a ledger: nodes, file handles, where offsets were last reached, and calls.
@@ -94,32 +96,32 @@ impl<'a> Books<'a> {
         ensures unchanged { OnErr result (AreSame self.old self.new) }
     {
         match event {
-            Event::Asked { at, request } => self.note_request(*at, request),
+            Event::Asked { at, message } => self.note_request(*at, message),
             Event::Answered {
                 at,
                 asked,
-                request,
-                reply,
-            } => self.note_reply(*at, *asked, request, *reply),
+                messages,
+            } => self.note_reply(*at, *asked, messages),
             Event::Notice { .. } => Ok(()),
         }
     }
 
     /// Notes the request of this number, if it keeps the rules of nodes and file handles.
-    fn note_request(&mut self, at: u32, request: &Request<'a>) -> Result<(), LedgerError>
-        requires { StandBefore (Asked at (request_shown request.now)) self.old }
-        ensures keeps { OnOk result (WhereStands (Asked at (request_shown request.now)) self.old (λ c m es. AllHold (asked_checks es (request_shown request.now)))) }
-        ensures shows { OnOk result (ShowNext (Asked at (request_shown request.now)) self.old self.new) }
-        ensures refused { IfErr result (λ error. WhereStands (Asked at (request_shown request.now)) self.old (λ c m es. IsAskedRefusal es (request_shown request.now) error)) }
+    fn note_request(&mut self, at: u32, message: &RequestMessage<'a>) -> Result<(), LedgerError>
+        requires { StandBefore (Asked at (request_shown message.now.request)) self.old }
+        ensures keeps { OnOk result (WhereStands (Asked at (request_shown message.now.request)) self.old (λ c m es. AllHold (asked_checks es (request_shown message.now.request)))) }
+        ensures shows { OnOk result (ShowNext (Asked at (request_shown message.now.request)) self.old self.new) }
+        ensures refused { IfErr result (λ error. WhereStands (Asked at (request_shown message.now.request)) self.old (λ c m es. IsAskedRefusal es (request_shown message.now.request) error)) }
         ensures unchanged { OnErr result (AreSame self.old self.new) }
     {
+        let request = &message.request;
         match &request.body {
             RequestBody::Forget { nlookup } => self.nodes.forget(request.node, *nlookup)?,
             RequestBody::BatchForget { items, .. } => self.nodes.forget_all(items)?,
             _ => {
                 if let Some(names) = self.names_of(request)? {
                     let used = self.handle_of(names.node, request)?;
-                    self.note_use(at, request, names, used)?;
+                    self.note_use(at, message, names, used)?;
                 }
             }
         }
@@ -131,22 +133,21 @@ impl<'a> Books<'a> {
         &mut self,
         at: u32,
         asked: u32,
-        request: &Request<'a>,
-        reply: Reply<'a>,
+        messages: &ReplyMessages<'a>,
     ) -> Result<(), LedgerError>
-        requires { StandBefore (Answered at asked (request_shown request.now) (reply_shown reply)) self.old }
-        ensures allowed { OnOk result (All MayBeGiven (nodes_given (body_shown request.now.body) (reply_shown reply.entry))) }
-        ensures shows { OnOk result (ShowNext (Answered at asked (request_shown request.now) (reply_shown reply.entry)) self.old self.new) }
-        ensures refused { IfErr result (λ error. WhereStands (Answered at asked (request_shown request.now) (reply_shown reply.entry)) self.old (λ c m es. IsAnsweredRefusal es at asked (request_shown request.now) (reply_shown reply.entry) error)) }
+        requires { StandBefore (Answered at asked (request_shown messages.now.to.request) (reply_shown messages.now.reply)) self.old }
+        ensures allowed { OnOk result (All MayBeGiven (nodes_given (body_shown messages.now.to.request.body) (reply_shown messages.now.reply))) }
+        ensures shows { OnOk result (ShowNext (Answered at asked (request_shown messages.now.to.request) (reply_shown messages.now.reply)) self.old self.new) }
+        ensures refused { IfErr result (λ error. WhereStands (Answered at asked (request_shown messages.now.to.request) (reply_shown messages.now.reply)) self.old (λ c m es. IsAnsweredRefusal es at asked (request_shown messages.now.to.request) (reply_shown messages.now.reply) error)) }
         ensures unchanged { OnErr result (AreSame self.old self.new) }
     {
-        if !may_be_given(&request.body, &reply) {
+        if !may_be_given(&messages.to.request.body, &messages.reply) {
             return Err(LedgerError::Refused(codes::NODE_ID_NOT_ALLOWED));
         }
         match self.calls.find(asked) {
-            Some(waiting) => self.note_answer(at, asked, waiting, request, reply),
+            Some(waiting) => self.note_answer(at, asked, waiting, messages),
             None => {
-                self.truncating |= settles_truncation(&request.body, &reply);
+                self.truncating |= settles_truncation(&messages.to.request.body, &messages.reply);
                 Ok(())
             }
         }
@@ -193,29 +194,29 @@ impl<'a> Books<'a> {
     fn note_use(
         &mut self,
         at: u32,
-        request: &Request<'a>,
+        message: &RequestMessage<'a>,
         names: Names,
         used: Option<Used>,
     ) -> Result<(), LedgerError>
-        requires { (c : List Message) × (m : Message) × (es : List PlainEvent) × Stands c m es (Asked at (request_shown request.now)) self.old × AreNames es (request_shown request.now) names × IsUsedIfAny es (request_shown request.now) self.old.handles.opened.entries used × (request_takes (request_shown request.now) ≡ []) }
-        ensures shows { OnOk result (WhereStands (Asked at (request_shown request.now)) self.old (λ c m es. AreNames es (request_shown request.now) names → IsUsedIfAny es (request_shown request.now) self.old.handles.opened.entries used → BooksShow (es ++ Asked at (request_shown request.now) ∷ []) self.new)) }
-        ensures memory { IfErr result (λ error. (error ≡ Memory) × IsTreeRequest (body_shown request.now.body)) }
+        requires { (c : List Message) × (m : Message) × (es : List PlainEvent) × Stands c m es (Asked at (request_shown message.now.request)) self.old × AreNames es (request_shown message.now.request) names × IsUsedIfAny es (request_shown message.now.request) self.old.handles.opened.entries used × (request_takes (request_shown message.now.request) ≡ []) }
+        ensures shows { OnOk result (WhereStands (Asked at (request_shown message.now.request)) self.old (λ c m es. AreNames es (request_shown message.now.request) names → IsUsedIfAny es (request_shown message.now.request) self.old.handles.opened.entries used → BooksShow (es ++ Asked at (request_shown message.now.request) ∷ []) self.new)) }
+        ensures memory { IfErr result (λ error. (error ≡ Memory) × IsTreeRequest (body_shown message.now.request.body)) }
         ensures unchanged { OnErr result (AreSame self.old self.new) }
     {
-        if let Some(operation) = Operation::of(&request.body, None) {
+        if is_tree_request(&message.request.body) {
             let call = Call {
                 asked: at,
-                operation,
+                messages: CallMessages::asked(message),
                 node: names.node,
                 other: names.other,
                 handle: used.map(|used| used.handle.name),
                 direct: used.is_some_and(|used| used.handle.direct),
-                truncates: truncates(&request.body, self.truncating),
-                listing: self.listing_of(&request.body, used),
+                truncates: truncates(&message.request.body, self.truncating),
+                listing: self.listing_of(&message.request.body, used),
                 answer: None,
             };
             self.calls.push(call)?;
-        } else if is_closing(&request.body) {
+        } else if is_closing(&message.request.body) {
             if let Some(used) = used {
                 if self.handles.close(&used.key) {
                     self.listings.close(&used.key);
@@ -274,21 +275,30 @@ impl<'a> Books<'a> {
         at: u32,
         asked: u32,
         waiting: WaitingCall,
-        request: &Request<'a>,
-        reply: Reply<'a>,
+        messages: &ReplyMessages<'a>,
     ) -> Result<(), LedgerError>
-        requires stands { StandBefore (Answered at asked (request_shown request.now) (reply_shown reply)) self.old }
-        requires allowed { All MayBeGiven (nodes_given (body_shown request.now.body) (reply_shown reply)) }
+        requires stands { StandBefore (Answered at asked (request_shown messages.now.to.request) (reply_shown messages.now.reply)) self.old }
+        requires allowed { All MayBeGiven (nodes_given (body_shown messages.now.to.request.body) (reply_shown messages.now.reply)) }
         requires waits { (place : ℕ) × (call : PlainCall) × WaitsAt self.old.calls asked place call × (waiting ≡ waiting_of call) }
-        ensures shows { OnOk result (ShowNext (Answered at asked (request_shown request.now) (reply_shown reply.entry)) self.old self.new) }
-        ensures memory { IfErr result (λ error. (error ≡ Memory) × (WhereStands (Answered at asked (request_shown request.now) (reply_shown reply.entry)) self.old (λ c m es. IsMoreKept es (Answered at asked (request_shown request.now) (reply_shown reply.entry))))) }
+        ensures shows { OnOk result (ShowNext (Answered at asked (request_shown messages.now.to.request) (reply_shown messages.now.reply)) self.old self.new) }
+        ensures memory { IfErr result (λ error. (error ≡ Memory) × (WhereStands (Answered at asked (request_shown messages.now.to.request) (reply_shown messages.now.reply)) self.old (λ c m es. IsMoreKept es (Answered at asked (request_shown messages.now.to.request) (reply_shown messages.now.reply))))) }
         ensures unchanged { OnErr result (AreSame self.old self.new) }
     {
-        let operation = Operation::of(&request.body, Some(&reply)).unwrap();
-        let given = names_given(self.alloc, &self.nodes, at, &request.body, &reply)?;
-        let names = given.names();
-        let opened = opened(waiting.node, names, &request.body, &reply);
-        let listed = self.listed(waiting, &request.body, &reply);
+        let given = names_given(
+            self.alloc,
+            &self.nodes,
+            at,
+            &messages.to.request.body,
+            &messages.reply,
+        )?;
+        let names = given.as_slice();
+        let opened = opened(
+            waiting.node,
+            names,
+            &messages.to.request.body,
+            &messages.reply,
+        );
+        let listed = self.listed(waiting, &messages.to.request.body, &messages.reply);
         // All room first.
         self.nodes.reserve(names)?;
         self.handles.reserve(&opened)?;
@@ -297,8 +307,8 @@ impl<'a> Books<'a> {
         self.nodes.give(names, at);
         let opens = self.handles.note_opened(asked, opened);
         self.listings.note(asked, listed);
-        let answer = Answer { at, given, opens };
-        self.calls.answer(asked, operation, answer);
+        let both = CallMessages::answered(messages);
+        self.calls.answer(asked, both, at, given, opens);
         Ok(())
     }
 }

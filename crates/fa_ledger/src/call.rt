@@ -1,26 +1,29 @@
 //! Calls: the requests that act on the tree, each with what it names and with its answer.
 
-ghost use Rattle.std.specs.Prelude.{◌≡◌, ◌↔◌, IsTrue};
+ghost use Rattle.std.specs.Prelude.{◌≡◌, ◌≢◌, ◌↔◌, IsTrue};
 ghost use Rattle.fa_ledger.specs.Calls.{call_shown, given_shown};
 ghost use Rattle.fa_ledger.specs.Choices.{Allows};
+ghost use Rattle.fa_ledger.specs.declared.operation.Outcome.TheVariants.{Unanswered};
+ghost use Rattle.fa_ledger.specs.Operations.{ended, operation_shown};
 
+use crate::messages::CallMessages;
 use crate::name::NodeName;
 use crate::operation::Operation;
 use crate::placing::may_be_placed;
 use std::slice;
 
 /// The names of the nodes that an answer gives, in its order. [`names`](GivenNodes::names) has them as a slice.
-#[derive(Debug, Drop)]
-pub enum GivenNodes {
+#[derive(Clone, Copy, Debug)]
+pub enum GivenNodes<'c> {
     /// It gives none.
     Nothing,
-    /// One, kept without memory of its own: LOOKUP, SYMLINK, MKNOD, MKDIR, LINK, CREATE.
+    /// One: LOOKUP, SYMLINK, MKNOD, MKDIR, LINK, CREATE.
     One(NodeName),
     /// Those of the entries of a READDIRPLUS.
-    Several(Vec<NodeName>),
+    Several(&'c [NodeName]),
 }
 
-impl GivenNodes {
+impl GivenNodes<'_> {
     /// The names, as a slice.
     ///
     /// Takes no memory, in constant time.
@@ -36,12 +39,12 @@ impl GivenNodes {
 }
 
 /// The answer to a tree request. What it says is in the call's operation.
-#[derive(Debug, Drop)]
-pub struct Answer {
+#[derive(Clone, Copy, Debug)]
+pub struct Answer<'c> {
     /// The number of its message.
     pub at: u32,
     /// The nodes that it gives.
-    pub given: GivenNodes,
+    pub given: GivenNodes<'c>,
     /// Whether it opens a file handle that was not open.
     pub opens: bool,
 }
@@ -62,12 +65,14 @@ pub struct Listing {
 }
 
 /// A tree request, with its answer where it has one.
-#[derive(Debug, Drop)]
-pub struct Call<'a> {
+///
+/// It is what [`CallList`](crate::CallList) shows of one that it keeps, and what it refers to lives as long as that list.
+#[derive(Clone, Copy, Debug)]
+pub struct Call<'c> {
     /// The number of the request's message.
     pub asked: u32,
-    /// What it asks for, with what came of it.
-    pub operation: Operation<'a>,
+    /// Its request, and the reply where it has one. [`operation`](Call::operation) reads them.
+    pub messages: CallMessages<'c>,
     /// The node of its header, by name.
     pub node: NodeName,
     /// The new directory of a RENAME or RENAME2, and the file of a LINK.
@@ -83,21 +88,40 @@ pub struct Call<'a> {
     /// What a READDIR or READDIRPLUS goes on from, answered or not. None for any other call.
     pub listing: Option<Listing>,
     /// Its answer.
-    pub answer: Option<Answer>,
+    pub answer: Option<Answer<'c>>,
 }
 
-impl Call<'_> {
+impl<'c> Call<'c> {
+    /// What it asks for, with what came of it.
+    ///
+    /// Takes no memory. Time in the bytes of names and targets and of a listing, and constant otherwise: both messages are read.
+    pub fn operation(&self) -> Operation<'c>
+        ensures { operation_shown result ≡ (call_shown self.now).operation }
+    {
+        self.messages.operation()
+    }
+
+    /// Whether its messages have a reply: of the calls of a capture these are the ones with an `answer`
+    /// ([`laws`](crate::laws)).
+    ///
+    /// Takes no memory, in constant time.
+    pub fn is_answered(&self) -> bool
+        ensures { IsTrue result ↔ (ended (call_shown self.now).operation ≢ Unanswered) }
+    {
+        self.messages.is_answered()
+    }
+
     /// Whether an order may name the request with this count of bytes written, or without one: an answered request
     /// without one; one that was not answered and may change what is stored without one as well, but for a WRITE, which
     /// has a count of at most its size; one that only reads, and was not answered, not at all (this profile).
     ///
-    /// Takes no memory, in constant time.
+    /// Takes no memory, in constant time where it is answered. Otherwise in the names and targets of its request, which is read.
     pub fn allows(&self, wrote: Option<u32>) -> bool
         ensures { IsTrue result ↔ Allows (call_shown self.now) wrote }
     {
         match &self.answer {
             Some(_) => wrote.is_none(),
-            None => may_be_placed(&self.operation, wrote),
+            None => may_be_placed(&self.operation(), wrote),
         }
     }
 }

@@ -1,16 +1,18 @@
 //! The calls so far, in the order of their requests.
 
-ghost use Rattle.std.specs.Prelude.{◌≡◌, ℕ, List, [], ◌∷◌, ◌++◌, false, map, None, OnOk, OnErr, IfSome, IfNone};
+ghost use Rattle.std.specs.Prelude.{◌≡◌, ◌<◌, ℕ, List, [], ◌∷◌, ◌++◌, false, length, map, slice_get, Some, None, option_map, OnOk, OnErr, IfSome, IfNone};
 ghost use Rattle.std.specs.Option.{option_map_or};
 ghost use Rattle.std.specs.List.Sorted.{IsStrictlyIncreasing};
-ghost use Rattle.fa_ledger.specs.Calls.{PlainCall, answer_shown, call_shown};
-ghost use Rattle.fa_ledger.specs.Operations.{operation_shown};
+ghost use Rattle.fa_ledger.specs.Calls.{PlainCall, call_shown};
 ghost use Rattle.fa_ledger.specs.parts.CallParts.{IsNewNumber, Waits, WaitsAt, waiting_of};
-ghost use Rattle.fa_ledger.specs.parts.Steps.{with_answer};
+ghost use Rattle.fa_ledger.specs.parts.RowParts.{AreNotBoth};
+ghost use Rattle.fa_ledger.specs.parts.Steps.{given_names_shown, with_answer};
 
-use crate::call::{Answer, Call, Listing};
+use crate::call::{Call, Listing};
+use crate::giving::GivenNames;
+use crate::messages::CallMessages;
 use crate::name::NodeName;
-use crate::operation::Operation;
+use crate::row::Row;
 use crate::waiting_places::WaitingPlaces;
 use std::alloc::{AllocError, Global};
 use std::marker::Model;
@@ -26,11 +28,12 @@ pub(crate) struct WaitingCall {
     pub adrift: bool,
 }
 
-/// The calls so far, and which of them wait for an answer.
+/// Calls in the order in which they were added, by rising numbers of their requests in a [`Calls`](crate::Calls). To its callers
+/// a list is its calls.
 #[derive(Drop)]
-pub(crate) struct CallList<'a> {
-    /// The calls, by rising numbers of their requests.
-    list: Vec<Call<'a>>,
+pub struct CallList<'a> {
+    /// What is kept of each.
+    rows: Vec<Row<'a>>,
     /// Of each that waits for an answer its place in the list.
     waiting: WaitingPlaces,
 }
@@ -50,70 +53,103 @@ impl<'a> Model for CallList<'a> {
 
 impl<'a> CallList<'a> {
     /// No calls. What it stores later takes memory from `alloc`.
-    pub fn new(alloc: Global) -> Self
+    pub(crate) fn new(alloc: Global) -> Self
         ensures { result ≡ [] }
     {
         CallList {
-            list: Vec::new(alloc),
+            rows: Vec::new(alloc),
             waiting: WaitingPlaces::new(alloc),
         }
     }
 
     /// Adds a call that waits for its answer.
-    pub fn push(&mut self, call: Call<'a>) -> Result<(), AllocError>
+    pub(crate) fn push(&mut self, call: Call<'a>) -> Result<(), AllocError>
         requires waits { call.answer ≡ None }
+        requires apart { AreNotBoth call.other call.listing }
         requires later { IsNewNumber self.old call.asked }
         ensures pushed { OnOk result (self.new ≡ self.old ++ call_shown call.entry ∷ []) }
         ensures unchanged { OnErr result (self.new ≡ self.old) }
     {
-        let asked = call.asked;
-        let place = self.list.len();
+        let place = self.rows.len();
         // With room in the list first, a push that fails leaves both as they were.
-        self.list.reserve(1)?;
-        self.waiting.insert(asked, place)?;
-        self.list.push_reserved(call);
+        self.rows.reserve(1)?;
+        self.waiting.insert(call.asked, place)?;
+        self.rows.push_reserved(Row::waiting(call));
         Ok(())
     }
 
     /// The call that waits under this number.
     ///
     /// Takes no memory, in expected constant time.
-    pub fn find(&self, asked: u32) -> Option<WaitingCall>
+    pub(crate) fn find(&self, asked: u32) -> Option<WaitingCall>
         ensures some { IfSome result (λ waiting. (place : ℕ) × (call : PlainCall) × WaitsAt self.now asked place call × (waiting ≡ waiting_of call)) }
         ensures none { IfNone result ((place : ℕ) (call : PlainCall) → WaitsAt self.now asked place call → ⊥) }
     {
         let place = self.waiting.get(asked)?;
-        let call = &self.list[place];
+        let row = &self.rows[place];
         Some(WaitingCall {
-            node: call.node,
-            handle: call.handle,
-            adrift: is_adrift(call.listing),
+            node: row.node,
+            handle: row.handle(),
+            adrift: is_adrift(row.beside.listing()),
         })
     }
 
-    /// Notes the answer of the call that waits under this number, and what it makes of its operation.
+    /// Notes the answer of this number to the call that waits under that number, with both messages.
     ///
     /// Takes no memory, in expected constant time.
-    pub fn answer(&mut self, asked: u32, operation: Operation<'a>, answer: Answer)
+    pub(crate) fn answer(
+        &mut self,
+        asked: u32,
+        messages: CallMessages<'a>,
+        at: u32,
+        given: GivenNames,
+        opens: bool,
+    )
         requires waits { Waits self.old asked }
         requires rising { IsStrictlyIncreasing (map (λ call. call.asked) self.old) }
-        ensures { self.new ≡ with_answer self.old asked (operation_shown operation.entry) (answer_shown answer) }
+        ensures { self.new ≡ with_answer self.old asked messages.entry.said.0 (record { at = at; given = given_names_shown given; opens = opens }) }
     {
         let place = self.waiting.remove(asked).unwrap();
-        let call = &mut self.list[place];
-        call.operation = operation;
-        call.answer = Some(answer);
+        self.rows[place].note_answer(messages, at, given, opens);
     }
 
-    /// The calls.
-    pub fn into_list(self) -> Vec<Call<'a>>
-        ensures { map call_shown result.items ≡ self.entry }
+    /// How many calls there are.
+    ///
+    /// Takes no memory, in constant time.
+    pub fn len(&self) -> usize
+        ensures { result ≡ length self.now }
     {
-        let CallList {
-            list,
-            waiting: _waiting,
-        } = self;
-        list
+        self.rows.len()
+    }
+
+    /// The call at this place, if there is one.
+    ///
+    /// Takes no memory, in constant time.
+    pub fn get(&self, place: usize) -> Option<Call<'_>>
+        ensures { option_map call_shown result ≡ slice_get self.now place }
+    {
+        let row = self.rows.get(place)?;
+        Some(row.call())
+    }
+
+    /// The call at this place, which is below [`len`](CallList::len).
+    ///
+    /// Takes no memory, in constant time.
+    pub fn call(&self, place: usize) -> Call<'_>
+        requires { place < length self.now }
+        ensures { slice_get self.now place ≡ Some (call_shown result) }
+    {
+        self.rows[place].call()
+    }
+
+    /// The place of the call of this message number, if there is one. Where the numbers rise, None says that there is none.
+    ///
+    /// Takes no memory, in logarithmic time.
+    pub(crate) fn place_of(&self, at: u32) -> Option<usize>
+        ensures found { IfSome result (λ place. (call : PlainCall) × (slice_get self.now place ≡ Some call) × (call.asked ≡ at)) }
+        ensures none { IsStrictlyIncreasing (map (λ call. call.asked) self.now) → IfNone result ((place : ℕ) (call : PlainCall) → slice_get self.now place ≡ Some call → call.asked ≡ at → ⊥) }
+    {
+        self.rows.binary_search_by_key(&at, |row| row.asked).ok()
     }
 }
 

@@ -6,20 +6,43 @@ ghost use Rattle.fa_bodies.specs.Dirents.{PlainDirent, dirent_shown};
 ghost use Rattle.fa_bodies.specs.Listing.{entries_left};
 ghost use Rattle.fa_bodies.specs.Requests.{body_shown};
 ghost use Rattle.fa_bodies.specs.Replies.{reply_shown};
-ghost use Rattle.fa_ledger.specs.Calls.{given_shown};
 ghost use Rattle.fa_ledger.specs.Mentions.{node_of};
 ghost use Rattle.fa_ledger.specs.Counts.{nodes_given, nodes_of_entry, nodes_of_listing};
 ghost use Rattle.fa_ledger.specs.Passing.{MayBeGiven};
 ghost use Rattle.std.specs.Option.{option_to_list};
-ghost use Rattle.fa_ledger.specs.parts.Steps.{opened_with, given_to, SettlesTruncation, IsListedReply};
+ghost use Rattle.fa_ledger.specs.parts.Steps.{opened_with, given_to, SettlesTruncation, IsListedReply, given_names_shown};
 
-use crate::call::GivenNodes;
 use crate::key::{HandleKind, Key};
 use crate::name::NodeName;
 use crate::nodes::Nodes;
 use bitflags::Flags;
 use fa_bodies::{Dirent, Entries, EntryOut, InitFlags, OpenOut, ROOT_ID, Reply, RequestBody};
 use std::alloc::{AllocError, Global};
+use std::slice;
+
+/// The names of the nodes that a reply gives, in its order.
+#[derive(Drop)]
+pub(crate) enum GivenNames {
+    /// None.
+    Nothing,
+    /// One, without memory of its own.
+    One(NodeName),
+    /// Those of a listing, behind one pointer.
+    Several(Box<Vec<NodeName>>),
+}
+
+impl GivenNames {
+    /// The names, as a slice.
+    pub fn as_slice(&self) -> &[NodeName]
+        ensures { result.now ≡ given_names_shown self.now }
+    {
+        match self {
+            GivenNames::Nothing => &[],
+            GivenNames::One(name) => slice::from_ref(name),
+            GivenNames::Several(names) => names,
+        }
+    }
+}
 
 /// The node that an entry gives, if any: 0 stands for none.
 fn node_of(entry: &EntryOut) -> Option<u64>
@@ -73,10 +96,13 @@ pub(crate) fn may_be_given(body: &RequestBody<'_>, reply: &Reply<'_>) -> bool
     }
 }
 
-/// Whether no entry of a listing gives the root.
+/// Whether no entry of a listing gives the root. In constant time where it is that of a READDIR.
 fn may_be_listed(listing: Entries<'_>) -> bool
     ensures { IsTrue result ↔ All MayBeGiven (nodes_of_listing (entries_left listing.entry)) }
 {
+    if !listing.is_plus() {
+        return true;
+    }
     for dirent in listing {
         if node_listed(&dirent) == Some(ROOT_ID) {
             return false;
@@ -92,29 +118,32 @@ pub(crate) fn names_given(
     at: u32,
     body: &RequestBody<'_>,
     reply: &Reply<'_>,
-) -> Result<GivenNodes, AllocError>
-    ensures named { IfOk result (λ given. given_shown given ≡ map (λ id. given_to id at (get nat_eq nodes.now.known id)) (nodes_given (body_shown body.now) (reply_shown reply.now))) }
+) -> Result<GivenNames, AllocError>
+    ensures named { IfOk result (λ given. given_names_shown given ≡ map (λ id. given_to id at (get nat_eq nodes.now.known id)) (nodes_given (body_shown body.now) (reply_shown reply.now))) }
     ensures wanted { OnErr result (IsListedReply (reply_shown reply.now) × (nodes_given (body_shown body.now) (reply_shown reply.now) ≢ [])) }
 {
     match reply {
         Reply::Listed(listing) => names_listed(alloc, nodes, at, *listing),
         _ => Ok(node_given(body, reply).map_or(
-            GivenNodes::Nothing,
-            |id| GivenNodes::One(nodes.name_given(id, at)),
+            GivenNames::Nothing,
+            |id| GivenNames::One(nodes.name_given(id, at)),
         )),
     }
 }
 
-/// The names of the nodes that a listing gives.
+/// The names of the nodes that a listing gives. In constant time where it is that of a READDIR, which gives none.
 fn names_listed(
     alloc: Global,
     nodes: &Nodes,
     at: u32,
     listing: Entries<'_>,
-) -> Result<GivenNodes, AllocError>
-    ensures named { IfOk result (λ given. given_shown given ≡ map (λ id. given_to id at (get nat_eq nodes.now.known id)) (nodes_of_listing (entries_left listing.entry))) }
+) -> Result<GivenNames, AllocError>
+    ensures named { IfOk result (λ given. given_names_shown given ≡ map (λ id. given_to id at (get nat_eq nodes.now.known id)) (nodes_of_listing (entries_left listing.entry))) }
     ensures wanted { OnErr result (nodes_of_listing (entries_left listing.entry) ≢ []) }
 {
+    if !listing.is_plus() {
+        return Ok(GivenNames::Nothing);
+    }
     let mut names = Vec::new(alloc);
     for dirent in listing {
         if let Some(id) = node_listed(&dirent) {
@@ -122,9 +151,9 @@ fn names_listed(
         }
     }
     if names.is_empty() {
-        return Ok(GivenNodes::Nothing);
+        return Ok(GivenNames::Nothing);
     }
-    Ok(GivenNodes::Several(names))
+    Ok(GivenNames::Several(Box::new(alloc, names)?))
 }
 
 /// The key that a success opens, and how, where its request named this node, and the reply gives these.

@@ -1,10 +1,10 @@
 //! A ledger, event by event.
 
-ghost use Rattle.std.specs.Prelude.{◌≡◌, ◌∷◌, ◌++◌, [], ℕ, List, length, map, IfErr, OnOk, OnErr};
+ghost use Rattle.std.specs.Prelude.{◌≡◌, ◌∷◌, ◌++◌, [], ℕ, List, length, IfErr, OnOk, OnErr};
 ghost use Rattle.fa_capture.specs.Message.{Message};
 ghost use Rattle.fa_session.specs.Events.{event_shown};
 ghost use Rattle.fa_ledger.specs.Passing.{Passes};
-ghost use Rattle.fa_ledger.specs.Calls.{call_shown, AreCalls};
+ghost use Rattle.fa_ledger.specs.Calls.{AreCalls};
 ghost use Rattle.fa_ledger.specs.Shows.{Shows};
 ghost use Rattle.fa_ledger.specs.Refusals.{IsNext, IsRefusal};
 
@@ -89,9 +89,9 @@ impl<'a> Ledger<'a> {
     /// # Cost
     ///
     /// Expected constant time, as of hash tables, for each event, for each item of a BATCH_FORGET and for each entry of a
-    /// listing. It keeps a [`Call`](crate::Call) for each tree request, an entry for each node that is known, for each key
+    /// listing. It keeps 96 bytes for each tree request, with where its messages lie, an entry for each node that is known, for each key
     /// that is open and for each offset that an answer on such a key has, and for each tree request that waits its place;
-    /// all grow by doubling. A listing's names take a list of their own. No message bytes are copied.
+    /// all grow by doubling. The names of the nodes that a listing gives take a list of their own. No message bytes are copied.
     pub fn accept(&mut self, event: Event<'a>) -> Result<(), LedgerError>
         requires { (c : List Message) × (m : Message) × IsNext c m self.old (event_shown event) }
         ensures passes { OnOk result ((c : List Message) (m : Message) → IsNext c m self.old (event_shown event.entry) → Passes c m) }
@@ -106,12 +106,14 @@ impl<'a> Ledger<'a> {
 
     /// The calls of the messages.
     ///
-    /// Takes no memory, in constant time but for giving back the tables.
+    /// Takes no memory, in constant time but for giving back the tables of nodes, handles and listings.
     pub fn into_calls(self) -> Calls<'a>
-        ensures { (c : List Message) → Shows c self.entry → (result.messages ≡ length c) × AreCalls c (map call_shown result.list.items) }
+        ensures { (c : List Message) → Shows c self.entry → (result.messages ≡ length c) × AreCalls c result.list }
     {
         let Ledger { messages, books } = self;
-        let list = books.calls.into_list();
-        Calls { messages, list }
+        Calls {
+            messages,
+            list: books.calls,
+        }
     }
 }

@@ -5,7 +5,7 @@
 pub enum NodeName {
     /// The root, node 1.
     Root,
-    /// A node that a reply gave: its id, and the message number of the reply since which its lookup count has been
-    /// positive.
-    Given { id: u64, by: u32 },
+    /// A node that a reply gave: the message number of the reply since which its lookup count has been positive, and its
+    /// id.
+    Given { by: u32, id: u64 },
 }

@@ -9,6 +9,7 @@ ghost use Rattle.fa_ledger.specs.Calls.{IsNegotiatedFlag, Truncates};
 ghost use Rattle.fa_ledger.specs.Handles.{is_closing};
 ghost use Rattle.fa_ledger.specs.Listings.{offset_asked};
 ghost use Rattle.fa_ledger.specs.Keys.{handle_used};
+ghost use Rattle.fa_ledger.specs.Kinds.{IsTreeRequest};
 ghost use Rattle.fa_ledger.specs.Names.{nodes_named};
 ghost use Rattle.fa_ledger.specs.parts.Steps.{named_list};
 
@@ -95,6 +96,22 @@ pub(crate) fn offset_asked(body: &RequestBody<'_>) -> Option<u64>
         RequestBody::Readdir(read) | RequestBody::Readdirplus(read) => Some(read.offset),
         _ => None,
     }
+}
+
+/// Whether a request acts on the tree.
+pub(crate) fn is_tree_request(body: &RequestBody<'_>) -> bool
+    ensures { IsTrue result ↔ IsTreeRequest (body_shown body.now) }
+{
+    !matches!(
+        body,
+        RequestBody::Init(_)
+            | RequestBody::Forget { .. }
+            | RequestBody::BatchForget { .. }
+            | RequestBody::Flush(_)
+            | RequestBody::Release(_)
+            | RequestBody::Releasedir(_)
+            | RequestBody::Passed
+    )
 }
 
 /// Whether a request closes one opening of its handle.

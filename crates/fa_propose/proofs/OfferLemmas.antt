@@ -1,16 +1,25 @@
 -- A call is taken in among the entries that may come next, or an order may not name it.
-use Rattle.std.proofs.Common.{◌≡◌, List, Some, refl, sym, subst, ◌∙◌, inl, inr}
-use Rattle.std.specs.Prelude.{Contains}
+use Rattle.std.proofs.Common.{◌≡◌, List, None, Some, refl, sym, subst, ◌∙◌, inl, inr}
+use Rattle.std.specs.Prelude.{◌≢◌, Contains}
 use Rattle.std.specs.BTreeMap.{BTreeMap, IsOrdered, Updates}
 use Rattle.std.proofs.lemmas.Option.{same_Some}
 use Rattle.fa_ledger.specs.Calls.{PlainCall}
 use Rattle.fa_ledger.specs.Choices.{Allows}
+use Rattle.fa_ledger.specs.declared.operation.Outcome.TheVariants.{Unanswered}
+use Rattle.fa_ledger.specs.Operations.{PlainOperation, ended}
+use Rattle.fa_ledger.specs.Operations.PlainAction.{Write}
+use Rattle.fa_ledger.specs.Operations.PlainOperation.{Acts}
 use Rattle.fa_order.specs.declared.entry.Entry.{Entry}
 use Rattle.fa_propose.specs.declared.rank.Rank.{Rank}
-use Rattle.fa_propose.specs.Proposals.{entry_of, IsRank}
+use Rattle.fa_propose.specs.Proposals.{count_proposed, entry_of, IsRank}
 use Rattle.fa_propose.specs.parts.Ready.{IsOffered}
 use Rattle.fa_propose.proofs.MapLemmas.{put_there, other_stays, there_from}
 use Rattle.fa_propose.proofs.RankOrderLemmas.{cmp, cmp_total, cmp_exact}
+
+-- of what was answered no count is proposed
+pub none_proposed : (o : PlainOperation) → ended o ≢ Unanswered → count_proposed o ≡ None
+none_proposed (Acts (Write offset size payload Unanswered)) answered = absurd (answered refl)
+none_proposed other answered = refl
 
 -- it is taken in at its rank
 pub offered : (call : PlainCall) (rank : Rank) (entry : Entry) → IsRank rank call → entry ≡ entry_of call → Allows call entry.wrote

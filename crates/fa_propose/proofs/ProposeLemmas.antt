@@ -19,12 +19,12 @@ use Rattle.fa_propose.specs.parts.Ready.{IsReady, IsPlacedNext}
 -- How far an order is proposed: its entries are replayed, those that may come next are at hand, and each was the next.
 pub record IsProposing (calls : Calls) (first tree : TreeState) (es : List Entry) (placing : Placing) (seen : ℕ) (ready : List (Rank × Entry)) : Type 0 where
   pub replayed : IsReplayed calls first tree es placing
-  pub left : (c : List Message) → AreMessagesOf calls c → IsReady c (map call_shown calls.list.items) es seen ready
+  pub left : (c : List Message) → AreMessagesOf calls c → IsReady c calls.list es seen ready
   pub proposed : (c : List Message) → AreMessagesOf calls c → IsProposedSoFar c first es tree
 
 -- before the first entry
 pub none_proposed : (calls : Calls) (first : TreeState) (es : List Entry) (placing : Placing) (seen : ℕ) (ready : List (Rank × Entry)) → es ≡ [] → IsReplayed calls first first [] placing
-    → ((c : List Message) → IsReady c (map call_shown calls.list.items) [] seen ready) → IsProposing calls first first es placing seen ready
+    → ((c : List Message) → IsReady c calls.list [] seen ready) → IsProposing calls first first es placing seen ready
 none_proposed calls first es placing seen ready none replayed left =
     subst (λ (xs : List Entry). IsProposing calls first first xs placing seen ready) (sym none) (record { replayed = replayed; left = λ c is. left c; proposed = λ c is. begun })
 
@@ -44,7 +44,7 @@ module _ (calls : Calls) (first tree : TreeState) (es : List Entry) (placing : P
 
   -- one more entry
   pub one_proposed : front < calls.messages → (new : TreeState) (behind : Placing) (later : ℕ) (left : List (Rank × Entry)) (entry : Entry)
-      → ((c : List Message) → AreMessagesOf calls c → IsPlacedNext c (map call_shown calls.list.items) tree new es later left entry)
+      → ((c : List Message) → AreMessagesOf calls c → IsPlacedNext c calls.list tree new es later left entry)
       → IsReplayed calls first new (es ++ entry ∷ []) behind → IsProposing calls first new (es ++ entry ∷ []) behind later left
   one_proposed within new behind later left entry next replayed = record {
     replayed = replayed;
@@ -57,7 +57,7 @@ module _ (calls : Calls) (first tree : TreeState) (es : List Entry) (placing : P
 
 -- one entry more, and there is room for one less
 pub one_less : (calls : Calls) (first new : TreeState) (es items : List Entry) (entry : Entry) (behind : Placing) → items ≡ es ++ entry ∷ [] → IsReplayed calls first new (es ++ entry ∷ []) behind
-    → length calls.list.items - length items < length calls.list.items - length es
+    → length calls.list - length items < length calls.list - length es
 one_less calls first new es items entry behind more replayed =
     let within = entries_within calls first new (es ++ entry ∷ []) behind replayed in
     omega (arith, within, length-append es (entry ∷ []), ap length more)

@@ -1,5 +1,5 @@
 -- The entries that may come next: behind a call that is taken in, and behind an entry that is placed.
-use Rattle.std.proofs.Common.{◌≡◌, ℕ, ◌+◌, ◌<◌, ◌≤◌, List, [], ◌∷◌, ◌++◌, length, get_or, Some, sym, ap, subst, ◌∙◌, inl, inr, arith}
+use Rattle.std.proofs.Common.{◌≡◌, ℕ, zero, suc, ◌+◌, ◌<◌, ◌≤◌, List, [], ◌∷◌, ◌++◌, length, get_or, Some, None, sym, ap, subst, ◌∙◌, inl, inr, arith}
 use Rattle.std.specs.Prelude.{slice_get, map, option_map, Contains}
 use Rattle.std.proofs.lemmas.Bool.{cases_lt, cases_eq}
 use Rattle.std.proofs.lemmas.Option.{same_Some, slice_get_within, slice_get-get_or, slice_get-map}
@@ -21,20 +21,19 @@ use Rattle.fa_propose.proofs.RankLemmas.{rank_is_one, ranked_place}
 
 -- ---- the calls of the list
 
--- the call that stands at a place of the list, as it is shown
-pub call_here : (items xs : List Call) (seen : ℕ) (call : Call) → xs ≡ items → seen < length xs → call ≡ get_or xs seen call → slice_get (map call_shown items) seen ≡ Some (call_shown call)
-call_here items xs seen call same within is =
-    let stands : slice_get items seen ≡ Some call =
-    subst (λ (ys : List Call). slice_get ys seen ≡ Some call) same (slice_get-get_or xs seen call within ∙ ap (λ (x : Call). Some x) (sym is)) in
-    slice_get-map call_shown items seen ∙ ap (option_map call_shown) stands
+-- where no call stands, the list has ended
+pub past_end : (calls : List PlainCall) (seen : ℕ) → slice_get calls seen ≡ None → length calls ≤ seen
+past_end [] seen none = omega arith
+past_end (call ∷ calls) zero none = absurd cc
+past_end (call ∷ calls) (suc seen) none = omega (arith, past_end calls seen none)
 
 -- ---- at first
 
 -- no call is looked at
 pub none_ready : (c : List Message) (calls : List PlainCall) (seen : ℕ) (ready : List (Rank × Entry)) → seen ≡ 0 → ready ≡ [] → IsReady c calls [] seen ready
-none_ready c calls seen ready zero empty = record {
+none_ready c calls seen ready start empty = record {
   each = λ rank entry has. absurd (let gone : Contains [] (rank, entry) = subst (λ (ps : List (Rank × Entry)). Contains ps (rank, entry)) empty has in omega (arith, gone.1));
-  complete = λ place call before. absurd (omega (arith, before, zero));
+  complete = λ place call before. absurd (omega (arith, before, start));
   placed = λ place call there has. absurd (omega (arith, has.1));
 }
 

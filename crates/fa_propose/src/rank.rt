@@ -35,7 +35,7 @@ impl Rank {
                 position: call.asked,
             };
         };
-        let group = if call.operation.keeps_tree() {
+        let group = if call.operation().keeps_tree() {
             Group::Unchanging
         } else {
             Group::Changing

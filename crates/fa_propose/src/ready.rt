@@ -1,9 +1,8 @@
 //! Which calls may come next, in the order in which they are tried.
 
-ghost use Rattle.std.specs.Prelude.{◌≡◌, ◌∷◌, ◌++◌, [], List, map, AllPairs, IfOk, IfSome, OnOk};
+ghost use Rattle.std.specs.Prelude.{◌≡◌, ◌∷◌, ◌++◌, [], List, AllPairs, IfOk, IfSome, OnOk};
 ghost use Rattle.fa_capture.specs.Message.{Message};
 ghost use Rattle.fa_ledger.specs.Calls.{call_shown};
-ghost use Rattle.fa_ledger.specs.Operations.{operation_shown};
 ghost use Rattle.fa_ledger.specs.declared.calls.Calls.{Calls as TheCalls};
 ghost use Rattle.fa_tree.specs.State.{TreeState};
 ghost use Rattle.fa_order.specs.declared.entry.Entry.{Entry as TheEntry};
@@ -33,7 +32,7 @@ pub(crate) struct Ready {
 impl Ready {
     /// None, before the first call is looked at.
     pub fn new(alloc: Global) -> Self
-        ensures { (c : List Message) (calls : TheCalls) → IsReady c (map call_shown calls.list.items) [] result.seen result.entries.entries }
+        ensures { (c : List Message) (calls : TheCalls) → IsReady c calls.list [] result.seen result.entries.entries }
     {
         Ready {
             entries: BTreeMap::new(alloc),
@@ -44,15 +43,16 @@ impl Ready {
     /// Takes in the calls that were sent up to the front of the order so far.
     pub fn admit(&mut self, calls: &Calls<'_>, front: usize) -> Result<(), AllocError>
         ensures { OnOk result ((c : List Message) (es : List TheEntry) → AreMessagesOf calls.now c → IsFront c es front
-            → IsReady c (map call_shown calls.now.list.items) es self.old.seen self.old.entries.entries
-            → IsReady c (map call_shown calls.now.list.items) es self.new.seen self.new.entries.entries
-            × AreAllSeen c (map call_shown calls.now.list.items) es self.new.seen) }
+            → IsReady c calls.now.list es self.old.seen self.old.entries.entries
+            → IsReady c calls.now.list es self.new.seen self.new.entries.entries
+            × AreAllSeen c calls.now.list es self.new.seen) }
     {
-        while let Some(call) = calls.list.get(self.seen) {
+        while self.seen < calls.list.len() {
+            let call = calls.list.call(self.seen);
             if front < call.asked as usize {
                 break;
             }
-            self.offer(call)?;
+            self.offer(&call)?;
             self.seen += 1;
         }
         Ok(())
@@ -77,14 +77,14 @@ impl Ready {
         tree: &mut Tree,
         placing: &mut Placing,
     ) -> Result<Option<Entry>, AllocError>
-        requires { IsPlacing (map call_shown replay.old.list.items) replay.old.messages placing.old }
+        requires { IsPlacing replay.old.list replay.old.messages placing.old }
         ensures replayed { IfOk result (λ next. (first : TreeState) (es : List TheEntry) → IsReplayed replay.old first tree.old es placing.old
             → IfSome next (λ entry. IsReplayed replay.old first tree.new (es ++ entry ∷ []) placing.new)) }
         ensures next { IfOk result (λ next. (c : List Message) (first : TreeState) (es : List TheEntry) → AreMessagesOf replay.old c
             → IsReplayed replay.old first tree.old es placing.old
-            → IsReady c (map call_shown replay.old.list.items) es self.old.seen self.old.entries.entries
-            → AreAllSeen c (map call_shown replay.old.list.items) es self.old.seen
-            → IsGoneOnSo c (map call_shown replay.old.list.items) tree.old tree.new es self.new.seen self.new.entries.entries next) }
+            → IsReady c replay.old.list es self.old.seen self.old.entries.entries
+            → AreAllSeen c replay.old.list es self.old.seen
+            → IsGoneOnSo c replay.old.list tree.old tree.new es self.new.seen self.new.entries.entries next) }
         ensures same { replay.new ≡ replay.old }
     {
         let Some((rank, entry)) = place_first(&self.entries, replay, tree, placing)? else {
@@ -102,7 +102,7 @@ fn place_first(
     tree: &mut Tree,
     placing: &mut Placing,
 ) -> Result<Option<(Rank, Entry)>, AllocError>
-    requires { IsPlacing (map call_shown replay.old.list.items) replay.old.messages placing.old }
+    requires { IsPlacing replay.old.list replay.old.messages placing.old }
     ensures replayed { IfOk result (λ found. (first : TreeState) (es : List TheEntry) → IsReplayed replay.old first tree.old es placing.old
         → IfSome found (λ found. IsReplayed replay.old first tree.new (es ++ found.1 ∷ []) placing.new)) }
     ensures tried { IfOk result (λ found. (c : List Message) (first : TreeState) (es : List TheEntry) → AreMessagesOf replay.old c
@@ -127,22 +127,26 @@ fn entry_of(call: &Call<'_>) -> Entry
 {
     Entry {
         at: call.asked,
-        wrote: count_proposed(&call.operation),
+        wrote: count_proposed(call),
     }
 }
 
 /// The count of bytes that is proposed for a call: all of a WRITE without an answer.
-fn count_proposed(operation: &Operation<'_>) -> Option<u32>
-    ensures { result ≡ proposals.count_proposed (operation_shown operation.now) }
+fn count_proposed(call: &Call<'_>) -> Option<u32>
+    ensures { result ≡ proposals.count_proposed (call_shown call.now).operation }
 {
-    match operation {
+    // The messages of an answered call are not read for it.
+    if call.is_answered() {
+        return None;
+    }
+    match call.operation() {
         Operation::Act(
             Action::Write {
                 size,
                 outcome: Outcome::Unanswered,
                 ..
             },
-        ) => Some(*size),
+        ) => Some(size),
         _ => None,
     }
 }

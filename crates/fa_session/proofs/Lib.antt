@@ -3,6 +3,7 @@ pub mod GrowthLemmas
 pub mod RequestLemmas
 pub mod ShowsLemmas
 pub mod MessageLemmas
+pub mod WaitLemmas
 pub mod OutstandingLemmas
 pub mod TableLemmas
 pub mod LawsLemmas

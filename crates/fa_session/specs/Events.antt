@@ -15,8 +15,8 @@ pub data PlainEvent : Type 0 where
 
 -- what an event shows
 abbrev pub event_shown : Event → PlainEvent
-event_shown (declared.Asked at request) = Asked at (request_shown request)
-event_shown (declared.Answered at asked request reply) = Answered at asked (request_shown request) (reply_shown reply)
+event_shown (declared.Asked at message) = Asked at (request_shown message.request)
+event_shown (declared.Answered at asked messages) = Answered at asked (request_shown messages.to.request) (reply_shown messages.reply)
 event_shown (declared.Notice at) = Notice at
 
 -- The event of the message that follows these messages: a request, the reply to the request that it answers, or a
@@ -25,3 +25,9 @@ abbrev pub IsEvent : List Message → Message → PlainEvent → Type 0
 IsEvent before m (Asked at r) = (at ≡ length before) × IsRequestMessage m r
 IsEvent before m (Answered at asked r reply) = (at ≡ length before) × Answers before m asked r × IsReply r m.bytes reply
 IsEvent before m (Notice at) = (at ≡ length before) × IsNotificationMessage m
+
+-- The bytes of the event's own message, if it has them, are these. A notification has none.
+abbrev pub HasBytes : List ℕ → Event → Type 0
+HasBytes bytes (declared.Asked at message) = message.bytes.now ≡ bytes
+HasBytes bytes (declared.Answered at asked messages) = messages.bytes.now ≡ bytes
+HasBytes bytes (declared.Notice at) = Unit {0}

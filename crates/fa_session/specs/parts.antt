@@ -4,3 +4,5 @@
 pub mod Steps
 -- what a session's fields show
 pub mod View
+-- a request that waits, by its message alone
+pub mod RequestSaid

@@ -13,5 +13,5 @@ mod session;
 mod waiting;
 
 pub use error::SessionError;
-pub use event::Event;
+pub use event::{Event, ReplyMessages, RequestMessage};
 pub use session::Session;

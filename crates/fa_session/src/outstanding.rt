@@ -58,13 +58,13 @@ impl<'a> Outstanding<'a> {
     /// Takes no memory, in expected constant time.
     pub fn get(&self, unique: u64) -> Option<&Waiting<'a>>
         ensures found { option_copied result ≡ lookup (nat_eq unique) self.now }
-        ensures unique { IfSome result (λ waiting. waiting.now.request.unique ≡ unique) }
+        ensures unique { IfSome result (λ waiting. waiting.now.unique ≡ unique) }
     {
         if unique > self.highest {
             return None;
         }
         match &self.newest {
-            Some(newest) if newest.request.unique == unique => Some(newest),
+            Some(newest) if newest.unique == unique => Some(newest),
             _ => self.earlier.get(&unique),
         }
     }
@@ -74,14 +74,14 @@ impl<'a> Outstanding<'a> {
     ///
     /// Expected constant time but for growing.
     pub fn insert(&mut self, waiting: Waiting<'a>) -> Result<(), SessionError>
-        ensures inserted { OnOk result ((unique : ℕ) → lookup (nat_eq unique) self.new ≡ cond (nat_eq waiting.entry.request.unique unique) (Some waiting.entry) (lookup (nat_eq unique) self.old)) }
-        ensures memory { IfErr result (λ error. (error ≡ Memory) × (lookup (nat_eq waiting.entry.request.unique) self.old ≡ None)) }
+        ensures inserted { OnOk result ((unique : ℕ) → lookup (nat_eq unique) self.new ≡ cond (nat_eq waiting.entry.unique unique) (Some waiting.entry) (lookup (nat_eq unique) self.old)) }
+        ensures memory { IfErr result (λ error. (error ≡ Memory) × (lookup (nat_eq waiting.entry.unique) self.old ≡ None)) }
         ensures unchanged { OnErr result (self.new ≡ self.old) }
     {
-        let unique = waiting.request.unique;
+        let unique = waiting.unique;
         if unique > self.highest {
             if let Some(newest) = self.newest {
-                self.earlier.insert(newest.request.unique, newest)?;
+                self.earlier.insert(newest.unique, newest)?;
             }
             self.newest = Some(waiting);
             self.highest = unique;
@@ -109,10 +109,10 @@ impl<'a> Outstanding<'a> {
 
 /// Whether this request is there and has this unique.
 fn has_unique(waiting: &Option<Waiting<'_>>, unique: u64) -> bool
-    ensures { result ≡ option_map_or (λ w. nat_eq w.request.unique unique) waiting.now false }
+    ensures { result ≡ option_map_or (λ w. nat_eq w.unique unique) waiting.now false }
 {
     match waiting {
-        Some(waiting) => waiting.request.unique == unique,
+        Some(waiting) => waiting.unique == unique,
         None => false,
     }
 }

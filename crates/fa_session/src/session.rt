@@ -7,14 +7,14 @@ ghost use Rattle.fa_capture.specs.declared.limits.TheConstants.{MAX_MESSAGES};
 ghost use Rattle.fa_bodies.specs.Requests.{request_shown};
 ghost use Rattle.fa_session.specs.declared.error.SessionError.TheVariants.{Memory};
 ghost use Rattle.fa_session.specs.Allowed.{IsAllowed};
-ghost use Rattle.fa_session.specs.Events.{event_shown, IsEvent};
+ghost use Rattle.fa_session.specs.Events.{event_shown, IsEvent, HasBytes};
 ghost use Rattle.fa_session.specs.Refusals.{IsRefusal};
 ghost use Rattle.fa_session.specs.Shows.{Shows};
 ghost use Rattle.fa_session.specs.parts.Steps.{request_checked, waiting_for, NotesRequest, IsMemoryWanted, NotesReply, noticed};
-ghost use Rattle.fa_session.specs.parts.View.{waiting_shown};
+ghost use Rattle.fa_session.specs.parts.View.{asked_shown};
 
 use crate::error::SessionError;
-use crate::event::Event;
+use crate::event::{Event, ReplyMessages, RequestMessage};
 use crate::outstanding::Outstanding;
 use crate::rules::{agreed_flags, check_reply, is_init, may_replace};
 use crate::waiting::Waiting;
@@ -77,7 +77,8 @@ impl<'a> Session<'a> {
     /// and BATCH_FORGET have no answer, and a notification, whose unique is 0, answers nothing. An INTERRUPT may repeat
     /// the unique of an outstanding INTERRUPT and takes its place.
     ///
-    /// The message's number is that of the messages accepted before it. Fewer than 16,777,216 were.
+    /// The message's number is that of the messages accepted before it. Fewer than 16,777,216 were. A request has
+    /// the bytes of `packet`, and so has a reply. The request that it answers has bytes that are this request.
     ///
     /// # Errors
     ///
@@ -99,14 +100,15 @@ impl<'a> Session<'a> {
     ///
     /// # Cost
     ///
-    /// Expected constant time, as of a hash table, but for the bytes of names and of listings, which are read once. The
-    /// table keeps a number and a [`Request`] an outstanding request, and grows by doubling. No message bytes are
-    /// copied.
+    /// Expected constant time, as of a hash table, but for the bytes of names and of listings, which are read once, and
+    /// those of an outstanding request once more for each message with its unique. The table keeps two numbers and where
+    /// the message lies for each outstanding request, and grows by doubling. No message bytes are copied.
     pub fn accept(&mut self, packet: &Packet<'a>) -> Result<Event<'a>, SessionError>
         requires { self.old.messages < MAX_MESSAGES }
         ensures passes { OnOk result ((c : List Message) → Shows c self.old → IsAllowed c (message packet.now)) }
         ensures shows { OnOk result ((c : List Message) → Shows c self.old → Shows (c ++ message packet.now ∷ []) self.new) }
         ensures event { IfOk result (λ event. (c : List Message) → Shows c self.old → IsEvent c (message packet.now) (event_shown event)) }
+        ensures bytes { IfOk result (HasBytes packet.now.bytes.now) }
         ensures refused { IfErr result (λ error. (c : List Message) → Shows c self.old → IsRefusal c (message packet.now) error) }
         ensures unchanged { OnErr result (self.new ≡ self.old) }
     {
@@ -114,8 +116,12 @@ impl<'a> Session<'a> {
             Direction::ToServer => {
                 let request = request(packet)?;
                 self.check_request(&request)?;
-                let at = self.note_request(&request)?;
-                Ok(Event::Asked { at, request })
+                let message = RequestMessage {
+                    bytes: packet.bytes,
+                    request,
+                };
+                let at = self.note_request(&message)?;
+                Ok(Event::Asked { at, message })
             }
             Direction::FromServer => {
                 let head = reply_head(packet)?;
@@ -126,19 +132,22 @@ impl<'a> Session<'a> {
                     let at = self.next_number();
                     return Ok(Event::Notice { at });
                 }
-                let Some(asked) = self.waiting_for(head.unique) else {
+                let Some((asked, message)) = self.waiting_for(head.unique) else {
                     return Err(SessionError::Refused(codes::NO_REQUEST_WAITS));
                 };
-                let reply = reply_body(&asked.request, packet)?;
-                check_reply(&asked.request, &reply)?;
-                let flags = agreed_flags(&asked.request.body, &reply);
-                let asked = *asked;
+                let reply = reply_body(&message.request, packet)?;
+                check_reply(&message.request, &reply)?;
+                let flags = agreed_flags(&message.request.body, &reply);
                 let at = self.note_reply(head.unique, flags);
+                let messages = ReplyMessages {
+                    to: message,
+                    bytes: packet.bytes,
+                    reply,
+                };
                 Ok(Event::Answered {
                     at,
-                    asked: asked.at,
-                    request: asked.request,
-                    reply,
+                    asked,
+                    messages,
                 })
             }
         }
@@ -158,12 +167,16 @@ impl<'a> Session<'a> {
         self.len() == 0
     }
 
-    /// The outstanding request with this unique.
-    fn waiting_for(&self, unique: u64) -> Option<&Waiting<'a>>
-        ensures found { option_map (λ w. waiting_shown w.now) result ≡ waiting_for self.now unique }
-        ensures unique { IfSome result (λ waiting. waiting.now.request.unique ≡ unique) }
+    /// The outstanding request with this unique, read again, behind the number of its message.
+    fn waiting_for(&self, unique: u64) -> Option<(u32, RequestMessage<'a>)>
+        ensures found { option_map (λ w. asked_shown w.0 w.1) result ≡ waiting_for self.now unique }
+        ensures unique { IfSome result (λ w. w.1.request.unique ≡ unique) }
     {
-        self.waiting.get(unique)
+        let Some(waiting) = self.waiting.get(unique) else {
+            return None;
+        };
+        let message = waiting.message();
+        Some((waiting.at, message))
     }
 
     /// Looks whether a request keeps the rules after the messages so far. The error is the code of the first rule that
@@ -187,7 +200,7 @@ impl<'a> Session<'a> {
         if self.negotiated().is_none() {
             return Err(codes::BEFORE_INIT_ANSWERED);
         }
-        let Some(waiting) = self.waiting_for(request.unique) else {
+        let Some((_, waiting)) = self.waiting_for(request.unique) else {
             return Ok(());
         };
         if !may_replace(&waiting.request, request) {
@@ -208,20 +221,17 @@ impl<'a> Session<'a> {
     }
 
     /// Notes a request, which is outstanding from now on if it may be answered: the number of its message.
-    fn note_request(&mut self, request: &Request<'a>) -> Result<u32, SessionError>
+    fn note_request(&mut self, message: &RequestMessage<'a>) -> Result<u32, SessionError>
         requires { self.old.messages < MAX_MESSAGES }
         ensures at { IfOk result (λ at. at ≡ self.old.messages) }
-        ensures noted { OnOk result (NotesRequest self.old self.new (request_shown request.now)) }
-        ensures memory { IfErr result (λ error. (error ≡ Memory) × IsMemoryWanted self.old (request_shown request.now)) }
+        ensures noted { OnOk result (NotesRequest self.old self.new (request_shown message.now.request)) }
+        ensures memory { IfErr result (λ error. (error ≡ Memory) × IsMemoryWanted self.old (request_shown message.now.request)) }
         ensures unchanged { OnErr result (self.new ≡ self.old) }
     {
-        if !request.body.may_be_answered() {
+        if !message.request.body.may_be_answered() {
             return Ok(self.next_number());
         }
-        let waiting = Waiting {
-            at: self.messages,
-            request: *request,
-        };
+        let waiting = Waiting::new(self.messages, message);
         self.waiting.insert(waiting)?;
         Ok(self.next_number())
     }

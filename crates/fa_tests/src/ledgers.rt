@@ -10,7 +10,7 @@ use bitflags::Flags;
 use fa_bodies::errno::{EACCES, EIO, ENOENT};
 use fa_capture::codes::{CLOSED_HANDLE, FORGOTTEN_NODE, FORGOTTEN_TOO_OFTEN, NODE_ID_NOT_ALLOWED};
 use fa_capture::{Direction, read_capture};
-use fa_ledger::{Call, Calls, NodeName, Outcome};
+use fa_ledger::{Call, CallList, Calls, NodeName, Outcome};
 use fa_sample::Sample;
 use std::alloc::Global;
 
@@ -412,7 +412,7 @@ static CALLS: [Called; 10] = [
 
 /// The error that came of a call, or 0 where none did, and whether it was answered.
 fn ended(call: &Call<'_>) -> (i32, bool) {
-    match call.operation.ended() {
+    match call.operation().ended() {
         Outcome::Fails(error) => (error, true),
         Outcome::Succeeds(()) => (0, true),
         Outcome::Unanswered => (0, false),
@@ -472,8 +472,12 @@ fn is_call(found: &Call<'_>, shows: &Shows) -> bool {
 /// Whether the calls are these, and as many messages were handed in.
 fn are_calls(calls: &Calls<'_>, shown: &[Shows], messages: usize) -> bool {
     let mut are_calls = calls.list.len() == shown.len();
-    for (call, shows) in calls.list.iter().zip(shown) {
-        are_calls = are_calls && is_call(call, shows);
+    for (place, shows) in shown.iter().enumerate() {
+        are_calls = are_calls
+            && calls
+                .list
+                .get(place)
+                .is_some_and(|call| is_call(&call, shows));
     }
     are_calls && calls.messages as usize == messages && are_found(calls)
 }
@@ -496,7 +500,7 @@ fn are_found(calls: &Calls<'_>) -> bool {
             if place != count || calls.list.get(place).is_none_or(|call| call.asked != at) {
                 return false;
             }
-            count += 1;
+            count = count.saturating_add(1);
         }
     }
     count == calls.list.len()
@@ -555,16 +559,18 @@ static CHOICES: [(Sent, Choices); 19] = [
 
 /// Whether an order may name the calls of these requests so, and the four in front of them, which are answered, without a count
 /// alone.
-fn are_choices(calls: &[Call<'_>], rows: &[(Sent, Choices)]) -> Option<bool> {
-    let (front, asked) = calls.split_at_checked(4)?;
-    let mut are_choices = asked.len() == rows.len();
-    for call in front {
-        are_choices = are_choices && choices(call) == ALONE;
+fn are_choices(calls: &CallList<'_>, rows: &[(Sent, Choices)]) -> bool {
+    let mut are_choices = calls.len() == rows.len().saturating_add(4);
+    for place in 0..4 {
+        are_choices = are_choices && calls.get(place).is_some_and(|call| choices(&call) == ALONE);
     }
-    for (call, (_, expected)) in asked.iter().zip(rows) {
-        are_choices = are_choices && choices(call) == *expected;
+    for (place, (_, expected)) in (4..usize::MAX).zip(rows) {
+        are_choices = are_choices
+            && calls
+                .get(place)
+                .is_some_and(|call| choices(&call) == *expected);
     }
-    Some(are_choices)
+    are_choices
 }
 
 /// The same of the calls of these requests. None also where a message is refused, or memory was.
@@ -577,7 +583,7 @@ fn have_choices(alloc: Global, rows: &[(Sent, Choices)]) -> Option<bool> {
     let calls = calls_in(alloc, &bytes)?;
     let are_choices = are_choices(&calls.list, rows);
     drop(calls);
-    are_choices
+    Some(are_choices)
 }
 
 /// What an order may name a call with.
@@ -638,16 +644,28 @@ fn gives(call: &Call<'_>, at: u32, names: &[NodeName]) -> bool {
 /// Whether the calls are of 30 LOOKUPs, the messages 2 to 31, which are answered by 32 to 61, of 30 OPENs, 62 to 91, of the
 /// nodes that these give, of OPENDIR, 122, of READDIRPLUS, 124, and of READDIR, 126, which goes on from both of its entries.
 fn are_grown(calls: &Calls<'_>) -> bool {
-    let [front @ .., opendir, listing, further] = calls.list.as_slice() else {
+    let (Some(opendir), Some(listing), Some(further)) = (
+        calls.list.get(60),
+        calls.list.get(61),
+        calls.list.get(62),
+    ) else {
         return false;
     };
-    let mut are_grown = front.len() == 60 && opendir.asked == 122 && listing.handle == Some(122);
-    for (by, (looked_up, opened)) in (32..62u32).zip(front.iter().zip(front.iter().skip(30))) {
+    let mut are_grown = calls.list.len() == 63
+        && opendir.asked == 122
+        && listing.handle == Some(122);
+    for (by, place) in (32..62u32).zip(0..30usize) {
+        let (Some(looked_up), Some(opened)) = (
+            calls.list.get(place),
+            calls.list.get(place.saturating_add(30)),
+        ) else {
+            return false;
+        };
         let id = u64::from(by).saturating_sub(22);
         are_grown = are_grown
-            && gives(looked_up, by, &[Given { id, by }])
+            && gives(&looked_up, by, &[Given { id, by }])
             && opened.node == Given { id, by }
-            && gives(opened, by.saturating_add(60), &[]);
+            && gives(&opened, by.saturating_add(60), &[]);
     }
     let given = [Given { id: 10, by: 32 }, Given { id: 90, by: 125 }];
     let listed = Some(fa_ledger::Listing {
@@ -655,7 +673,7 @@ fn are_grown(calls: &Calls<'_>) -> bool {
         adrift: false,
         shared: false,
     });
-    are_grown && gives(listing, 125, &given) && further.listing == listed
+    are_grown && gives(&listing, 125, &given) && further.listing == listed
 }
 
 /// The sessions and the ledger alone take memory here. An ordinary run has ample memory, so only a run by

@@ -8,7 +8,7 @@ use fa_bodies::ROOT_ID;
 use fa_bodies::errno::EIO;
 use fa_capture::codes::{NODE_ID_NOT_ALLOWED, REPLY_BODY};
 use fa_capture::read_capture;
-use fa_ledger::Call;
+use fa_ledger::CallList;
 use fa_sample::{Listed, Sample};
 use std::alloc::Global;
 
@@ -537,9 +537,12 @@ static REFUSED: [(u16, Row); 3] = [
 ];
 
 /// Whether the calls that list are these, by their numbers, and go on from these.
-fn are_listed(calls: &[Call<'_>], expected: &[Expected]) -> bool {
+fn are_listed(calls: &CallList<'_>, expected: &[Expected]) -> bool {
     let mut rest = expected;
-    for call in calls {
+    for place in 0..calls.len() {
+        let Some(call) = calls.get(place) else {
+            return false;
+        };
         if let Some(listing) = &call.listing {
             let [first, others @ ..] = rest else {
                 return false;

@@ -48,22 +48,21 @@ pub const UNSEEN: Seen = Seen {
 /// What an event shows.
 fn seen_in(event: &Event<'_>) -> Seen {
     match event {
-        Event::Asked { at, request } => Seen {
+        Event::Asked { at, message } => Seen {
             told: Told::Asked(*at),
-            unique: request.unique,
-            node: request.node,
+            unique: message.request.unique,
+            node: message.request.node,
             ..UNSEEN
         },
         Event::Answered {
             at,
             asked,
-            request,
-            reply,
+            messages,
         } => Seen {
             told: Told::Answered(*at, *asked),
-            unique: request.unique,
-            node: request.node,
-            error: match reply {
+            unique: messages.to.request.unique,
+            node: messages.to.request.node,
+            error: match &messages.reply {
                 Reply::Refused(error) => *error,
                 _ => 0,
             },

@@ -88,16 +88,16 @@ nodes_have (one ∷ given) nodes name file has =
 pub step_keeps_node : (old new : TreeState) (call : PlainCall) (wrote : Option ℕ) (so_far : List PlainDirent) (name : NodeName) → Steps old new call wrote so_far
     → IsKnownIn name old → IsKnownIn name new
 step_keeps_node old new call wrote so_far Root s known = (root, refl)
-step_keeps_node old new call wrote so_far (Given id by) s known =
-    subst (IsKnownIn (Given id by)) (sym s.after) (after (ended call.operation))
+step_keeps_node old new call wrote so_far (Given by id) s known =
+    subst (IsKnownIn (Given by id)) (sym s.after) (after (ended call.operation))
   where
     count : ℕ
     count = count_written call.operation wrote
 
-    done : IsKnownIn (Given id by) (tree_done old s.files call call.operation count)
-    done = nodes_keep (given_in (setting old.store s.files call call.operation count []) call call.operation) old.nodes (Given id by) known
+    done : IsKnownIn (Given by id) (tree_done old s.files call call.operation count)
+    done = nodes_keep (given_in (setting old.store s.files call call.operation count []) call call.operation) old.nodes (Given by id) known
 
-    after : (e : Outcome (Unit {0})) → IsKnownIn (Given id by) (tree_by old (tree_done old s.files call call.operation count) e)
+    after : (e : Outcome (Unit {0})) → IsKnownIn (Given by id) (tree_by old (tree_done old s.files call call.operation count) e)
     after (Fails error) = known
     after (Succeeds success) = done
     after Unanswered = done
@@ -248,9 +248,9 @@ name_bound name_of (n ∷ nodes) (m ∷ names) (Some file ∷ files) node name h
 -- the step of a success knows the names of the nodes that its answer gives
 pub step_gives : (old new : TreeState) (call : PlainCall) (wrote : Option ℕ) (so_far : List PlainDirent) (name_of : ℕ → Option NodeName) (node : ℕ) (id by : ℕ)
     → (s : Steps old new call wrote so_far) → map name_of (gives call.operation) ≡ map (λ n. Some n) (names_given call)
-    → Contains (gives call.operation) node → name_of node ≡ Some (Given id by) → IsKnownIn (Given id by) new
+    → Contains (gives call.operation) node → name_of node ≡ Some (Given by id) → IsKnownIn (Given by id) new
 step_gives old new call wrote so_far name_of node id by s named there is =
-    subst (IsKnownIn (Given id by)) (sym s.after) (after call.operation refl (ended call.operation) refl)
+    subst (IsKnownIn (Given by id)) (sym s.after) (after call.operation refl (ended call.operation) refl)
   where
     count : ℕ
     count = count_written call.operation wrote
@@ -258,15 +258,15 @@ step_gives old new call wrote so_far name_of node id by s named there is =
     g : Setting
     g = setting old.store s.files call call.operation count so_far
 
-    done : IsKnownIn (Given id by) (tree_done old s.files call call.operation count)
+    done : IsKnownIn (Given by id) (tree_done old s.files call call.operation count)
     done =
         let hold = checks_hold old new call wrote so_far s in
         let have = success_has g call.operation hold.1.1.0 hold.1.1.1.1.1.0 in
-        let found = name_bound name_of (gives call.operation) (names_given call) (said g call.operation).files node (Given id by) have named there is in
-        nodes_have (given_in (setting old.store s.files call call.operation count []) call call.operation) old.nodes (Given id by) found.0
-        (subst (λ (given : List (NodeName × FileId)). Contains given (Given id by, found.0)) (given_whatever old.store s.files call call.operation count so_far) found.1)
+        let found = name_bound name_of (gives call.operation) (names_given call) (said g call.operation).files node (Given by id) have named there is in
+        nodes_have (given_in (setting old.store s.files call call.operation count []) call call.operation) old.nodes (Given by id) found.0
+        (subst (λ (given : List (NodeName × FileId)). Contains given (Given by id, found.0)) (given_whatever old.store s.files call call.operation count so_far) found.1)
 
-    after : (o : PlainOperation) → call.operation ≡ o → (e : Outcome (Unit {0})) → ended o ≡ e → IsKnownIn (Given id by) (tree_by old (tree_done old s.files call call.operation count) e)
+    after : (o : PlainOperation) → call.operation ≡ o → (e : Outcome (Unit {0})) → ended o ≡ e → IsKnownIn (Given by id) (tree_by old (tree_done old s.files call call.operation count) e)
     after o asks (Fails error) fails =
         let none : gives o ≡ [] = errors_give_no_node o error fails in
         let nowhere : Contains [] node = subst (λ (nodes : List ℕ). Contains nodes node) (ap gives asks ∙ none) there in

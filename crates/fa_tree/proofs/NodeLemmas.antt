@@ -30,24 +30,24 @@ pairs_total = then_total (on_total (λ (p : ℕ × ℕ). p.0) nat_cmp_total) (on
 
 antisymm : (x y : NodeName) → node_cmp x y ≡ ordering_reverse (node_cmp y x)
 antisymm Root Root = refl
-antisymm Root (Given id by) = refl
-antisymm (Given id by) Root = refl
-antisymm (Given id by) (Given other since) = pairs_total.antisymm (id, by) (other, since)
+antisymm Root (Given by id) = refl
+antisymm (Given by id) Root = refl
+antisymm (Given by id) (Given since other) = pairs_total.antisymm (id, by) (other, since)
 
 trans : (x y z : NodeName) → node_cmp x y ≡ Less → node_cmp y z ≡ Less → node_cmp x z ≡ Less
 trans Root Root z xy yz = yz
-trans Root (Given id by) Root xy yz = absurd cc
-trans Root (Given id by) (Given other since) xy yz = refl
-trans (Given id by) Root z xy yz = absurd cc
-trans (Given id by) (Given other since) Root xy yz = absurd cc
-trans (Given id by) (Given other since) (Given third last) xy yz = pairs_total.trans (id, by) (other, since) (third, last) xy yz
+trans Root (Given by id) Root xy yz = absurd cc
+trans Root (Given by id) (Given since other) xy yz = refl
+trans (Given by id) Root z xy yz = absurd cc
+trans (Given by id) (Given since other) Root xy yz = absurd cc
+trans (Given by id) (Given since other) (Given last third) xy yz = pairs_total.trans (id, by) (other, since) (third, last) xy yz
 
 congr : (x y z : NodeName) → node_cmp x y ≡ Equal → node_cmp x z ≡ node_cmp y z
 congr Root Root z xy = refl
-congr Root (Given id by) z xy = absurd cc
-congr (Given id by) Root z xy = absurd cc
-congr (Given id by) (Given other since) Root xy = refl
-congr (Given id by) (Given other since) (Given third last) xy = pairs_total.congr (id, by) (other, since) (third, last) xy
+congr Root (Given by id) z xy = absurd cc
+congr (Given by id) Root z xy = absurd cc
+congr (Given by id) (Given since other) Root xy = refl
+congr (Given by id) (Given since other) (Given last third) xy = pairs_total.congr (id, by) (other, since) (third, last) xy
 
 pub node_total : IsTotalOrder node_cmp
 node_total = record { antisymm = antisymm; trans = trans; congr = congr }
@@ -63,9 +63,9 @@ pairs_same Greater s tie = absurd cc
 
 pub node_same : IsAntisymmetric node_cmp
 node_same Root Root tie = refl
-node_same Root (Given id by) tie = absurd cc
-node_same (Given id by) Root tie = absurd cc
-node_same (Given id by) (Given other since) tie =
+node_same Root (Given by id) tie = absurd cc
+node_same (Given by id) Root tie = absurd cc
+node_same (Given by id) (Given since other) tie =
     let both : (nat_cmp id other ≡ Equal) × (nat_cmp by since ≡ Equal) = pairs_same (nat_cmp id other) (nat_cmp by since) tie in
     rw (numbers_same id other both.0, numbers_same by since both.1) refl
 
@@ -77,13 +77,19 @@ both_tied Less s = refl
 both_tied Equal s = refl
 both_tied Greater s = refl
 
+either_way : (a b : Bool) → (a && b) ≡ (b && a)
+either_way true true = refl
+either_way true false = refl
+either_way false true = refl
+either_way false false = refl
+
 -- the derived equality is that of the order
 ties : (x y : NodeName) → eq_by_cmp node_cmp x y ≡ derived.eq-value.it x y
 ties Root Root = refl
-ties Root (Given id by) = refl
-ties (Given id by) Root = refl
-ties (Given id by) (Given other since) =
-    both_tied (nat_cmp id other) (nat_cmp by since) ∙ (rw (numbers_tied id other, numbers_tied by since) refl)
+ties Root (Given by id) = refl
+ties (Given by id) Root = refl
+ties (Given by id) (Given since other) =
+    both_tied (nat_cmp id other) (nat_cmp by since) ∙ (rw (numbers_tied id other, numbers_tied by since) (either_way (nat_eq id other) (nat_eq by since)))
 
 -- ---- what a table of nodes shows
 

@@ -76,7 +76,7 @@ bound_within given part whole within may = record {
 
 file_within : (part whole : TreeState) → NodesWithin part.nodes whole.nodes → (name : NodeName) (file : FileId) → file_of part name ≡ Some file → file_of whole name ≡ Some file
 file_within part whole within Root file is = is
-file_within part whole within (Given id by) file is = within (Given id by) file is
+file_within part whole within (Given by id) file is = within (Given by id) file is
 
 other_within : (part whole : TreeState) → NodesWithin part.nodes whole.nodes → (name : Option NodeName) (other : Option FileId) → other_of part name ≡ Some other → other_of whole name ≡ Some other
 other_within part whole within None other is = is

@@ -117,9 +117,9 @@ pub data IsBelow (s : Store) : (above : FileId) → (below : FileId) → Type 0 
 -- names of nodes in order: the root first, then by id and reply
 abbrev pub node_cmp : NodeName → NodeName → Ordering
 node_cmp Root Root = Equal
-node_cmp Root (Given id by) = Less
-node_cmp (Given id by) Root = Greater
-node_cmp (Given id by) (Given other_id other_by) = ordering_then (nat_cmp id other_id) (nat_cmp by other_by)
+node_cmp Root (Given by id) = Less
+node_cmp (Given by id) Root = Greater
+node_cmp (Given by id) (Given other_by other_id) = ordering_then (nat_cmp id other_id) (nat_cmp by other_by)
 
 -- A directory that is open: which it is, the names that were in it at some moment since it was opened, and for each of these
 -- whose file stayed in it under that name since then, this file.
@@ -139,4 +139,4 @@ pub record TreeState : Type 0 where
 -- the file that the name of a node stands for, if it stands for one
 abbrev pub file_of : TreeState → NodeName → Option FileId
 file_of t Root = Some root
-file_of t (Given id by) = get t.nodes (Given id by)
+file_of t (Given by id) = get t.nodes (Given by id)

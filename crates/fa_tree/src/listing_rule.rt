@@ -1,9 +1,8 @@
 //! The rule of listings.
 
-ghost use Rattle.std.specs.Prelude.{◌≡◌, ◌↔◌, ◌<◌, length, map, All, IsTrue, IfOk};
+ghost use Rattle.std.specs.Prelude.{◌≡◌, ◌↔◌, ◌<◌, length, All, IsTrue, IfOk};
 ghost use Rattle.fa_bodies.specs.Dirents.{dirent_shown};
 ghost use Rattle.fa_bodies.specs.Listing.{entries_left};
-ghost use Rattle.fa_ledger.specs.Calls.{call_shown};
 ghost use Rattle.fa_ledger.specs.SoFar.{listing_so_far};
 ghost use Rattle.fa_tree.specs.Directories.{judged, WasThere, IsTypedAsStayed, IsThereIfLookedUp, IsListed};
 ghost use Rattle.fa_tree.specs.parts.ListingParts.{IsTypedAs, IsAllowed};
@@ -60,8 +59,8 @@ impl Stored {
         entries: Entries<'_>,
         size: u32,
     ) -> Result<bool, AllocError>
-        requires { k < length replay.old.list.items }
-        ensures listed { IfOk result (λ is. IsTrue is ↔ IsListed self.now.store (open_of names.now) listing.now size (listing_so_far (map call_shown replay.old.list.items) k) (entries_left entries.entry)) }
+        requires { k < length replay.old.list }
+        ensures listed { IfOk result (λ is. IsTrue is ↔ IsListed self.now.store (open_of names.now) listing.now size (listing_so_far replay.old.list k) (entries_left entries.entry)) }
         ensures same { replay.new ≡ replay.old }
     {
         if !self.all_allowed(names, entries) {

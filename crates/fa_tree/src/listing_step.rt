@@ -1,6 +1,6 @@
 //! One step of a call that lists: READDIR and READDIRPLUS.
 
-ghost use Rattle.std.specs.Prelude.{◌≡◌, ◌≢◌, ◌↔◌, ◌<◌, ℕ, Option, None, Some, length, map, [], All, IsTrue, IsFalse, IfOk, IfSome, IfNone, IfErr, OnOk, OnErr};
+ghost use Rattle.std.specs.Prelude.{◌≡◌, ◌≢◌, ◌↔◌, ◌<◌, ℕ, Option, None, Some, length, [], All, IsTrue, IsFalse, IfOk, IfSome, IfNone, IfErr, OnOk, OnErr};
 ghost use Rattle.std.specs.FinMap.{get};
 ghost use Rattle.std.specs.Option.{option_map};
 ghost use Rattle.fa_capture.specs.Checks.{AllHold, FirstFailure};
@@ -66,8 +66,8 @@ impl Tree {
         size: u32,
         entries: Entries<'_>,
     ) -> Result<bool, AllocError>
-        requires { k < length replay.old.list.items }
-        ensures are { IfOk result (λ are. IsTrue are ↔ EntriesAre self.now.store size (Some (open_of at.now.names)) call.now.listing (listing_so_far (map call_shown replay.old.list.items) k) (entries_left entries.entry)) }
+        requires { k < length replay.old.list }
+        ensures are { IfOk result (λ are. IsTrue are ↔ EntriesAre self.now.store size (Some (open_of at.now.names)) call.now.listing (listing_so_far replay.old.list k) (entries_left entries.entry)) }
         ensures same { replay.new ≡ replay.old }
     {
         match &call.listing {
@@ -129,9 +129,9 @@ impl Tree {
         size: u32,
         entries: Entries<'_>,
     ) -> Result<Vec<(NodeName, FileId)>, StepError>
-        requires { k < length replay.old.list.items }
-        ensures ok { IfOk result (λ nodes. AllHold (entries_checks self.now.nodes self.now.store (directory_shown at.now) call.now.listing size (listing_so_far (map call_shown replay.old.list.items) k) (names_given (call_shown call.now)) (entries_left entries.entry)) × (nodes.items ≡ bound (names_given (call_shown call.now)) (files_listed self.now.store (open_of at.now.names).directory (entries_left entries.entry)))) }
-        ensures refused { IfErr result (λ e. TellsSuch e (FirstFailure (entries_checks self.now.nodes self.now.store (directory_shown at.now) call.now.listing size (listing_so_far (map call_shown replay.old.list.items) k) (names_given (call_shown call.now)) (entries_left entries.entry))) (Unit {0})) }
+        requires { k < length replay.old.list }
+        ensures ok { IfOk result (λ nodes. AllHold (entries_checks self.now.nodes self.now.store (directory_shown at.now) call.now.listing size (listing_so_far replay.old.list k) (names_given (call_shown call.now)) (entries_left entries.entry)) × (nodes.items ≡ bound (names_given (call_shown call.now)) (files_listed self.now.store (open_of at.now.names).directory (entries_left entries.entry)))) }
+        ensures refused { IfErr result (λ e. TellsSuch e (FirstFailure (entries_checks self.now.nodes self.now.store (directory_shown at.now) call.now.listing size (listing_so_far replay.old.list k) (names_given (call_shown call.now)) (entries_left entries.entry))) (Unit {0})) }
         ensures same { replay.new ≡ replay.old }
     {
         if !self.may_list(at) {
@@ -171,9 +171,9 @@ impl Tree {
         call: &Call<'_>,
         list: &List<'_>,
     ) -> Result<Vec<(NodeName, FileId)>, StepError>
-        requires { k < length replay.old.list.items }
-        ensures ok { IfOk result (λ nodes. AllHold (operation_checks self.now.nodes (settled self.now.store (directory_shown at.now) call.now.listing (listing_so_far (map call_shown replay.old.list.items) k)) (call_shown call.now) (Lists (list_shown list.now))) × (nodes.items ≡ given_in (settled self.now.store (directory_shown at.now) call.now.listing (listing_so_far (map call_shown replay.old.list.items) k)) (call_shown call.now) (Lists (list_shown list.now)))) }
-        ensures refused { IfErr result (λ e. TellsSuch e (FirstFailure (operation_checks self.now.nodes (settled self.now.store (directory_shown at.now) call.now.listing (listing_so_far (map call_shown replay.old.list.items) k)) (call_shown call.now) (Lists (list_shown list.now)))) (DoneAnd (bare (list_shown list.now).outcome) (Unit {0}))) }
+        requires { k < length replay.old.list }
+        ensures ok { IfOk result (λ nodes. AllHold (operation_checks self.now.nodes (settled self.now.store (directory_shown at.now) call.now.listing (listing_so_far replay.old.list k)) (call_shown call.now) (Lists (list_shown list.now))) × (nodes.items ≡ given_in (settled self.now.store (directory_shown at.now) call.now.listing (listing_so_far replay.old.list k)) (call_shown call.now) (Lists (list_shown list.now)))) }
+        ensures refused { IfErr result (λ e. TellsSuch e (FirstFailure (operation_checks self.now.nodes (settled self.now.store (directory_shown at.now) call.now.listing (listing_so_far replay.old.list k)) (call_shown call.now) (Lists (list_shown list.now)))) (DoneAnd (bare (list_shown list.now).outcome) (Unit {0}))) }
         ensures same { replay.new ≡ replay.old }
     {
         match list.outcome {
@@ -197,11 +197,11 @@ impl Tree {
         call: &Call<'_>,
         list: &List<'_>,
     ) -> Result<Vec<(NodeName, FileId)>, StepError>
-        requires there { k < length replay.old.list.items }
+        requires there { k < length replay.old.list }
         requires asks { (call_shown call.now).operation ≡ Lists (list_shown list.now) }
         requires listing { call.now.listing ≢ None }
-        ensures ok { IfOk result (λ nodes. (x : Resolved) × (resolved self.now (call_shown call.now) ≡ Some x) × AllHold (operation_checks self.now.nodes (settled self.now.store x call.now.listing (listing_so_far (map call_shown replay.old.list.items) k)) (call_shown call.now) (Lists (list_shown list.now))) × (nodes.items ≡ given_in (settled self.now.store x call.now.listing (listing_so_far (map call_shown replay.old.list.items) k)) (call_shown call.now) (Lists (list_shown list.now)))) }
-        ensures refused { IfErr result (λ e. (wrote : Option ℕ) → TellsOf e (call_shown call.now) (step_checks self.now (call_shown call.now) wrote (listing_so_far (map call_shown replay.old.list.items) k))) }
+        ensures ok { IfOk result (λ nodes. (x : Resolved) × (resolved self.now (call_shown call.now) ≡ Some x) × AllHold (operation_checks self.now.nodes (settled self.now.store x call.now.listing (listing_so_far replay.old.list k)) (call_shown call.now) (Lists (list_shown list.now))) × (nodes.items ≡ given_in (settled self.now.store x call.now.listing (listing_so_far replay.old.list k)) (call_shown call.now) (Lists (list_shown list.now)))) }
+        ensures refused { IfErr result (λ e. (wrote : Option ℕ) → TellsOf e (call_shown call.now) (step_checks self.now (call_shown call.now) wrote (listing_so_far replay.old.list k))) }
         ensures same { replay.new ≡ replay.old }
     {
         match self.directory_named(call) {
@@ -218,11 +218,11 @@ impl Tree {
         call: &Call<'_>,
         list: &List<'_>,
     ) -> Result<(), StepError>
-        requires there { k < length replay.old.list.items }
+        requires there { k < length replay.old.list }
         requires asks { (call_shown call.now).operation ≡ Lists (list_shown list.now) }
         requires listing { call.now.listing ≢ None }
-        ensures steps { OnOk result ((wrote : Option ℕ) → Steps self.old self.new (call_shown call.now) wrote (listing_so_far (map call_shown replay.old.list.items) k)) }
-        ensures refused { IfErr result (λ e. (wrote : Option ℕ) → TellsOf e (call_shown call.now) (step_checks self.old (call_shown call.now) wrote (listing_so_far (map call_shown replay.old.list.items) k))) }
+        ensures steps { OnOk result ((wrote : Option ℕ) → Steps self.old self.new (call_shown call.now) wrote (listing_so_far replay.old.list k)) }
+        ensures refused { IfErr result (λ e. (wrote : Option ℕ) → TellsOf e (call_shown call.now) (step_checks self.old (call_shown call.now) wrote (listing_so_far replay.old.list k))) }
         ensures same { replay.new ≡ replay.old }
         ensures unchanged { OnErr result (self.new ≡ self.old) }
     {

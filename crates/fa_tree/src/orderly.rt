@@ -1,11 +1,10 @@
 //! Listings that are orderly: what stayed in the directory is named once, and all of it before the end.
 
-ghost use Rattle.std.specs.Prelude.{◌≡◌, ◌↔◌, ◌+◌, ◌≤◌, ◌<◌, [], All, ℕ, List, Some, length, map, IsTrue, IfOk};
+ghost use Rattle.std.specs.Prelude.{◌≡◌, ◌↔◌, ◌+◌, ◌≤◌, ◌<◌, [], All, ℕ, List, Some, length, IsTrue, IfOk};
 ghost use Rattle.fa_tree.specs.declared.id.FileId.{FileId};
 ghost use Rattle.std.specs.FinMap.{get};
 ghost use Rattle.fa_bodies.specs.Dirents.{PlainDirent, dirent_shown};
 ghost use Rattle.fa_bodies.specs.Listing.{entries_left};
-ghost use Rattle.fa_ledger.specs.Calls.{call_shown};
 ghost use Rattle.fa_ledger.specs.SoFar.{listing_so_far};
 ghost use Rattle.fa_tree.specs.Directories.{room_for_any, times_listed, IsOrderly};
 ghost use Rattle.fa_tree.specs.parts.ListingParts.{IsFirstTime};
@@ -123,8 +122,8 @@ pub(crate) fn is_orderly(
     entries: Entries<'_>,
     size: u32,
 ) -> Result<bool, AllocError>
-    requires { k < length replay.old.list.items }
-    ensures orderly { IfOk result (λ is. IsTrue is ↔ IsOrderly (open_of names.now) (listing_so_far (map call_shown replay.old.list.items) k) (entries_left entries.entry) size) }
+    requires { k < length replay.old.list }
+    ensures orderly { IfOk result (λ is. IsTrue is ↔ IsOrderly (open_of names.now) (listing_so_far replay.old.list k) (entries_left entries.entry) size) }
     ensures same { replay.new ≡ replay.old }
 {
     let so_far = replay.take(k)?;

@@ -69,13 +69,13 @@ impl<'c> Replay<'c> {
     /// memory in the names of that one call's answer, and time logarithmic in the calls. Elsewhere as
     /// [`note_so_far`](crate::so_far::note_so_far).
     pub(crate) fn take(&mut self, k: usize) -> Result<Tally<'c>, AllocError>
-        requires { k < length self.old.list.items }
+        requires { k < length self.old.list }
         ensures told { IfOk result (IsTallyAt self.old k) }
         ensures same { self.new ≡ self.old }
     {
         let alloc = self.alloc;
         let calls = self.calls;
-        match self.take_kept(&calls.list[k]) {
+        match self.take_kept(&calls.list.call(k)) {
             Some(kept) => go_on(alloc, calls, kept, k),
             None => tally_anew(alloc, calls, k),
         }
@@ -86,12 +86,12 @@ impl<'c> Replay<'c> {
     ///
     /// Takes memory and time as [`Kept::put`].
     pub(crate) fn keep(&mut self, k: usize, tally: Tally<'c>, room: usize)
-        requires there { k < length self.old.list.items }
+        requires there { k < length self.old.list }
         requires told { IsTallyAt self.old k tally }
         ensures same { self.new ≡ self.old }
     {
         let calls = self.calls;
-        if let Some(handle) = handle_gone_on(&calls.list[k]) {
+        if let Some(handle) = handle_gone_on(&calls.list.call(k)) {
             self.so_far.put(handle, ListedSoFar { at: k, tally }, room);
         }
     }
@@ -129,8 +129,8 @@ fn go_on_alike(call: &Call<'_>, other: &Call<'_>) -> bool
 }
 
 /// What was listed so far for the call at this place, gone through from the call back.
-fn tally_anew<'c>(alloc: Global, calls: &Calls<'c>, k: usize) -> Result<Tally<'c>, AllocError>
-    requires { k < length calls.now.list.items }
+fn tally_anew<'c>(alloc: Global, calls: &'c Calls<'c>, k: usize) -> Result<Tally<'c>, AllocError>
+    requires { k < length calls.now.list }
     ensures { IfOk result (IsTallyAt calls.now k) }
 {
     let mut tally = Tally::new(alloc);
@@ -150,24 +150,24 @@ fn note_after<'c>(so_far: Tally<'c>, call: &Call<'c>, count: u32) -> Result<Tall
 /// What was listed so far for the call at this place, after what was for another one.
 fn go_on<'c>(
     alloc: Global,
-    calls: &Calls<'c>,
+    calls: &'c Calls<'c>,
     kept: ListedSoFar<'c>,
     k: usize,
 ) -> Result<Tally<'c>, AllocError>
-    requires there { k < length calls.now.list.items }
+    requires there { k < length calls.now.list }
     requires told { IsTold calls.now kept }
     ensures { IfOk result (IsTallyAt calls.now k) }
 {
     let ListedSoFar { at, tally } = kept;
-    let call = &calls.list[k];
-    let last = &calls.list[at];
-    if go_on_alike(call, last) {
+    let call = calls.list.call(k);
+    let last = calls.list.call(at);
+    if go_on_alike(&call, &last) {
         return Ok(tally);
     }
-    match before(calls, call) {
+    match before(calls, &call) {
         Some((earlier, count)) => {
             if earlier == at {
-                note_after(tally, last, count)
+                note_after(tally, &last, count)
             } else {
                 tally_anew(alloc, calls, k)
             }

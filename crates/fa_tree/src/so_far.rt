@@ -1,6 +1,6 @@
 //! What a call's listing goes on from: the names that were listed so far.
 
-ghost use Rattle.std.specs.Prelude.{◌≡◌, ◌<◌, length, take, map, slice_get, Some, None, OnOk, IfSome, IfNone};
+ghost use Rattle.std.specs.Prelude.{◌≡◌, ◌<◌, length, take, slice_get, Some, None, OnOk, IfSome, IfNone};
 ghost use Rattle.fa_bodies.specs.Listing.{entries_left};
 ghost use Rattle.fa_ledger.specs.Calls.{PlainCall, call_shown};
 ghost use Rattle.fa_ledger.specs.SoFar.{entries_answered, listing_so_far};
@@ -37,7 +37,7 @@ pub(crate) fn note_all<'a>(tally: &mut Tally<'a>, entries: Entries<'a>) -> Resul
     Ok(())
 }
 
-/// Notes the first so many entries of what the answer to a call lists.
+/// Notes the first so many entries of what the answer to a call lists. Expected time in all its entries: it is read again.
 pub(crate) fn note_answered<'a>(
     tally: &mut Tally<'a>,
     call: &Call<'a>,
@@ -45,7 +45,8 @@ pub(crate) fn note_answered<'a>(
 ) -> Result<(), AllocError>
     ensures noted { OnOk result (Notes tally.old tally.new (take count (entries_answered (call_shown call.now).operation))) }
 {
-    match &call.operation {
+    let operation = call.operation();
+    match &operation {
         Operation::List(
             List {
                 outcome: Outcome::Succeeds(entries),
@@ -58,8 +59,8 @@ pub(crate) fn note_answered<'a>(
 
 /// The place of the call that a call goes on from, if it goes on from one, and how many entries of that one's answer count.
 pub(crate) fn before(calls: &Calls<'_>, call: &Call<'_>) -> Option<(usize, u32)>
-    ensures found { IfSome result (λ before. (earlier : PlainCall) × (slice_get (map call_shown calls.now.list.items) before.0 ≡ Some earlier) × (going_on_from (map call_shown calls.now.list.items) (call_shown call.now) ≡ Some (earlier, before.1))) }
-    ensures none { IfNone result (going_on_from (map call_shown calls.now.list.items) (call_shown call.now) ≡ None) }
+    ensures found { IfSome result (λ before. (earlier : PlainCall) × (slice_get calls.now.list before.0 ≡ Some earlier) × (going_on_from calls.now.list (call_shown call.now) ≡ Some (earlier, before.1))) }
+    ensures none { IfNone result (going_on_from calls.now.list (call_shown call.now) ≡ None) }
 {
     let (asked, count) = call.listing?.before?;
     Some((calls.find(asked)?, count))
@@ -71,19 +72,19 @@ pub(crate) fn before(calls: &Calls<'_>, call: &Call<'_>) -> Option<(usize, u32)>
 /// Expected time in the calls that it goes on from and the names that they list, and for each such call logarithmic in the calls.
 pub(crate) fn note_so_far<'a>(
     tally: &mut Tally<'a>,
-    calls: &Calls<'a>,
+    calls: &'a Calls<'a>,
     k: usize,
 ) -> Result<(), AllocError>
-    requires { k < length calls.now.list.items }
-    ensures noted { OnOk result (Notes tally.old tally.new (listing_so_far (map call_shown calls.now.list.items) k)) }
+    requires { k < length calls.now.list }
+    ensures noted { OnOk result (Notes tally.old tally.new (listing_so_far calls.now.list k)) }
 {
     let mut place = k;
     // A call goes on from an earlier one, so there are at most as many as stand before it.
     for _round in 0..k {
-        match before(calls, &calls.list[place]) {
+        match before(calls, &calls.list.call(place)) {
             None => break,
             Some((earlier, count)) => {
-                note_answered(tally, &calls.list[earlier], count)?;
+                note_answered(tally, &calls.list.call(earlier), count)?;
                 place = earlier;
             }
         }

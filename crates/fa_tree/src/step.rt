@@ -1,6 +1,6 @@
 //! One step of a tree: a call is judged, and then the tree is what it leaves.
 
-ghost use Rattle.std.specs.Prelude.{◌≡◌, ◌↔◌, ◌<◌, ℕ, Bool, List, Option, None, Some, length, map, IsTrue, IfSome, IfNone, IfErr, OnOk, OnErr};
+ghost use Rattle.std.specs.Prelude.{◌≡◌, ◌↔◌, ◌<◌, ℕ, Bool, List, Option, None, Some, length, IsTrue, IfSome, IfNone, IfErr, OnOk, OnErr};
 ghost use Rattle.fa_tree.specs.declared.id.FileId.{FileId};
 ghost use Rattle.std.specs.Option.{option_to_list};
 ghost use Rattle.fa_capture.specs.Checks.{AllHold, FirstFailure};
@@ -82,13 +82,14 @@ impl Tree {
     /// Errors, GETATTR, READLINK, READ, OPEN, UNLINK, RMDIR, SETATTR without a size and RENAME2 with `RENAME_EXCHANGE` take no
     /// memory. Time and memory otherwise
     /// in the bytes of names and targets, and in those that are read and written; where a directory is moved, time in the
-    /// directories on the way up too. READDIR and READDIRPLUS take time and memory in the names that were listed so far (this
-    /// profile), and at the end of a listing time in the places that the directory ever had.
+    /// directories on the way up too. READDIR and READDIRPLUS take memory in the names that were listed so far and time in all
+    /// names of the answers that they go on from (this profile), and at the end of a listing time in the places that the
+    /// directory ever had. Both messages of the call are read again, in time of their names, targets and listing.
     pub fn step(&mut self, calls: &Calls<'_>, k: usize, wrote: Option<u32>) -> Result<(), StepError>
-        requires there { k < length calls.now.list.items }
-        requires allowed { OfCallAt (map call_shown calls.now.list.items) k (λ call. Allows call wrote) }
-        ensures steps { OnOk result (OfCallAt (map call_shown calls.now.list.items) k (λ call. Steps self.old self.new call wrote (listing_so_far (map call_shown calls.now.list.items) k))) }
-        ensures refused { IfErr result (λ e. OfCallAt (map call_shown calls.now.list.items) k (λ call. TellsOf e call (step_checks self.old call wrote (listing_so_far (map call_shown calls.now.list.items) k)))) }
+        requires there { k < length calls.now.list }
+        requires allowed { OfCallAt calls.now.list k (λ call. Allows call wrote) }
+        ensures steps { OnOk result (OfCallAt calls.now.list k (λ call. Steps self.old self.new call wrote (listing_so_far calls.now.list k))) }
+        ensures refused { IfErr result (λ e. OfCallAt calls.now.list k (λ call. TellsOf e call (step_checks self.old call wrote (listing_so_far calls.now.list k)))) }
         ensures unchanged { OnErr result (self.new ≡ self.old) }
     {
         let mut replay = Replay::new(self.stored.alloc, calls);
@@ -104,7 +105,7 @@ impl Tree {
     /// Time and memory as `step`, but for READDIR and READDIRPLUS. These take time and memory in the names that they answer, and
     /// in those of the answer that they go on from, where the step before on the handle was that of this answer, or of a request
     /// that goes on from the same and did not end the listing, and there was room for the names so far in what the replay keeps;
-    /// elsewhere in all names that were listed so far. The replay keeps these until the step that ends the listing, or until there is
+    /// elsewhere in all names of the answers that they go on from. The replay keeps these until the step that ends the listing, or until there is
     /// no room for others beside them. Time in the names that were listed more than once comes on top, and at the end of a listing in
     /// the places that the directory ever had.
     pub fn step_in(
@@ -113,17 +114,18 @@ impl Tree {
         k: usize,
         wrote: Option<u32>,
     ) -> Result<(), StepError>
-        requires there { k < length replay.old.list.items }
-        requires allowed { OfCallAt (map call_shown replay.old.list.items) k (λ call. Allows call wrote) }
-        ensures steps { OnOk result (OfCallAt (map call_shown replay.old.list.items) k (λ call. Steps self.old self.new call wrote (listing_so_far (map call_shown replay.old.list.items) k))) }
-        ensures refused { IfErr result (λ e. OfCallAt (map call_shown replay.old.list.items) k (λ call. TellsOf e call (step_checks self.old call wrote (listing_so_far (map call_shown replay.old.list.items) k)))) }
+        requires there { k < length replay.old.list }
+        requires allowed { OfCallAt replay.old.list k (λ call. Allows call wrote) }
+        ensures steps { OnOk result (OfCallAt replay.old.list k (λ call. Steps self.old self.new call wrote (listing_so_far replay.old.list k))) }
+        ensures refused { IfErr result (λ e. OfCallAt replay.old.list k (λ call. TellsOf e call (step_checks self.old call wrote (listing_so_far replay.old.list k)))) }
         ensures unchanged { OnErr result (self.new ≡ self.old) }
         ensures same { replay.new ≡ replay.old }
     {
-        let call = &replay.calls().list[k];
-        match &call.operation {
-            Operation::List(list) => self.list(replay, k, call, list),
-            Operation::Act(action) => self.act(call, action, wrote),
+        let call = replay.calls().list.call(k);
+        let operation = call.operation();
+        match &operation {
+            Operation::List(list) => self.list(replay, k, &call, list),
+            Operation::Act(action) => self.act(&call, action, wrote),
         }
     }
 

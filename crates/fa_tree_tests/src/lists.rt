@@ -107,8 +107,9 @@ type Steps = (u32, u32, u16);
 fn steps_told(alloc: Global, along: &mut Tree, alone: &mut Tree, calls: &Calls<'_>) -> Steps {
     let mut replay = Replay::new(alloc, calls);
     let (mut steps, mut others, mut greatest) = (0u32, 0u32, 0);
-    for call in &calls.list {
-        let code = told_both(along, alone, &mut replay, call.asked);
+    for place in 0..calls.list.len() {
+        let asked = calls.list.call(place).asked;
+        let code = told_both(along, alone, &mut replay, asked);
         if code == 0 {
             steps = steps.saturating_add(1);
         } else {

@@ -1,8 +1,7 @@
 //! Steps of a tree that no order of a capture shows: those of requests whose node is not known here yet, that which is made twice, and
 //! those to which memory is refused.
 
-ghost use Rattle.std.specs.Prelude.{◌<◌, None, length, map, IfSome};
-ghost use Rattle.fa_ledger.specs.Calls.{call_shown};
+ghost use Rattle.std.specs.Prelude.{◌<◌, None, length, IfSome};
 ghost use Rattle.fa_ledger.specs.Choices.{Allows};
 ghost use Rattle.fa_tree.specs.Steps.{OfCallAt};
 
@@ -26,8 +25,8 @@ pub const MEMORY: u16 = 998;
 
 /// The place of the call of this number, if there is one, and an order may name it without a count of bytes.
 fn place_of(calls: &Calls<'_>, at: u32) -> Option<usize>
-    ensures there { IfSome result (λ place. place < length calls.now.list.items) }
-    ensures allowed { IfSome result (λ place. OfCallAt (map call_shown calls.now.list.items) place (λ call. Allows call None)) }
+    ensures there { IfSome result (λ place. place < length calls.now.list) }
+    ensures allowed { IfSome result (λ place. OfCallAt calls.now.list place (λ call. Allows call None)) }
 {
     let place = calls.find(at)?;
     let call = calls.list.get(place)?;

@@ -4,7 +4,8 @@ use Rattle.std.specs.Map.{lookup}
 use Rattle.std.specs.Option.{option_map_or}
 use Rattle.fa_ledger.specs.declared.call_list.CallList.TheInside.{Inside}
 use Rattle.fa_ledger.specs.declared.call_list.WaitingCall.{WaitingCall}
-use Rattle.fa_ledger.specs.Calls.{PlainCall, call_shown}
+use Rattle.fa_ledger.specs.Calls.{PlainCall}
+use Rattle.fa_ledger.specs.parts.RowParts.{row_shown}
 
 -- at this place stands this call, which has this number and waits for its answer
 pub record WaitsAt (calls : List PlainCall) (asked place : ℕ) (call : PlainCall) : Type 0 where
@@ -27,7 +28,7 @@ IsNewNumber calls asked = (place : ℕ) (call : PlainCall) → slice_get calls p
 
 -- what the fields show
 abbrev pub calls_shown : Inside → List PlainCall
-calls_shown s = map call_shown s.list.items
+calls_shown s = map row_shown s.rows.items
 
 -- at each number the table has a place exactly where the call at that place has this number and waits for its answer
 abbrev pub AreTheirPlaces : List PlainCall → List (ℕ × ℕ) → Type 0

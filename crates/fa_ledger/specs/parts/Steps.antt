@@ -11,6 +11,8 @@ use Rattle.fa_bodies.specs.Requests.{PlainBody}
 use Rattle.fa_bodies.specs.Requests.PlainBody.{Init, Open, Opendir, Create}
 use Rattle.fa_bodies.specs.Replies.{PlainReply}
 use Rattle.fa_bodies.specs.Replies.PlainReply.{Created, Opened, Listed, InitAnswer}
+use Rattle.fa_ledger.specs.declared.giving.GivenNames.{GivenNames}
+use Rattle.fa_ledger.specs.declared.giving.GivenNames.TheVariants.{Nothing, One, Several}
 use Rattle.fa_ledger.specs.declared.handles.Handle.{Handle}
 use Rattle.fa_ledger.specs.declared.key.HandleKind.TheVariants.{File, Directory}
 use Rattle.fa_ledger.specs.declared.key.Key.{Key}
@@ -32,6 +34,12 @@ abbrev pub IsListedReply : PlainReply → Type 0
 IsListedReply (Listed ds) = Unit {0}
 IsListedReply other = ⊥
 
+-- the names of the nodes that a reply gives
+abbrev pub given_names_shown : GivenNames → List NodeName
+given_names_shown Nothing = []
+given_names_shown (One name) = name ∷ []
+given_names_shown (Several names) = names.value.items
+
 -- the key that a success opens, and how, where its request named this node and the reply gives these
 abbrev pub opened_with : NodeName → List NodeName → PlainBody → PlainReply → Option (Key × OpenOut)
 opened_with node given (Open o) (Opened out) = Some (record { node = node; fh = out.fh; kind = File }, out)
@@ -52,16 +60,16 @@ given_again at (suc n) (Some l) = Some (record { count = l.count + suc n; by = l
 
 -- the name of a node that stands so, if it is known
 abbrev pub named_by : ℕ → Option Lookups → Option NodeName
-named_by id node = (if id == ROOT_ID then Some Root else option_map (λ l. Given id l.by) node)
+named_by id node = (if id == ROOT_ID then Some Root else option_map (λ l. Given l.by id) node)
 
 -- the name of a node that stood so, once the reply at this number has given it
 abbrev pub given_to : ℕ → ℕ → Option Lookups → NodeName
-given_to id at node = Given id (option_map_or (λ l. l.by) node at)
+given_to id at node = Given (option_map_or (λ l. l.by) node at) id
 
 -- the name is one of this node, as a test
 abbrev pub is_named : ℕ → NodeName → Bool
 is_named node Root = false
-is_named node (Given id by) = id == node
+is_named node (Given by id) = id == node
 
 -- how often names have this node
 abbrev pub times_named : ℕ → List NodeName → ℕ
@@ -70,7 +78,7 @@ times_named node names = count_by (is_named node) names
 -- the table has not the node of the name, as a test
 abbrev pub is_new : List (ℕ × Lookups) → NodeName → Bool
 is_new known Root = false
-is_new known (Given id by) = is_none (lookup (nat_eq id) known)
+is_new known (Given by id) = is_none (lookup (nat_eq id) known)
 
 -- the table has not the node of some of the names, as a test
 abbrev pub some_new : List (ℕ × Lookups) → List NodeName → Bool

@@ -4,6 +4,7 @@ use Rattle.std.specs.Map.{lookup}
 use Rattle.std.specs.Ordering.{nat_cmp}
 use Rattle.std.specs.FinMap.{entries, from_entries}
 use Rattle.fa_bodies.specs.Requests.{request_shown}
+use Rattle.fa_session.specs.declared.event.RequestMessage.{RequestMessage}
 use Rattle.fa_session.specs.declared.waiting.Waiting.{Waiting}
 use Rattle.fa_session.specs.declared.session.Session.TheInside.{Inside}
 use Rattle.fa_session.specs.declared.outstanding.Outstanding.TheInside.{Inside as Outstanding}
@@ -11,7 +12,11 @@ use Rattle.fa_session.specs.Plain.{PlainSession, PlainWaiting}
 
 -- what a request in the table shows
 abbrev pub waiting_shown : Waiting → PlainWaiting
-waiting_shown w = record { at = w.at; request = request_shown w.request }
+waiting_shown w = record { at = w.at; request = w.said.0 }
+
+-- what a request shows that was read again, with the number of its message
+abbrev pub asked_shown : ℕ → RequestMessage → PlainWaiting
+asked_shown at message = record { at = at; request = request_shown message.request }
 
 -- what the entries of the table show, in their order
 abbrev pub entries_shown : List (ℕ × Waiting) → List (ℕ × PlainWaiting)
@@ -24,7 +29,7 @@ by_unique es = entries (from_entries {R = nat_cmp} (entries_shown es))
 -- the request of the highest unique so far, if it waits, as an entry
 abbrev pub newest_entry : Option Waiting → List (ℕ × Waiting)
 newest_entry None = []
-newest_entry (Some w) = (w.request.unique, w) ∷ []
+newest_entry (Some w) = (w.unique, w) ∷ []
 
 -- the outstanding requests as entries, that of the highest unique before those of the table
 abbrev pub outstanding_shown : Outstanding → List (ℕ × Waiting)
@@ -32,10 +37,10 @@ outstanding_shown o = newest_entry o.newest ++ o.earlier.entries
 
 -- In the table each stands under its own unique; that of the highest is not in it; and none is above the highest.
 pub record AreOutstanding (o : Outstanding) : Type 0 where
-  pub own : (unique : ℕ) (w : Waiting) → lookup (nat_eq unique) o.earlier.entries ≡ Some w → w.request.unique ≡ unique
-  pub apart : (w : Waiting) → o.newest ≡ Some w → lookup (nat_eq w.request.unique) o.earlier.entries ≡ None
+  pub own : (unique : ℕ) (w : Waiting) → lookup (nat_eq unique) o.earlier.entries ≡ Some w → w.unique ≡ unique
+  pub apart : (w : Waiting) → o.newest ≡ Some w → lookup (nat_eq w.unique) o.earlier.entries ≡ None
   pub within : (unique : ℕ) → o.highest < unique → lookup (nat_eq unique) o.earlier.entries ≡ None
-  pub newest_within : (w : Waiting) → o.newest ≡ Some w → w.request.unique ≤ o.highest
+  pub newest_within : (w : Waiting) → o.newest ≡ Some w → w.unique ≤ o.highest
 
 -- what the fields of a session show
 abbrev pub session_shown : Inside → PlainSession

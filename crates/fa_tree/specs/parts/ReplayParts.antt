@@ -1,8 +1,7 @@
 -- What a replay keeps of what was listed so far.
-use Rattle.std.specs.Prelude.{◌≡◌, ◌<◌, ℕ, nat_eq, length, map, Some}
+use Rattle.std.specs.Prelude.{◌≡◌, ◌<◌, ℕ, nat_eq, length, Some}
 use Rattle.std.specs.Map.{lookup}
 use Rattle.fa_ledger.specs.declared.calls.Calls.{Calls}
-use Rattle.fa_ledger.specs.Calls.{call_shown}
 use Rattle.fa_ledger.specs.SoFar.{listing_so_far}
 use Rattle.fa_tree.specs.Directories.{times_listed}
 use Rattle.fa_tree.specs.declared.kept.ListedSoFar.{ListedSoFar}
@@ -16,11 +15,11 @@ calls_of r = r.calls.now
 
 -- the tally is that of what was listed so far for the call at this place
 abbrev pub IsTallyAt : Calls → (place : ℕ) → Tally → Type 0
-IsTallyAt calls place tally = Tallies tally (λ name. times_listed name (listing_so_far (map call_shown calls.list.items) place))
+IsTallyAt calls place tally = Tallies tally (λ name. times_listed name (listing_so_far calls.list place))
 
 -- what is kept is that of the call at its place
 pub record IsTold (calls : Calls) (kept : ListedSoFar) : Type 0 where
-  pub within : kept.at < length calls.list.items
+  pub within : kept.at < length calls.list
   pub tally : IsTallyAt calls kept.at kept.tally
 
 -- all that is kept is

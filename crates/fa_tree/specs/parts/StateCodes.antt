@@ -45,15 +45,15 @@ kind_code = code_by ℕ coded_ℕ kind_number kind_of_number kind_back
 
 abbrev pub node_pair : NodeName → Option (ℕ × ℕ)
 node_pair Root = None
-node_pair (Given id by) = Some (id, by)
+node_pair (Given by id) = Some (id, by)
 
 abbrev pub node_of_pair : Option (ℕ × ℕ) → NodeName
 node_of_pair None = Root
-node_of_pair (Some p) = Given p.0 p.1
+node_of_pair (Some p) = Given p.1 p.0
 
 pub node_back : (n : NodeName) → node_of_pair (node_pair n) ≡ n
 node_back Root = refl
-node_back (Given id by) = refl
+node_back (Given by id) = refl
 
 abbrev pub node_code : Coded NodeName
 node_code = code_by (Option (ℕ × ℕ)) (coded_option (coded× coded_ℕ coded_ℕ)) node_pair node_of_pair node_back

@@ -12,22 +12,21 @@ returns-in_default c = λ messages is. (
   (λ done. absurd (no_call c.args.calls.now c.args.entry.at (on_none c.find.result _ c.find.ensures.none c.in_default.not-Some) messages is done.0)),
 )
 
-pub index-requires : goal.index-requires
-index-requires c =
-    let list = c.args.calls.now.list.items in
+pub call-requires : goal.call-requires
+call-requires c =
+    let list = c.args.calls.now.list in
     let found = c.in-Some.ensures.found in
-    let within = slice_get_within (map call_shown list) c.in-Some.place found.0 found.1 in
-    let long : vec_len c.args.calls.now.list ≡ length list = search rules in
-    omega (arith, within, length-map list call_shown, long)
+    let within = slice_get_within list c.in-Some.place found.0 found.1 in
+    omega (arith, within)
 
 pub returns-in-Some-answer : goal.returns-in-Some-answer
 returns-in-Some-answer c = λ messages is.
-    done_test c.args.calls.now c.in-Some.place c.args.messages c.args.entry c.index.result.now
-    (found_as c.args.calls.now c.in-Some.place c.args.entry.at c.index.result.now c.in-Some.ensures.found c.index.ensures) messages is c.in-Some-answer.answer c.in-Some-answer.is
+    done_test c.args.calls.now c.in-Some.place c.args.messages c.args.entry c.call.result
+    (found_as c.args.calls.now c.in-Some.place c.args.entry.at c.call.result c.in-Some.ensures.found c.call.ensures) messages is c.in-Some-answer.answer c.in-Some-answer.is
 
 pub returns-in-None : goal.returns-in-None
 returns-in-None c = λ messages is. (
   (λ t. absurd cc),
-  (λ done. absurd (shown_not_done c.args.calls.now c.in-Some.place c.args.messages c.args.entry c.index.result.now
-      (found_as c.args.calls.now c.in-Some.place c.args.entry.at c.index.result.now c.in-Some.ensures.found c.index.ensures) messages is c.in-None.is done)),
+  (λ done. absurd (shown_not_done c.args.calls.now c.in-Some.place c.args.messages c.args.entry c.call.result
+      (found_as c.args.calls.now c.in-Some.place c.args.entry.at c.call.result c.in-Some.ensures.found c.call.ensures) messages is c.in-None.is done)),
 )

@@ -19,7 +19,7 @@ loop-calls-init c = (
 )
 
 pub place_next-requires : goal.place_next-requires
-place_next-requires c = subst (λ (x : Calls). IsPlacing (map call_shown x.list.items) x.messages c.loop-calls.placing) (sym c.loop-calls.invariant.0) c.loop-calls.invariant.1.replayed.shape
+place_next-requires c = subst (λ (x : Calls). IsPlacing x.list x.messages c.loop-calls.placing) (sym c.loop-calls.invariant.0) c.loop-calls.invariant.1.replayed.shape
 
 pub loop-calls-smaller : goal.loop-calls-smaller
 loop-calls-smaller c =
@@ -32,7 +32,7 @@ loop-calls-smaller c =
 pub loop-calls-preserved : goal.loop-calls-preserved
 loop-calls-preserved c =
     let calls = c.args.calls.now in
-    let plain = map call_shown calls.list.items in
+    let plain = calls.list in
     let es = c.loop-calls.order.items in
     let entry = c.in-Some.entry in
     let so_far = c.loop-calls.invariant.1 in
@@ -53,7 +53,7 @@ loop-calls-preserved c =
 pub returns : goal.returns
 returns c =
     let calls = c.args.calls.now in
-    let plain = map call_shown calls.list.items in
+    let plain = calls.list in
     let es = c.loop-calls.order.items in
     let so_far = c.loop-calls.invariant.1 in
     let fronts = c.front.ensures calls c.args.tree.now c.loop-calls.tree es so_far.replayed in

@@ -6,4 +6,4 @@ abbrev pub invariant-loop-calls : goal.invariant-loop-calls
 invariant-loop-calls l = (l.replay ≡ l.calls) × IsProposing l.calls l.fn.tree l.tree l.order.items l.placing l.ready.seen l.ready.entries.entries
 
 abbrev pub decreases-loop-calls : goal.decreases-loop-calls
-decreases-loop-calls l = length l.calls.list.items - length l.order.items
+decreases-loop-calls l = length l.calls.list - length l.order.items

@@ -27,8 +27,8 @@ loop-rank-init c =
 
 pub place_in-requires : goal.place_in-requires
 place_in-requires c =
-    subst (λ (x : Calls). IsPlacing (map call_shown x.list.items) x.messages c.loop-rank.placing) (sym c.loop-rank.invariant.2)
-    (subst (IsPlacing (map call_shown c.args.replay.now.list.items) c.args.replay.now.messages) (sym c.loop-rank.invariant.1) c.requires)
+    subst (λ (x : Calls). IsPlacing x.list x.messages c.loop-rank.placing) (sym c.loop-rank.invariant.2)
+    (subst (IsPlacing c.args.replay.now.list c.args.replay.now.messages) (sym c.loop-rank.invariant.1) c.requires)
 
 pub returns-in-Ok-clause-replayed : goal.returns-in-Ok-clause-replayed
 returns-in-Ok-clause-replayed c =

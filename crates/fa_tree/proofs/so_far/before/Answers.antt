@@ -6,7 +6,7 @@ use Rattle.fa_tree.proofs.so_far.before.Goals as goal
 
 pub returns-in_err-find-clause-none : goal.returns-in_err-find-clause-none
 returns-in_err-find-clause-none c =
-    let calls = map call_shown c.args.calls.now.list.items in
+    let calls = c.args.calls.now.list in
     let call = call_shown c.args.call.now in
     rw c.from_residual-in_err-find.ensures
     (goes_on calls call c.in_ok-call.field-0 (c.in_ok-asked.asked, c.in_ok-asked.count) c.in_ok-call.was c.in_ok-asked.was
@@ -14,7 +14,7 @@ returns-in_err-find-clause-none c =
 
 pub returns-clause-found : goal.returns-clause-found
 returns-clause-found c =
-    let calls = map call_shown c.args.calls.now.list.items in
+    let calls = c.args.calls.now.list in
     let call = call_shown c.args.call.now in
     let found = c.in_ok-find.ensures.found in
     let first = asked_there calls c.in_ok-asked.asked c.in_ok-find.field-0 found.0 (rising calls c.args.calls.now.messages c.args.calls.now.good) found.1 found.2 in (

@@ -1,4 +1,4 @@
-use Rattle.std.proofs.Common.{rules, ◌≡◌}
+use Rattle.std.proofs.Common.{rules, sym, ◌≡◌}
 use Rattle.fa_ledger.specs.declared.operation.Outcome.TheVariants.{Succeeds}
 use Rattle.fa_tree.proofs.so_far.note_answered.Goals as goal
 
@@ -6,4 +6,4 @@ pub returns-in-List-Succeeds : goal.returns-in-List-Succeeds
 returns-in-List-Succeeds c =
     let at = c.in-List-Succeeds in
     let done : at.field-0.outcome ≡ Succeeds at.entries = search rules in
-    rw (at.is, done) c.note_entries.ensures
+    rw (sym c.operation-operation.ensures, at.is, done) c.note_entries.ensures

@@ -1,11 +1,9 @@
-use Rattle.std.proofs.Common.{ℕ, ◌<◌, ◌-◌, [], ◌++◌, map, take, length, sym, subst, ◌∙◌, arith}
-use Rattle.std.proofs.lemmas.List.{length-map}
+use Rattle.std.proofs.Common.{◌-◌, [], ◌++◌, take, sym, subst, ◌∙◌}
 use Rattle.std.proofs.lemmas.Option.{slice_get_within, same_Some}
-use Rattle.fa_ledger.specs.Calls.{PlainCall, call_shown}
+use Rattle.fa_ledger.specs.Calls.{PlainCall}
 use Rattle.fa_ledger.specs.SoFar.{entries_answered}
 use Rattle.fa_tree.specs.parts.TallyParts.{Notes}
 use Rattle.fa_tree.proofs.SoFarLemmas.{all_left, one_back, none_back, none_left}
-use Rattle.fa_tree.proofs.StepLemmas.{shown_at}
 use Rattle.fa_tree.proofs.TallyLemmas.{notes_none, notes_both}
 use Rattle.fa_tree.proofs.so_far.note_so_far.Goals as goal
 
@@ -13,42 +11,37 @@ pub loop-round-init : goal.loop-round-init
 loop-round-init c = record {
   within = c.requires;
   noted = [];
-  whole = all_left (map call_shown c.args.calls.now.list.items) c.args.k;
+  whole = all_left c.args.calls.now.list c.args.k;
   notes = notes_none c.args.tally.now;
 }
 
-pub index-requires : goal.index-requires
-index-requires c = subst (λ (n : ℕ). c.loop-round.place < n) (sym c.args.calls.now.list.ok.0) c.loop-round.invariant.within
+pub call-requires : goal.call-requires
+call-requires c = c.loop-round.invariant.within
 
-pub index-requires-in-Some : goal.index-requires-in-Some
-index-requires-in-Some c =
-    let calls = c.args.calls.now.list in
-    let found = c.in-Some.ensures.found in
-    let within : c.in-Some.earlier < length calls.items = omega (arith, slice_get_within (map call_shown calls.items) c.in-Some.earlier found.0 found.1, length-map calls.items call_shown) in
-    subst (λ (n : ℕ). c.in-Some.earlier < n) (sym calls.ok.0) within
+pub call-requires-in-Some : goal.call-requires-in-Some
+call-requires-in-Some c = let found = c.in-Some.ensures.found in slice_get_within c.args.calls.now.list c.in-Some.earlier found.0 found.1
 
 pub loop-round-preserved : goal.loop-round-preserved
 loop-round-preserved c =
-    let calls = c.args.calls.now.list.items in
-    let shown = map call_shown calls in
+    let calls = c.args.calls.now.list in
     let so_far = c.loop-round.invariant in
-    let there = shown_at calls c.loop-round.place c.index.result.now so_far.within c.index.ensures in
+    let there = c.call.ensures in
     let found = c.in-Some.ensures.found in
-    let within : c.in-Some.earlier < length calls = omega (arith, slice_get_within shown c.in-Some.earlier found.0 found.1, length-map calls call_shown) in
-    let same = same_Some _ _ (sym (shown_at calls c.in-Some.earlier c.index-in-Some.result.now within c.index-in-Some.ensures) ∙ found.1) in
+    let within = slice_get_within calls c.in-Some.earlier found.0 found.1 in
+    let same = same_Some _ _ (sym c.call-in-Some.ensures ∙ found.1) in
     let notes = subst (λ (earlier : PlainCall). Notes c.loop-round.tally c.note_answered.new.tally (take c.in-Some.count (entries_answered earlier.operation))) same c.in_ok-note_answered-in-Some.ensures.noted in
     let entries = take c.in-Some.count (entries_answered found.0.operation) in
     record {
       within = within;
       noted = entries ++ so_far.noted;
-      whole = one_back shown c.args.k c.loop-round._round c.loop-round.place c.in-Some.earlier _ found.0 c.in-Some.count so_far.noted _ c.loop-round-test.true there found.1 found.2 so_far.whole;
+      whole = one_back calls c.args.k c.loop-round._round c.loop-round.place c.in-Some.earlier _ found.0 c.in-Some.count so_far.noted _ c.loop-round-test.true there found.1 found.2 so_far.whole;
       notes = notes_both c.args.tally.now c.loop-round.tally c.note_answered.new.tally so_far.noted entries so_far.notes notes;
     }
 
 pub returns-after-loop-round : goal.returns-after-loop-round
 returns-after-loop-round c = record {
   noted =
-      let calls = map call_shown c.args.calls.now.list.items in
+      let calls = c.args.calls.now.list in
       let so_far = c.loop-round.invariant in
       subst (Notes c.args.tally.now c.loop-round.tally) (none_left calls c.args.k c.loop-round._round c.loop-round.place so_far.noted _ c.loop-round-test.false so_far.whole) so_far.notes;
 }
@@ -56,8 +49,7 @@ returns-after-loop-round c = record {
 pub returns-in-None : goal.returns-in-None
 returns-in-None c = record {
   noted =
-      let calls = c.args.calls.now.list.items in
       let so_far = c.loop-round.invariant in
-      let there = shown_at calls c.loop-round.place c.index.result.now so_far.within c.index.ensures in
-      subst (Notes c.args.tally.now c.loop-round.tally) (none_back (map call_shown calls) (c.args.k - c.loop-round._round) c.loop-round.place _ so_far.noted _ there c.in-None.ensures.none so_far.whole) so_far.notes;
+      let there = c.call.ensures in
+      subst (Notes c.args.tally.now c.loop-round.tally) (none_back c.args.calls.now.list (c.args.k - c.loop-round._round) c.loop-round.place _ so_far.noted _ there c.in-None.ensures.none so_far.whole) so_far.notes;
 }

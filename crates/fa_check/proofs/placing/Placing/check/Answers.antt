@@ -11,41 +11,40 @@ use Rattle.fa_check.proofs.placing.Placing.check.Goals as goal
 
 pub returns-then-self-entry-clause-fault : goal.returns-then-self-entry-clause-fault
 returns-then-self-entry-clause-fault c =
-    let calls = map call_shown c.args.calls.now.list.items in
+    let calls = c.args.calls.now.list in
     let found = c.in-Some.ensures.found in
     let within : c.in-Some.place < length calls = slice_get_within calls c.in-Some.place found.0 found.1 in
     fails_early calls c.args.calls.now.messages c.args.calls.now.good c.args.self.now c.args.entry c.in-Some.place c.requires found
     (mark_at c.args.self.now.marks.items c.in-Some.place c.index.result.now false (omega (arith, within, c.requires.sized)) c.index.ensures c.if-index.false)
     c.if-self-entry.true
 
-pub index-requires-2 : goal.index-requires-2
-index-requires-2 c =
-    let list = c.args.calls.now.list.items in
+pub call-requires : goal.call-requires
+call-requires c =
+    let list = c.args.calls.now.list in
     let found = c.in-Some.ensures.found in
-    let within = slice_get_within (map call_shown list) c.in-Some.place found.0 found.1 in
-    let long : vec_len c.args.calls.now.list ≡ length list = search rules in
-    omega (arith, within, length-map list call_shown, long)
+    let within = slice_get_within list c.in-Some.place found.0 found.1 in
+    omega (arith, within)
 
 pub returns-then-not-allows-clause-fault : goal.returns-then-not-allows-clause-fault
 returns-then-not-allows-clause-fault c =
-    let list = c.args.calls.now.list.items in
+    let list = c.args.calls.now.list in
     let found = c.in-Some.ensures.found in
-    let within = slice_get_within (map call_shown list) c.in-Some.place found.0 found.1 in
-    let there = shown_at list c.in-Some.place c.index-2.result.now (omega (arith, within, length-map list call_shown)) c.index-2.ensures in
-    let same : found.0 ≡ call_shown c.index-2.result.now = same_Some found.0 (call_shown c.index-2.result.now) (sym found.1 ∙ there) in
-    fails_choice (map call_shown list) c.args.calls.now.messages c.args.calls.now.good c.args.self.now c.args.entry c.in-Some.place c.requires found
+    let within = slice_get_within list c.in-Some.place found.0 found.1 in
+    let there = c.call.ensures in
+    let same : found.0 ≡ call_shown c.call.result = same_Some found.0 (call_shown c.call.result) (sym found.1 ∙ there) in
+    fails_choice list c.args.calls.now.messages c.args.calls.now.good c.args.self.now c.args.entry c.in-Some.place c.requires found
     (mark_at c.args.self.now.marks.items c.in-Some.place c.index.result.now false (omega (arith, within, c.requires.sized)) c.index.ensures c.if-index.false)
     c.if-self-entry.false
     (λ allowed. let answer = c.allows.ensures.1 (subst (λ (x : PlainCall). Allows x c.args.entry.wrote) same allowed) in let other = c.if-not-allows.true in absurd cc)
 
 pub returns-clause-holds : goal.returns-clause-holds
 returns-clause-holds c =
-    let list = c.args.calls.now.list.items in
+    let list = c.args.calls.now.list in
     let found = c.in-Some.ensures.found in
-    let within = slice_get_within (map call_shown list) c.in-Some.place found.0 found.1 in
-    let there = shown_at list c.in-Some.place c.index-2.result.now (omega (arith, within, length-map list call_shown)) c.index-2.ensures in
-    let same : found.0 ≡ call_shown c.index-2.result.now = same_Some found.0 (call_shown c.index-2.result.now) (sym found.1 ∙ there) in
-    place_holds (map call_shown list) c.args.calls.now.messages c.args.calls.now.good c.args.self.now c.args.entry c.in-Some.place c.requires found
+    let within = slice_get_within list c.in-Some.place found.0 found.1 in
+    let there = c.call.ensures in
+    let same : found.0 ≡ call_shown c.call.result = same_Some found.0 (call_shown c.call.result) (sym found.1 ∙ there) in
+    place_holds list c.args.calls.now.messages c.args.calls.now.good c.args.self.now c.args.entry c.in-Some.place c.requires found
     (mark_at c.args.self.now.marks.items c.in-Some.place c.index.result.now false (omega (arith, within, c.requires.sized)) c.index.ensures c.if-index.false)
     c.if-self-entry.false
     (subst (λ (x : PlainCall). Allows x c.args.entry.wrote) (sym same) (c.allows.ensures.0 c.if-not-allows.false))

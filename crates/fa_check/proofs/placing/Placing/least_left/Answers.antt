@@ -15,29 +15,25 @@ use Rattle.fa_check.proofs.placing.Placing.least_left.Goals.{else-is_some-via-th
 
 pub returns-then-not-index : goal.returns-then-not-index
 returns-then-not-index c =
-    let list = c.args.calls.now.list.items in
+    let list = c.args.calls.now.list in
     let n = c.loop-place.place in
-    let call = c.call-item.result in
-    let there : slice_get (map call_shown list) n ≡ Some (call_shown call) =
-    subst (λ xs. slice_get (map call_shown xs) n ≡ Some (call_shown call)) c.deref-call-items.ensures.value
-    (shown_at c.deref-call-items.result.now n call c.loop-place-test.true c.call-item.is) in
-    let within : n < length (map call_shown list) = slice_get_within (map call_shown list) n (call_shown call) there in
+    let call = c.call-call.result in
+    let there : slice_get list n ≡ Some (call_shown call) = c.call-call.ensures in
+    let within : n < length list = slice_get_within list n (call_shown call) there in
     let answer = some_of call.answer (sym c.is_some.ensures ∙ c.if-is_some.true) in
-    first_left (map call_shown list) c.args.self.now.marks.items n (call_shown call) (answer_shown answer.0) (asked_rise (map call_shown list) c.args.calls.now.messages c.args.calls.now.good)
+    first_left list c.args.self.now.marks.items n (call_shown call) (answer_shown answer.0) (asked_rise list c.args.calls.now.messages c.args.calls.now.good)
     there (ap (option_map answer_shown) answer.1)
     (mark_at c.args.self.now.marks.items n c.index.result.now false (omega (arith, within, c.requires.sized)) c.index.ensures c.if-not-index.true) c.loop-place.invariant
 
 pub loop-place-preserved : goal.loop-place-preserved
 loop-place-preserved c =
-    let list = c.args.calls.now.list.items in
+    let list = c.args.calls.now.list in
     let n = c.loop-place.place in
-    let call = c.call-item.result in
-    let there : slice_get (map call_shown list) n ≡ Some (call_shown call) =
-    subst (λ xs. slice_get (map call_shown xs) n ≡ Some (call_shown call)) c.deref-call-items.ensures.value
-    (shown_at c.deref-call-items.result.now n call c.loop-place-test.true c.call-item.is) in
-    let within : n < length (map call_shown list) = slice_get_within (map call_shown list) n (call_shown call) there in
+    let call = c.call-call.result in
+    let there : slice_get list n ≡ Some (call_shown call) = c.call-call.ensures in
+    let within : n < length list = slice_get_within list n (call_shown call) there in
     let marks = c.args.self.now.marks.items in
-    let none : (q : ℕ) → IsAnswerAt (map call_shown list) n q → IsUnset marks n → ⊥ = λ q answer left. elim c.else-is_some.branch [
+    let none : (q : ℕ) → IsAnswerAt list n q → IsUnset marks n → ⊥ = λ q answer left. elim c.else-is_some.branch [
       | else-is_some-via-then-is_some+else-not-index w ↦
           not_both marks n (mark_at marks n w.index.result.now true (omega (arith, within, c.requires.sized)) w.index.ensures w.if-not-index.false) left
       | else-is_some-via-else-is_some w ↦
@@ -46,10 +42,10 @@ loop-place-preserved c =
           let clash : None ≡ Some answer.1 = sym gone ∙ ap (λ (x : PlainCall). x.answer) same ∙ answer.3 in
           absurd cc
     ] in
-    none_left_more (map call_shown list) marks n none c.loop-place.invariant
+    none_left_more list marks n none c.loop-place.invariant
 
 pub returns : goal.returns
 returns c =
-    let list = c.args.calls.now.list.items in
-    none_left (map call_shown list) c.args.self.now.marks.items c.loop-place.place
-    (omega (arith, length-map list call_shown, ap length c.deref-call-items.ensures.value, c.loop-place-test.false)) c.loop-place.invariant
+    let list = c.args.calls.now.list in
+    none_left list c.args.self.now.marks.items c.loop-place.place
+    (omega (arith, c.len-place-end.ensures, c.loop-place-test.false)) c.loop-place.invariant

@@ -10,42 +10,41 @@ use Rattle.fa_check.proofs.placing.Placing.note.Goals as goal
 
 pub overflow_add-self : goal.overflow_add-self
 overflow_add-self c =
-    let fits = count_fits (map call_shown c.args.calls.now.list.items) c.args.calls.now.messages c.args.calls.now.good c.args.self.now c.args.place c.requires.shape c.requires.unplaced in
+    let fits = count_fits c.args.calls.now.list c.args.calls.now.messages c.args.calls.now.good c.args.self.now c.args.place c.requires.shape c.requires.unplaced in
     omega (arith, fits)
 
-pub index-requires : goal.index-requires
-index-requires c =
-    let list = c.args.calls.now.list.items in
+pub call-requires : goal.call-requires
+call-requires c =
+    let list = c.args.calls.now.list in
     let within = slice_get_within c.args.self.now.marks.items c.args.place _ c.requires.unplaced in
-    let long : vec_len c.args.calls.now.list ≡ length list = search rules in
-    omega (arith, within, c.requires.shape.sized, length-map list call_shown, long)
+    omega (arith, within, c.requires.shape.sized)
 
 pub remove-requires-clause-within : goal.remove-requires-clause-within
 remove-requires-clause-within c =
-    let list = c.args.calls.now.list.items in
-    let call = c.index.result.now in
+    let list = c.args.calls.now.list in
+    let call = c.call.result in
     let within = slice_get_within c.args.self.now.marks.items c.args.place _ c.requires.unplaced in
-    let there = shown_at list c.args.place call (omega (arith, within, c.requires.shape.sized, length-map list call_shown)) c.index.ensures in
+    let there = c.call.ensures in
     let answer : PlainAnswer = answer_shown c.in-Some.answer in
-    let below = answer_below (map call_shown list) c.args.calls.now.messages c.args.calls.now.good c.args.place c.in-Some.answer.at (call_shown call, answer, there, ap (option_map answer_shown) c.in-Some.is, refl) in
+    let below = answer_below list c.args.calls.now.messages c.args.calls.now.good c.args.place c.in-Some.answer.at (call_shown call, answer, there, ap (option_map answer_shown) c.in-Some.is, refl) in
     let wide : length c.args.self.now.waiting.answers.items ≡ c.args.calls.now.messages = c.requires.shape.wide in
     omega (arith, below, wide)
 
 pub returns-in-Some-clause-shape : goal.returns-in-Some-clause-shape
 returns-in-Some-clause-shape c =
-    let list = c.args.calls.now.list.items in
-    let call = c.index.result.now in
+    let list = c.args.calls.now.list in
+    let call = c.call.result in
     let within = slice_get_within c.args.self.now.marks.items c.args.place _ c.requires.unplaced in
-    let there = shown_at list c.args.place call (omega (arith, within, c.requires.shape.sized, length-map list call_shown)) c.index.ensures in
+    let there = c.call.ensures in
     let answer : PlainAnswer = answer_shown c.in-Some.answer in
-    placed_less (map call_shown list) c.args.calls.now.messages c.args.calls.now.good c.args.self.now _ c.args.place (call_shown call) answer there (ap (option_map answer_shown) c.in-Some.is)
+    placed_less list c.args.calls.now.messages c.args.calls.now.good c.args.self.now _ c.args.place (call_shown call) answer there (ap (option_map answer_shown) c.in-Some.is)
     c.requires.unplaced c.requires.shape refl c.remove.ensures.removed c.remove.ensures.front refl
 
 pub returns-in_default-clause-shape : goal.returns-in_default-clause-shape
 returns-in_default-clause-shape c =
-    let list = c.args.calls.now.list.items in
-    let call = c.index.result.now in
+    let list = c.args.calls.now.list in
+    let call = c.call.result in
     let within = slice_get_within c.args.self.now.marks.items c.args.place _ c.requires.unplaced in
-    let there = shown_at list c.args.place call (omega (arith, within, c.requires.shape.sized, length-map list call_shown)) c.index.ensures in
-    placed_still (map call_shown list) c.args.calls.now.messages c.args.calls.now.good c.args.self.now _ c.args.place (call_shown call) there
+    let there = c.call.ensures in
+    placed_still list c.args.calls.now.messages c.args.calls.now.good c.args.self.now _ c.args.place (call_shown call) there
     (ap (option_map answer_shown) (none_of call.answer c.in_default.not-Some)) c.requires.unplaced c.requires.shape refl refl refl

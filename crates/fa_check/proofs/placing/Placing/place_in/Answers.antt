@@ -15,29 +15,29 @@ use Rattle.fa_check.proofs.placing.Placing.place_in.Goals as goal
 pub returns-in_err-place-clause-refused : goal.returns-in_err-place-clause-refused
 returns-in_err-place-clause-refused c =
     let p = err_from_is_err_and c.from_residual.result c.from_residual.ensures.1 in
-    let fault = subst (λ (x : Calls). FirstFailure (place_checks (map call_shown x.list.items) c.args.self.now.marks.items c.args.entry) c.in_err-place.field-0.0) c.calls-calls.ensures c.in_err-place.ensures.fault in
+    let fault = subst (λ (x : Calls). FirstFailure (place_checks x.list c.args.self.now.marks.items c.args.entry) c.in_err-place.field-0.0) c.calls-calls.ensures c.in_err-place.ensures.fault in
     rw (p.1, p.2) (place_fails c.args.replay.now c.args.tree.now c.args.entry c.args.self.now c.in_err-place.field-0.0 fault)
 
 pub step_in-requires-clause-there : goal.step_in-requires-clause-there
 step_in-requires-clause-there c =
-    let list = c.args.replay.now.list.items in
-    let found = subst (λ (x : Calls). IsCallOf (map call_shown x.list.items) c.in_ok-place.place c.args.entry.at) c.calls-calls.ensures c.in_ok-place.ensures.found in
-    let within = slice_get_within (map call_shown list) c.in_ok-place.place found.0 found.1 in
-    omega (arith, within, length-map list call_shown)
+    let list = c.args.replay.now.list in
+    let found = subst (λ (x : Calls). IsCallOf x.list c.in_ok-place.place c.args.entry.at) c.calls-calls.ensures c.in_ok-place.ensures.found in
+    let within = slice_get_within list c.in_ok-place.place found.0 found.1 in
+    omega (arith, within)
 
 pub returns-in_err-step_in-clause-refused : goal.returns-in_err-step_in-clause-refused
 returns-in_err-step_in-clause-refused c =
     let p = err_from_is_err_and c.from_residual-in_err-step_in.result c.from_residual-in_err-step_in.ensures.1 in
-    let found = subst (λ (x : Calls). IsCallOf (map call_shown x.list.items) c.in_ok-place.place c.args.entry.at) c.calls-calls.ensures c.in_ok-place.ensures.found in
-    let holds = subst (λ (x : Calls). AllHold (place_checks (map call_shown x.list.items) c.args.self.now.marks.items c.args.entry)) c.calls-calls.ensures c.in_ok-place.ensures.holds in
+    let found = subst (λ (x : Calls). IsCallOf x.list c.in_ok-place.place c.args.entry.at) c.calls-calls.ensures c.in_ok-place.ensures.found in
+    let holds = subst (λ (x : Calls). AllHold (place_checks x.list c.args.self.now.marks.items c.args.entry)) c.calls-calls.ensures c.in_ok-place.ensures.holds in
     rw (p.1, p.2) (step_fails c.args.replay.now c.args.tree.now c.args.entry c.args.self.now c.in_ok-place.place c.in_err-step_in.field-0.0 found holds c.in_err-step_in.ensures.refused)
 
 pub returns-clause-placed : goal.returns-clause-placed
 returns-clause-placed c = λ first es so_far.
     let calls = c.args.replay.now in
-    let found = subst (λ (x : Calls). IsCallOf (map call_shown x.list.items) c.in_ok-place.place c.args.entry.at) c.calls-calls.ensures c.in_ok-place.ensures.found in
-    let holds = subst (λ (x : Calls). AllHold (place_checks (map call_shown x.list.items) c.args.self.now.marks.items c.args.entry)) c.calls-calls.ensures c.in_ok-place.ensures.holds in
-    let shape = subst (λ (x : Calls). IsPlacing (map call_shown x.list.items) x.messages c.note.new.self) c.calls-calls.ensures c.note.ensures.shape in
+    let found = subst (λ (x : Calls). IsCallOf x.list c.in_ok-place.place c.args.entry.at) c.calls-calls.ensures c.in_ok-place.ensures.found in
+    let holds = subst (λ (x : Calls). AllHold (place_checks x.list c.args.self.now.marks.items c.args.entry)) c.calls-calls.ensures c.in_ok-place.ensures.holds in
+    let shape = subst (λ (x : Calls). IsPlacing x.list x.messages c.note.new.self) c.calls-calls.ensures c.note.ensures.shape in
     replayed_more calls first c.args.tree.now c.step_in.new.self es c.args.entry c.args.self.now c.note.new.self c.in_ok-place.place
-    (one_place (map call_shown calls.list.items) calls.messages calls.good) found holds c.in_ok-step_in.ensures.steps
+    (one_place calls.list calls.messages calls.good) found holds c.in_ok-step_in.ensures.steps
     shape c.note.ensures.marked c.note.ensures.counted so_far

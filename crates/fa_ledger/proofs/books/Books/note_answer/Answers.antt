@@ -1,36 +1,29 @@
-use Rattle.std.proofs.Common.{◌+◌, ◌≤◌, Option, Some, List, length, sym, ap, subst, refl, ◌∙◌, ◌≡◌, nat_eq}
-use Rattle.std.specs.Prelude.{IsTrue, option_map}
+use Rattle.std.proofs.Common.{◌+◌, ◌≤◌, Some, List, length, sym, ap, subst, refl, ◌∙◌, ◌≡◌, nat_eq}
+use Rattle.std.specs.Prelude.{IsTrue}
 use Rattle.std.proofs.lemmas.Result.{err_from_is_err_and}
 use Rattle.std.specs.Map.{lookup}
 use Rattle.fa_bodies.specs.Requests.{request_shown, body_shown}
 use Rattle.fa_bodies.specs.Replies.{reply_shown}
 use Rattle.fa_ledger.specs.declared.name.NodeName.{NodeName}
-use Rattle.fa_ledger.specs.declared.operation.Operation.{Operation}
-use Rattle.fa_ledger.specs.Operations.{operation_shown}
-use Rattle.fa_ledger.specs.Calls.{given_shown}
 use Rattle.fa_ledger.specs.Keys.{key_eq}
-use Rattle.fa_ledger.specs.parts.Steps.{given_again, times_named, count_left, opened_with, opens_new, some_new, IsOpenedBy}
+use Rattle.fa_ledger.specs.parts.Steps.{given_again, times_named, count_left, opened_with, opens_new, some_new, IsOpenedBy, given_names_shown}
+use Rattle.fa_ledger.proofs.OperationLemmas.{operation_asked}
 use Rattle.fa_ledger.proofs.ReplyBookLemmas.{operation_there, give_fits, open_fits, answer_shows, names_more, nodes_more, keys_more, listed_more, listed_counted, listed_anew, noted_also}
 use Rattle.fa_ledger.proofs.books.Books.note_answer.Goals as goal
-
-pub unwrap-operation-requires : goal.unwrap-operation-requires
-unwrap-operation-requires c =
-    let stands = c.requires.stands in
-    operation_there stands.0 stands.1 stands.2 c.args.at c.args.asked (request_shown c.args.request.now) (reply_shown c.args.reply) c.args.self.now stands.3 c.requires.waits.0 c.requires.waits.1 c.requires.waits.2 c.of.result c.of.ensures
 
 pub returns-in_err-given-clause-memory : goal.returns-in_err-given-clause-memory
 returns-in_err-given-clause-memory c =
     let p = err_from_is_err_and c.from_residual.result c.from_residual.ensures.1 in
-    rw p.1 (p.2, λ before m es stands. names_more es c.args.at c.args.asked (request_shown c.args.request.now) (reply_shown c.args.reply) c.in_err-given.ensures.wanted)
+    rw p.1 (p.2, λ before m es stands. names_more es c.args.at c.args.asked (request_shown c.args.messages.now.to.request) (reply_shown c.args.messages.now.reply) c.in_err-given.ensures.wanted)
 
 pub returns-in_err-reserve-clause-memory : goal.returns-in_err-reserve-clause-memory
 returns-in_err-reserve-clause-memory c =
     let p = err_from_is_err_and c.from_residual-in_err-reserve.result c.from_residual-in_err-reserve.ensures.1 in
-    let named = c.names-names.ensures ∙ c.in_ok-given.ensures.named in
+    let named = c.as_slice-names.ensures ∙ c.in_ok-given.ensures.named in
     rw p.1 (
       p.2,
       λ before m es stands.
-          nodes_more es c.args.at c.args.asked (request_shown c.args.request.now) (reply_shown c.args.reply) c.args.self.now c.names-names.result.now stands.shown named c.in_err-reserve.ensures.wanted,
+          nodes_more es c.args.at c.args.asked (request_shown c.args.messages.now.to.request) (reply_shown c.args.messages.now.reply) c.args.self.now c.as_slice-names.result.now stands.shown named c.in_err-reserve.ensures.wanted,
     )
 
 pub returns-in_err-reserve-2-clause-memory : goal.returns-in_err-reserve-2-clause-memory
@@ -39,7 +32,7 @@ returns-in_err-reserve-2-clause-memory c =
     rw p.1 (
       p.2,
       λ before m es stands.
-          keys_more before m es c.args.at c.args.asked (request_shown c.args.request.now) (reply_shown c.args.reply) c.args.self.now c.names-names.result.now c.opened-opened.result (record {
+          keys_more before m es c.args.at c.args.asked (request_shown c.args.messages.now.to.request) (reply_shown c.args.messages.now.reply) c.args.self.now c.as_slice-names.result.now c.opened-opened.result (record {
             stands = stands;
             may = c.requires.allowed;
             waiting = c.args.waiting;
@@ -47,20 +40,20 @@ returns-in_err-reserve-2-clause-memory c =
             call = c.requires.waits.1;
             waits = c.requires.waits.2;
             own = c.requires.waits.3;
-            named = c.names-names.ensures ∙ c.in_ok-given.ensures.named;
+            named = c.as_slice-names.ensures ∙ c.in_ok-given.ensures.named;
             opens = c.opened-opened.ensures;
           }) c.in_err-reserve-2.ensures.wanted,
     )
 
 pub give-requires-clause-room : goal.give-requires-clause-room
 give-requires-clause-room c = λ new.
-    c.in_ok-reserve.ensures.room (subst (λ known. IsTrue (some_new known c.names-names.result.now)) c.in_ok-reserve.ensures.kept new)
+    c.in_ok-reserve.ensures.room (subst (λ known. IsTrue (some_new known c.as_slice-names.result.now)) c.in_ok-reserve.ensures.kept new)
 
 pub give-requires-clause-few : goal.give-requires-clause-few
 give-requires-clause-few c = λ node.
     let stands = c.requires.stands in
-    let fits = give_fits stands.0 stands.1 stands.2 c.args.at c.args.asked (request_shown c.args.request.now) (reply_shown c.args.reply) c.args.self.now c.names-names.result.now stands.3 (c.names-names.ensures ∙ c.in_ok-given.ensures.named) node in
-    subst (λ known. count_left (lookup (nat_eq node) known) + length c.names-names.result.now ≤ 18446744073709551615) (sym c.in_ok-reserve.ensures.kept) fits
+    let fits = give_fits stands.0 stands.1 stands.2 c.args.at c.args.asked (request_shown c.args.messages.now.to.request) (reply_shown c.args.messages.now.reply) c.args.self.now c.as_slice-names.result.now stands.3 (c.as_slice-names.ensures ∙ c.in_ok-given.ensures.named) node in
+    subst (λ known. count_left (lookup (nat_eq node) known) + length c.as_slice-names.result.now ≤ 18446744073709551615) (sym c.in_ok-reserve.ensures.kept) fits
 
 pub note_opened-opens-requires-clause-few : goal.note_opened-opens-requires-clause-few
 note_opened-opens-requires-clause-few c = λ key handle there.
@@ -73,31 +66,37 @@ returns-in_err-reserve-3-clause-memory c =
     rw p.1 (
       p.2,
       λ before m es stands.
-          listed_more before m es c.args.at c.args.asked (request_shown c.args.request.now) (reply_shown c.args.reply) c.args.self.now c.requires.waits.0 c.requires.waits.1 c.args.waiting c.listed-listed.result
+          listed_more before m es c.args.at c.args.asked (request_shown c.args.messages.now.to.request) (reply_shown c.args.messages.now.reply) c.args.self.now c.requires.waits.0 c.requires.waits.1 c.args.waiting c.listed-listed.result
           stands c.requires.waits.2 c.requires.waits.3 c.listed-listed.ensures c.in_err-reserve-3.ensures.wanted,
     )
 
 pub note-requires-clause-fresh : goal.note-requires-clause-fresh
 note-requires-clause-fresh c =
     let stands = c.requires.stands in
-    listed_anew stands.0 stands.1 stands.2 c.args.at c.args.asked (request_shown c.args.request.now) (reply_shown c.args.reply) c.args.self.now stands.3 _ c.in_ok-reserve-3.ensures.same
+    listed_anew stands.0 stands.1 stands.2 c.args.at c.args.asked (request_shown c.args.messages.now.to.request) (reply_shown c.args.messages.now.reply) c.args.self.now stands.3 _ c.in_ok-reserve-3.ensures.same
 
 pub note-requires-clause-counted : goal.note-requires-clause-counted
 note-requires-clause-counted c =
     let stands = c.requires.stands in
-    (listed_counted stands.0 stands.1 c.args.at c.args.asked (request_shown c.args.request.now) (reply_shown c.args.reply) stands.3.event c.args.self.now.handles.opened.entries c.args.waiting c.requires.waits.1 c.requires.waits.3 c.listed-listed.result c.listed-listed.ensures).0
+    (listed_counted stands.0 stands.1 c.args.at c.args.asked (request_shown c.args.messages.now.to.request) (reply_shown c.args.messages.now.reply) stands.3.event c.args.self.now.handles.opened.entries c.args.waiting c.requires.waits.1 c.requires.waits.3 c.listed-listed.result c.listed-listed.ensures).0
 
 pub note-requires-clause-few : goal.note-requires-clause-few
 note-requires-clause-few c =
     let stands = c.requires.stands in
-    (listed_counted stands.0 stands.1 c.args.at c.args.asked (request_shown c.args.request.now) (reply_shown c.args.reply) stands.3.event c.args.self.now.handles.opened.entries c.args.waiting c.requires.waits.1 c.requires.waits.3 c.listed-listed.result c.listed-listed.ensures).1
+    (listed_counted stands.0 stands.1 c.args.at c.args.asked (request_shown c.args.messages.now.to.request) (reply_shown c.args.messages.now.reply) stands.3.event c.args.self.now.handles.opened.entries c.args.waiting c.requires.waits.1 c.requires.waits.3 c.listed-listed.result c.listed-listed.ensures).1
+
+pub answered-both-requires : goal.answered-both-requires
+answered-both-requires c =
+    let stands = c.requires.stands in
+    let there = operation_there stands.0 stands.1 stands.2 c.args.at c.args.asked (request_shown c.args.messages.now.to.request) (reply_shown c.args.messages.now.reply) c.args.self.now stands.3 c.requires.waits.0 c.requires.waits.1 c.requires.waits.2 in
+    operation_asked (body_shown c.args.messages.now.to.request.body) (Some (reply_shown c.args.messages.now.reply)) there.0 there.1
 
 pub returns-clause-shows : goal.returns-clause-shows
 returns-clause-shows c = λ before m es stands.
-    let names : List NodeName = given_shown c.in_ok-given.given in
-    let same = c.names-names.ensures in
+    let names : List NodeName = given_names_shown c.in_ok-given.given in
+    let same = c.as_slice-names.ensures in
     let which = c.opened-opened.result in
-    answer_shows before m es c.args.at c.args.asked (request_shown c.args.request.now) (reply_shown c.args.reply) c.args.self.now _ names which c.note_opened-opens.result (operation_shown c.unwrap-operation.result) (record {
+    answer_shows before m es c.args.at c.args.asked (request_shown c.args.messages.now.to.request) (reply_shown c.args.messages.now.reply) c.args.self.now _ names which c.note_opened-opens.result c.answered-both.result.said.0 (record {
       stands = stands;
       may = c.requires.allowed;
       waiting = c.args.waiting;
@@ -106,9 +105,9 @@ returns-clause-shows c = λ before m es stands.
       waits = c.requires.waits.2;
       own = c.requires.waits.3;
       named = c.in_ok-given.ensures.named;
-      opens = c.opened-opened.ensures ∙ ap (λ ns. opened_with c.args.waiting.node ns (body_shown c.args.request.now.body) (reply_shown c.args.reply)) same;
+      opens = c.opened-opened.ensures ∙ ap (λ ns. opened_with c.args.waiting.node ns (body_shown c.args.messages.now.to.request.body) (reply_shown c.args.messages.now.reply)) same;
     })
-    (sym c.of.ensures ∙ ap (λ (o : Option Operation). option_map operation_shown o) c.unwrap-operation.ensures)
+    c.answered-both.ensures
     (c.note_opened-opens.ensures.anew ∙ ap (λ opened. opens_new opened which) c.in_ok-reserve-2.ensures.kept)
     refl
     (λ node. c.give.ensures node ∙ ap (λ ns. given_again c.args.at (times_named node ns) (lookup (nat_eq node) c.reserve.new.self.known.entries)) same

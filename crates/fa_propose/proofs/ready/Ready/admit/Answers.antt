@@ -1,44 +1,40 @@
-use Rattle.std.proofs.Common.{◌<◌, ◌+◌, ◌-◌, length, map, sym, ap, subst, arith}
-use Rattle.std.proofs.lemmas.List.{length-map}
+use Rattle.std.proofs.Common.{◌<◌, ◌+◌, ◌-◌, length, sym, subst, arith}
+use Rattle.std.proofs.lemmas.Option.{slice_get_within}
 use Rattle.fa_ledger.specs.Calls.{call_shown}
 use Rattle.fa_propose.specs.parts.Ready.{IsReady}
-use Rattle.fa_propose.proofs.ReadyLemmas.{call_here, one_more, end_seen, front_seen}
+use Rattle.fa_propose.proofs.ReadyLemmas.{one_more, end_seen, front_seen}
 use Rattle.fa_propose.proofs.ready.Ready.admit.Goals as goal
 
-pub loop-call-init : goal.loop-call-init
-loop-call-init c = λ messages es is front so_far. so_far
+pub loop-self-init : goal.loop-self-init
+loop-self-init c = λ messages es is front so_far. so_far
 
-pub loop-call-smaller : goal.loop-call-smaller
-loop-call-smaller c =
-    let within = c.in-Some.ensures.lookup.3.0 in
-    let long = ap length c.deref.ensures.value in
+pub loop-self-smaller : goal.loop-self-smaller
+loop-self-smaller c =
+    let there = c.call-call.ensures in
+    let within = slice_get_within c.args.calls.now.list c.loop-self.self.seen (call_shown c.call-call.result) there in
     let seen = c.in_ok-offer.ensures.seen in
-    let less : length c.args.calls.now.list.items - (c.offer.new.self.seen + 1) < length c.args.calls.now.list.items - c.loop-call.self.seen = omega (arith, within, long, seen) in
+    let less : length c.args.calls.now.list - (c.offer.new.self.seen + 1) < length c.args.calls.now.list - c.loop-self.self.seen = omega (arith, within, seen) in
     less
 
-pub loop-call-preserved : goal.loop-call-preserved
-loop-call-preserved c = λ messages es is front so_far.
-    let plain = map call_shown c.args.calls.now.list.items in
-    let lookup = c.in-Some.ensures.lookup in
-    let there = call_here c.args.calls.now.list.items c.deref.result.now c.loop-call.self.seen c.in-Some.call.now c.deref.ensures.value lookup.3.0 (lookup.3.1 c.in-Some.call.now) in
+pub loop-self-preserved : goal.loop-self-preserved
+loop-self-preserved c = λ messages es is front so_far.
+    let plain = c.args.calls.now.list in
+    let there = c.call-call.ensures in
     subst (λ n. IsReady messages plain es (n + 1) c.offer.new.self.entries.entries) (sym c.in_ok-offer.ensures.seen)
-    (one_more messages plain is.are es c.args.front front c.loop-call.self.seen c.loop-call.self.entries.entries c.offer.new.self.entries.entries (call_shown c.in-Some.call.now) there
-    (omega (arith, c.if-front-call.false)) c.in_ok-offer.ensures.offered (c.loop-call.invariant messages es is front so_far))
+    (one_more messages plain is.are es c.args.front front c.loop-self.self.seen c.loop-self.self.entries.entries c.offer.new.self.entries.entries (call_shown c.call-call.result) there
+    (omega (arith, c.if-front-call.false)) c.in_ok-offer.ensures.offered (c.loop-self.invariant messages es is front so_far))
 
 pub returns-then-front-call : goal.returns-then-front-call
 returns-then-front-call c = λ messages es is front so_far.
-    let plain = map call_shown c.args.calls.now.list.items in
-    let lookup = c.in-Some.ensures.lookup in
-    let there = call_here c.args.calls.now.list.items c.deref.result.now c.loop-call.self.seen c.in-Some.call.now c.deref.ensures.value lookup.3.0 (lookup.3.1 c.in-Some.call.now) in (
-      c.loop-call.invariant messages es is front so_far,
-      front_seen messages plain is.are es c.args.front front c.loop-call.self.seen (call_shown c.in-Some.call.now) there c.if-front-call.true,
+    let plain = c.args.calls.now.list in
+    let there = c.call-call.ensures in (
+      c.loop-self.invariant messages es is front so_far,
+      front_seen messages plain is.are es c.args.front front c.loop-self.self.seen (call_shown c.call-call.result) there c.if-front-call.true,
     )
 
-pub returns-in_default : goal.returns-in_default
-returns-in_default c = λ messages es is front so_far.
-    let plain = map call_shown c.args.calls.now.list.items in
-    let end = c.in_default.ensures.lookup.3 in
-    let long = ap length c.deref.ensures.value in (
-      c.loop-call.invariant messages es is front so_far,
-      end_seen messages plain is.are es c.args.front front c.loop-call.self.seen (omega (arith, end, long, length-map c.args.calls.now.list.items call_shown)),
+pub returns-after-loop-self : goal.returns-after-loop-self
+returns-after-loop-self c = λ messages es is front so_far.
+    let plain = c.args.calls.now.list in (
+      c.loop-self.invariant messages es is front so_far,
+      end_seen messages plain is.are es c.args.front front c.loop-self.self.seen (omega (arith, c.loop-self-test.false, c.len.ensures)),
     )

@@ -7,11 +7,11 @@ use Rattle.fa_check.specs.Replays.{IsFront}
 use Rattle.fa_propose.specs.parts.Ready.{IsReady}
 use Rattle.fa_propose.proofs.ready.Ready.admit.Given as goal
 
-abbrev pub invariant-loop-call : goal.invariant-loop-call
-invariant-loop-call l =
+abbrev pub invariant-loop-self : goal.invariant-loop-self
+invariant-loop-self l =
     (c : List Message) (es : List Entry) → AreMessagesOf l.calls c → IsFront c es l.front
-    → IsReady c (map call_shown l.calls.list.items) es l.fn.self.seen l.fn.self.entries.entries
-    → IsReady c (map call_shown l.calls.list.items) es l.self.seen l.self.entries.entries
+    → IsReady c l.calls.list es l.fn.self.seen l.fn.self.entries.entries
+    → IsReady c l.calls.list es l.self.seen l.self.entries.entries
 
-abbrev pub decreases-loop-call : goal.decreases-loop-call
-decreases-loop-call l = length l.calls.list.items - l.self.seen
+abbrev pub decreases-loop-self : goal.decreases-loop-self
+decreases-loop-self l = length l.calls.list - l.self.seen

@@ -10,7 +10,7 @@ use Rattle.fa_propose.proofs.ready.Ready.place_next.Goals as goal
 
 pub returns-in_default-clause-next : goal.returns-in_default-clause-next
 returns-in_default-clause-next c = λ messages first es is so_far ready all.
-    let plain = map call_shown c.args.replay.now.list.items in
+    let plain = c.args.replay.now.list in
     let entries = c.args.self.now.entries.entries in
     let seen = c.args.self.now.seen in
     let tried = c.in_ok-rank.ensures.tried messages first es is so_far (each_may_come messages plain es seen entries ready) in
@@ -24,7 +24,7 @@ returns-clause-replayed c = λ first es so_far.
 
 pub returns-clause-next : goal.returns-clause-next
 returns-clause-next c = λ messages first es is so_far ready all.
-    let plain = map call_shown c.args.replay.now.list.items in
+    let plain = c.args.replay.now.list in
     let entries = c.args.self.now.entries.entries in
     let seen = c.args.self.now.seen in
     let tried = c.in_ok-rank.ensures.tried messages first es is so_far (each_may_come messages plain es seen entries ready) in

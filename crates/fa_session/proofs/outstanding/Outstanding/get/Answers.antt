@@ -5,7 +5,7 @@ use Rattle.fa_session.specs.declared.waiting.Waiting.{Waiting}
 use Rattle.fa_session.proofs.outstanding.Outstanding.get.Goals as goal
 
 -- what holds of a request that is found, holds of it where it is lent
-of_lent : (found : Option (Bor Waiting)) (unique : ℕ) → ((w : Waiting) → option_copied found ≡ Some w → w.request.unique ≡ unique) → IfSome found (λ waiting. waiting.now.request.unique ≡ unique)
+of_lent : (found : Option (Bor Waiting)) (unique : ℕ) → ((w : Waiting) → option_copied found ≡ Some w → w.unique ≡ unique) → IfSome found (λ waiting. waiting.now.unique ≡ unique)
 of_lent None unique own = tt
 of_lent (Some w) unique own = own w.now refl
 

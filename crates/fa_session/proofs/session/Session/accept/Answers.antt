@@ -1,11 +1,11 @@
-use Rattle.std.proofs.Common.{Bor, ℕ, Option, sym, ap, ◌∙◌, subst, option_map}
+use Rattle.std.proofs.Common.{ℕ, Option, sym, ap, ◌∙◌, subst, option_map}
 use Rattle.std.proofs.lemmas.Result.{err_from_is_err_and}
 use Rattle.fa_capture.specs.Message.{message}
 use Rattle.fa_bodies.specs.Requests.{request_shown}
 use Rattle.fa_bodies.specs.Replies.{reply_shown}
 use Rattle.fa_session.specs.parts.Steps.{NotesReply}
-use Rattle.fa_session.specs.declared.waiting.Waiting.{Waiting}
-use Rattle.fa_session.specs.parts.View.{waiting_shown}
+use Rattle.fa_session.specs.declared.event.RequestMessage.{RequestMessage}
+use Rattle.fa_session.specs.parts.View.{asked_shown}
 use Rattle.fa_session.proofs.ShowsLemmas.{IsOnlyRequest, IsOnlyHead, IsMatched, shows_asked, shows_noticed, shows_answered, matched_answers}
 use Rattle.fa_session.proofs.MessageLemmas.{IsOnlyReply, request_fails, request_passes, none_waits, body_fails, reply_fails, reply_passes, notice_passes, newly_outstanding}
 use Rattle.fa_session.proofs.session.Session.accept.Goals as goal
@@ -57,14 +57,14 @@ returns-in_default-clause-refused c =
     let is : IsOnlyHead m arm.head = record { is = (c.in-FromServer.is, arm.ensures.found); only = arm.ensures.only } in
     λ before shows. none_waits before m c.args.self.now arm.head is arm.ensures.passes shows
     (λ zero. let yes = c.is_empty.ensures.1 zero in let no = c.if-is_empty.false in absurd cc) c.if-head-eq0.false
-    (sym c.waiting_for.ensures.found ∙ ap (option_map (λ (w : Bor Waiting). waiting_shown w.now)) c.in_default.is)
+    (sym c.waiting_for.ensures.found ∙ ap (option_map (λ (w : ℕ × RequestMessage). asked_shown w.0 w.1)) c.in_default.is)
 
 pub returns-in_err-reply-in-FromServer-clause-refused :
     goal.returns-in_err-reply-in-FromServer-clause-refused
 returns-in_err-reply-in-FromServer-clause-refused c =
     let m = message c.args.packet.now in
     let arm = c.in_ok-head-in-FromServer in
-    let w = waiting_shown c.in-Some.asked.now in
+    let w = asked_shown c.in-Some.asked c.in-Some.message in
     let is : IsOnlyHead m arm.head = record { is = (c.in-FromServer.is, arm.ensures.found); only = arm.ensures.only } in
     let p = err_from_is_err_and c.from_residual-in_err-reply-in-FromServer.result c.from_residual-in_err-reply-in-FromServer.ensures.1 in
     rw (p.1, p.2) (λ before shows.
@@ -72,7 +72,7 @@ returns-in_err-reply-in-FromServer-clause-refused c =
       shows = shows;
       head_is = is;
       reply = c.if-head-eq0.false;
-      found = sym c.waiting_for.ensures.found ∙ ap (option_map (λ (w : Bor Waiting). waiting_shown w.now)) c.in-Some.is;
+      found = sym c.waiting_for.ensures.found ∙ ap (option_map (λ (w : ℕ × RequestMessage). asked_shown w.0 w.1)) c.in-Some.is;
       unique = c.in-Some.ensures.unique;
     } in
     body_fails before m c.args.self.now arm.head w c.in_err-reply-in-FromServer.field-0.0 arm.ensures.passes
@@ -83,7 +83,7 @@ pub returns-in_err-check_reply-in-FromServer-clause-refused :
 returns-in_err-check_reply-in-FromServer-clause-refused c =
     let m = message c.args.packet.now in
     let arm = c.in_ok-head-in-FromServer in
-    let w = waiting_shown c.in-Some.asked.now in
+    let w = asked_shown c.in-Some.asked c.in-Some.message in
     let said = c.in_ok-reply-in-FromServer in
     let is : IsOnlyHead m arm.head = record { is = (c.in-FromServer.is, arm.ensures.found); only = arm.ensures.only } in
     let one : IsOnlyReply m w.request (reply_shown said.reply) = record { found = said.ensures.found; only = said.ensures.only } in
@@ -93,7 +93,7 @@ returns-in_err-check_reply-in-FromServer-clause-refused c =
       shows = shows;
       head_is = is;
       reply = c.if-head-eq0.false;
-      found = sym c.waiting_for.ensures.found ∙ ap (option_map (λ (w : Bor Waiting). waiting_shown w.now)) c.in-Some.is;
+      found = sym c.waiting_for.ensures.found ∙ ap (option_map (λ (w : ℕ × RequestMessage). asked_shown w.0 w.1)) c.in-Some.is;
       unique = c.in-Some.ensures.unique;
     } in
     reply_fails before m c.args.self.now arm.head w (reply_shown said.reply) c.in_err-check_reply-in-FromServer.field-0.0 arm.ensures.passes
@@ -121,7 +121,7 @@ pub returns-in_ok-check_reply-in-FromServer-clause-passes :
 returns-in_ok-check_reply-in-FromServer-clause-passes c =
     let m = message c.args.packet.now in
     let arm = c.in_ok-head-in-FromServer in
-    let w = waiting_shown c.in-Some.asked.now in
+    let w = asked_shown c.in-Some.asked c.in-Some.message in
     let said = c.in_ok-reply-in-FromServer in
     let is : IsOnlyHead m arm.head = record { is = (c.in-FromServer.is, arm.ensures.found); only = arm.ensures.only } in
     let one : IsOnlyReply m w.request (reply_shown said.reply) = record { found = said.ensures.found; only = said.ensures.only } in
@@ -130,7 +130,7 @@ returns-in_ok-check_reply-in-FromServer-clause-passes c =
       shows = shows;
       head_is = is;
       reply = c.if-head-eq0.false;
-      found = sym c.waiting_for.ensures.found ∙ ap (option_map (λ (w : Bor Waiting). waiting_shown w.now)) c.in-Some.is;
+      found = sym c.waiting_for.ensures.found ∙ ap (option_map (λ (w : ℕ × RequestMessage). asked_shown w.0 w.1)) c.in-Some.is;
       unique = c.in-Some.ensures.unique;
     } in
     reply_passes before m c.args.self.now arm.head w (reply_shown said.reply) arm.ensures.passes
@@ -141,7 +141,7 @@ pub returns-in_ok-check_reply-in-FromServer-clause-shows :
 returns-in_ok-check_reply-in-FromServer-clause-shows c =
     let m = message c.args.packet.now in
     let arm = c.in_ok-head-in-FromServer in
-    let w = waiting_shown c.in-Some.asked.now in
+    let w = asked_shown c.in-Some.asked c.in-Some.message in
     let said = c.in_ok-reply-in-FromServer in
     let is : IsOnlyHead m arm.head = record { is = (c.in-FromServer.is, arm.ensures.found); only = arm.ensures.only } in
     let one : IsOnlyReply m w.request (reply_shown said.reply) = record { found = said.ensures.found; only = said.ensures.only } in
@@ -150,7 +150,7 @@ returns-in_ok-check_reply-in-FromServer-clause-shows c =
       shows = shows;
       head_is = is;
       reply = c.if-head-eq0.false;
-      found = sym c.waiting_for.ensures.found ∙ ap (option_map (λ (w : Bor Waiting). waiting_shown w.now)) c.in-Some.is;
+      found = sym c.waiting_for.ensures.found ∙ ap (option_map (λ (w : ℕ × RequestMessage). asked_shown w.0 w.1)) c.in-Some.is;
       unique = c.in-Some.ensures.unique;
     } in
     shows_answered before m c.args.self.now _ arm.head w (reply_shown said.reply) matched said.ensures.found c.in_ok-check_reply-in-FromServer.ensures.ok.0
@@ -163,7 +163,7 @@ pub returns-in_ok-check_reply-in-FromServer-clause-event :
 returns-in_ok-check_reply-in-FromServer-clause-event c =
     let m = message c.args.packet.now in
     let arm = c.in_ok-head-in-FromServer in
-    let w = waiting_shown c.in-Some.asked.now in
+    let w = asked_shown c.in-Some.asked c.in-Some.message in
     let said = c.in_ok-reply-in-FromServer in
     let is : IsOnlyHead m arm.head = record { is = (c.in-FromServer.is, arm.ensures.found); only = arm.ensures.only } in
     λ before shows.
@@ -171,7 +171,7 @@ returns-in_ok-check_reply-in-FromServer-clause-event c =
       shows = shows;
       head_is = is;
       reply = c.if-head-eq0.false;
-      found = sym c.waiting_for.ensures.found ∙ ap (option_map (λ (w : Bor Waiting). waiting_shown w.now)) c.in-Some.is;
+      found = sym c.waiting_for.ensures.found ∙ ap (option_map (λ (w : ℕ × RequestMessage). asked_shown w.0 w.1)) c.in-Some.is;
       unique = c.in-Some.ensures.unique;
     } in
     (c.note_reply-at.ensures.at ∙ shows.counted, matched_answers before m c.args.self.now arm.head w matched, said.ensures.found)

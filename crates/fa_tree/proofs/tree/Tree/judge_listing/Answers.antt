@@ -22,7 +22,7 @@ returns-in-Fails c =
     let x = directory_shown c.args.at.now in
     let call = call_shown c.args.call.now in
     let l = list_shown c.args.list.now in
-    let so_far = listing_so_far (map call_shown c.args.replay.now.list.items) c.args.k in
+    let so_far = listing_so_far c.args.replay.now.list c.args.k in
     let fits : SFits w32 c.in-Fails.error = search rules in
     let same = to_z-of_z w32 c.in-Fails.error fits in
     let is : l.outcome ≡ Fails c.in-Fails.error = ap (with_success entries_left) c.in-Fails.is in
@@ -44,7 +44,7 @@ returns-in-Succeeds c =
     let x = directory_shown c.args.at.now in
     let call = call_shown c.args.call.now in
     let l = list_shown c.args.list.now in
-    let so_far = listing_so_far (map call_shown c.args.replay.now.list.items) c.args.k in
+    let so_far = listing_so_far c.args.replay.now.list c.args.k in
     let entries = entries_left c.in-Succeeds.entries in
     let is : l.outcome ≡ Succeeds entries = ap (with_success entries_left) c.in-Succeeds.is in
     record {
@@ -63,7 +63,7 @@ returns-in-Unanswered c =
     let x = directory_shown c.args.at.now in
     let call = call_shown c.args.call.now in
     let l = list_shown c.args.list.now in
-    let so_far = listing_so_far (map call_shown c.args.replay.now.list.items) c.args.k in
+    let so_far = listing_so_far c.args.replay.now.list c.args.k in
     let is : l.outcome ≡ Unanswered = ap (with_success entries_left) c.in-Unanswered.is in
     record {
       ok = each_ok c.nothing_given-in-Unanswered.result _ _ (λ nodes told. (

@@ -10,11 +10,11 @@ use Rattle.fa_tree.proofs.tree.Tree.judge_named.Goals as goal
 pub returns-in-None-clause-refused : goal.returns-in-None-clause-refused
 returns-in-None-clause-refused c = λ wrote.
     unknown_by c.args.self.now (call_shown c.args.call.now) (list_shown c.args.list.now) c.requires.asks wrote
-    (listing_so_far (map call_shown c.args.replay.now.list.items) c.args.k) c.in-None.ensures.none
+    (listing_so_far c.args.replay.now.list c.args.k) c.in-None.ensures.none
 
 pub returns-in-Some-clause-refused : goal.returns-in-Some-clause-refused
 returns-in-Some-clause-refused c =
     err_also c.judge_listing.result _ _ (λ e refused wrote.
-    refused_by c.args.self.now (call_shown c.args.call.now) (list_shown c.args.list.now) c.requires.asks wrote (listing_so_far (map call_shown c.args.replay.now.list.items) c.args.k)
+    refused_by c.args.self.now (call_shown c.args.call.now) (list_shown c.args.list.now) c.requires.asks wrote (listing_so_far c.args.replay.now.list c.args.k)
     e (directory_shown c.in-Some.at) c.in-Some.ensures.found refused)
     c.judge_listing.ensures.refused

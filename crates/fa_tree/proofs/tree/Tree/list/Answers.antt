@@ -18,7 +18,7 @@ returns-clause-steps c = λ wrote.
     let ok = c.in_ok-nodes.ensures.ok in
     let call = call_shown c.args.call.now in
     let l = list_shown c.args.list.now in
-    let so_far = listing_so_far (map call_shown c.args.replay.now.list.items) c.args.k in
+    let so_far = listing_so_far c.args.replay.now.list c.args.k in
     let items = c.in_ok-nodes.nodes.items in
     elim c.if-not-is_empty.branch [
       | then-not-is_empty+in_ok-reserve_for w ↦
@@ -37,7 +37,7 @@ returns-in_err-reserve_for-clause-refused c =
     let ok = c.in_ok-nodes.ensures.ok in
     let call = call_shown c.args.call.now in
     let l = list_shown c.args.list.now in
-    let so_far = listing_so_far (map call_shown c.args.replay.now.list.items) c.args.k in
+    let so_far = listing_so_far c.args.replay.now.list c.args.k in
     let items = c.in_ok-nodes.nodes.items in
     let len : vec_len c.in_ok-nodes.nodes ≡ length items = search rules in
     let some : items ≡ [] → ⊥ = some_of items (vec_len c.in_ok-nodes.nodes) len (sym c.is_empty.ensures ∙ c.if-not-is_empty.true) in

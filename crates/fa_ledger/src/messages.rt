@@ -1,0 +1,107 @@
+//! The two messages of a tree request.
+
+ghost use Rattle.std.specs.Prelude.{◌≡◌, ◌≢◌, ◌↔◌, IsTrue, Option, Some, None, option_map};
+ghost use Rattle.fa_bodies.specs.Requests.{PlainRequest, IsRequest, request_shown, body_shown};
+ghost use Rattle.fa_bodies.specs.Replies.{PlainReply, IsReply, reply_shown};
+ghost use Rattle.fa_ledger.specs.Kinds.{IsTreeRequest};
+ghost use Rattle.fa_ledger.specs.declared.operation.Outcome.TheVariants.{Unanswered};
+ghost use Rattle.fa_ledger.specs.Operations.{ended, operation_of, operation_shown};
+ghost use Rattle.fa_ledger.specs.Said.{IsReplyIfAny, OperationSaid};
+ghost use Rattle.fa_ledger.specs.parts.SaidLaws.{OperationSaid-prop};
+
+use crate::operation::Operation;
+use fa_bodies::{Reply, Request, reply_body, reply_head, request};
+use fa_capture::{Direction, Packet};
+use fa_session::{ReplyMessages, RequestMessage};
+
+/// A tree request and its reply, if it has one, as they were recorded.
+#[derive(Clone, Copy, Debug)]
+pub struct CallMessages<'a> {
+    /// The request.
+    pub request: &'a [u8],
+    /// The reply. No bytes stand for none: an `Option` would take 8 bytes more.
+    pub reply: &'a [u8],
+    // They are a tree request and the reply to it, and what they say.
+    pub ghost said: { OperationSaid request.now reply.now } by { OperationSaid-prop request.now reply.now },
+}
+
+impl<'a> CallMessages<'a> {
+    /// The message of a tree request without a reply.
+    pub(crate) fn asked(message: &RequestMessage<'a>) -> Self
+        requires { IsTreeRequest (body_shown message.now.request.body) }
+        ensures { operation_of (body_shown message.now.request.body) None ≡ Some result.said.0 }
+    {
+        CallMessages {
+            request: message.bytes,
+            reply: &[],
+        }
+    }
+
+    /// The messages of a tree request and its reply.
+    pub(crate) fn answered(messages: &ReplyMessages<'a>) -> Self
+        requires { IsTreeRequest (body_shown messages.now.to.request.body) }
+        ensures { operation_of (body_shown messages.now.to.request.body) (Some (reply_shown messages.now.reply)) ≡ Some result.said.0 }
+    {
+        CallMessages {
+            request: messages.to.bytes,
+            reply: messages.bytes,
+        }
+    }
+
+    /// Whether there is a reply.
+    ///
+    /// Takes no memory, in constant time.
+    pub fn is_answered(&self) -> bool
+        ensures { IsTrue result ↔ (ended self.now.said.0 ≢ Unanswered) }
+    {
+        !self.reply.is_empty()
+    }
+
+    /// What is asked for, with what came of it.
+    ///
+    /// Takes no memory. Time in the bytes of names and targets and of a listing, and constant otherwise: both messages are read.
+    pub fn operation(&self) -> Operation<'a>
+        ensures { operation_shown result ≡ self.now.said.0 }
+    {
+        let asked = asked_in(self.request);
+        let answer = answer_in(&asked, self.reply);
+        Operation::of(&asked.body, answer.as_ref()).unwrap()
+    }
+}
+
+/// The request that these bytes are.
+fn asked_in<'a>(bytes: &'a [u8]) -> Request<'a>
+    requires { ∥ ((r : PlainRequest) × IsRequest bytes.now r) ∥₁ }
+    ensures { IsRequest bytes.now (request_shown result) }
+{
+    let packet = Packet {
+        direction: Direction::ToServer,
+        bytes,
+    };
+    request(&packet).unwrap()
+}
+
+/// What these bytes, if there are some, say to a request.
+fn answer_in<'a>(asked: &Request<'_>, bytes: &'a [u8]) -> Option<Reply<'a>>
+    requires { ∥ ((answer : Option PlainReply) × IsReplyIfAny (request_shown asked.now) bytes.now answer) ∥₁ }
+    ensures { IsReplyIfAny (request_shown asked.now) bytes.now (option_map reply_shown result) }
+{
+    if bytes.is_empty() {
+        return None;
+    }
+    Some(reply_in(asked, bytes))
+}
+
+/// What these bytes say to a request.
+fn reply_in<'a>(asked: &Request<'_>, bytes: &'a [u8]) -> Reply<'a>
+    requires { ∥ ((said : PlainReply) × IsReply (request_shown asked.now) bytes.now said) ∥₁ }
+    ensures { IsReply (request_shown asked.now) bytes.now (reply_shown result) }
+{
+    let packet = Packet {
+        direction: Direction::FromServer,
+        bytes,
+    };
+    // For the condition of `reply_body`: the unique is the request's.
+    let _head = reply_head(&packet).unwrap();
+    reply_body(asked, &packet).unwrap()
+}

@@ -1,0 +1,39 @@
+-- A request that waits, read again.
+use Rattle.std.proofs.Common.{◌≡◌, ℕ, List, Result, Ok, Err, refl, sym, subst, ap, ◌∙◌}
+use Rattle.std.specs.Prelude.{IfErr, IfOk}
+use Rattle.std.specs.Result.{IsOk}
+use Rattle.std.proofs.Math.Logic.{∥∥₁_elim}
+use Rattle.std.proofs.Props.{props}
+use Rattle.fa_capture.specs.Checks.{FirstFailure}
+use Rattle.fa_capture.proofs.CallerLemmas.{no_failure}
+use Rattle.fa_bodies.specs.declared.requests.Request.{Request}
+use Rattle.fa_bodies.specs.Requests.{PlainRequest, IsRequest, request_checks, request_shown}
+use Rattle.fa_bodies.proofs.CallerLemmas.{request_is_one, request_passes_checks}
+use Rattle.fa_session.specs.parts.RequestSaid.{IsAskedWith, RequestSaid, request_set}
+
+-- it is read
+pub read_ok : {T : Type 0} (bytes : List ℕ) (unique : ℕ) (said : RequestSaid bytes unique) (found : Result T ℕ) → IfErr found (FirstFailure (request_checks bytes)) → IsOk found
+read_ok bytes unique said (Ok x) fails = refl
+read_ok bytes unique said (Err code) fails = absurd (∥∥₁_elim said.1 (λ x y. absurd x) (λ w. no_failure (request_checks bytes) code ((request_passes_checks bytes).1 (said.0, w.0)) fails))
+
+-- what is read of the bytes
+pub read_is : (bytes : List ℕ) (found : Result Request ℕ) (r : Request) → found ≡ Ok r → IfOk found (λ r. IsRequest bytes (request_shown r)) → IsRequest bytes (request_shown r)
+read_is bytes found r is read = subst (λ (x : Result Request ℕ). IfOk x (λ (y : Request). IsRequest bytes (request_shown y))) is read
+
+-- and what is read is the request
+pub read_one : (bytes : List ℕ) (unique : ℕ) (said : RequestSaid bytes unique) (r : PlainRequest) → IsRequest bytes r → r ≡ said.0
+read_one bytes unique said r is = ∥∥₁_elim said.1 (request_set r said.0) (λ w. request_is_one bytes r said.0 is w.0)
+
+-- with its unique
+pub unique_of : (bytes : List ℕ) (unique : ℕ) (said : RequestSaid bytes unique) → said.0.unique ≡ unique
+unique_of bytes unique said = ∥∥₁_elim said.1 (hlevel props) (λ w. w.1)
+
+pub waits_of : (bytes : List ℕ) (r : PlainRequest) → ∥ IsRequest bytes r ∥₁ → RequestSaid bytes r.unique
+waits_of bytes r is = (r, ∥∥₁_elim is squash (λ here. ∣ (here, refl) ∣₁))
+  where
+    squash : IsProp ∥ IsAskedWith bytes r.unique r ∥₁
+    squash = hlevel
+
+-- what waits under a message that is this request
+pub waits_one : (bytes : List ℕ) (unique : ℕ) (said : RequestSaid bytes unique) (message : List ℕ) (r : PlainRequest) → bytes ≡ message → ∥ IsRequest message r ∥₁ → said.0 ≡ r
+waits_one bytes unique said message r same is = ∥∥₁_elim is (request_set said.0 r) (λ here. sym (read_one bytes unique said r (subst (λ (b : List ℕ). IsRequest b r) (sym same) here)))
