@@ -30,6 +30,7 @@ const LEAST_ERROR: i32 = -999;
 /// [`MAX_FILE_BYTES`](crate::MAX_FILE_BYTES).
 ///
 /// Takes no memory. The time is constant but for the bytes of names and targets.
+#[inline(always)]
 pub fn request<'a>(p: &Packet<'a>) -> Result<Request<'a>, u16>
     ensures found { IfOk result (λ r. IsRequest p.now.bytes.now (request_shown r)) }
     ensures only { IfOk result
@@ -60,6 +61,7 @@ pub fn request<'a>(p: &Packet<'a>) -> Result<Request<'a>, u16>
 /// 0, `NOTIFICATION` for another code in one with unique 0.
 ///
 /// Takes no memory, in constant time. The body is not looked at.
+#[inline(always)]
 pub fn reply_head(p: &Packet<'_>) -> Result<ReplyHead, u16>
     ensures found { IfOk result (IsReplyHead p.now.bytes.now) }
     ensures only { IfOk result
@@ -119,6 +121,7 @@ fn is_error_value(error: i32) -> bool
 /// has read the head by [`reply_head`], and its unique is that of the request.
 ///
 /// Takes no memory. The time is constant, but for READDIR and READDIRPLUS linear in the payload.
+#[inline(always)]
 pub fn reply_body<'a>(asked: &Request<'_>, p: &Packet<'a>) -> Result<Reply<'a>, u16>
     requires { RepeatsUnique p.now.bytes.now asked.now.unique }
     ensures found { IfOk result

@@ -88,6 +88,7 @@ impl<'a> Books<'a> {
     }
 
     /// Notes an event, if its message keeps the rules of nodes and file handles.
+    #[inline(always)]
     pub fn note(&mut self, event: &Event<'a>) -> Result<(), LedgerError>
         requires { StandBefore (event_shown event.now) self.old }
         ensures keeps { OnOk result (WhereStands (event_shown event.now) self.old (λ c m es. AllHold (ledger_checks c m))) }
@@ -107,6 +108,7 @@ impl<'a> Books<'a> {
     }
 
     /// Notes the request of this number, if it keeps the rules of nodes and file handles.
+    #[inline(always)]
     fn note_request(&mut self, at: u32, message: &RequestMessage<'a>) -> Result<(), LedgerError>
         requires { StandBefore (Asked at (request_shown message.now.request)) self.old }
         ensures keeps { OnOk result (WhereStands (Asked at (request_shown message.now.request)) self.old (λ c m es. AllHold (asked_checks es (request_shown message.now.request)))) }
@@ -129,6 +131,7 @@ impl<'a> Books<'a> {
     }
 
     /// Notes the answer of this number to a request, if it gives no node that it may not give.
+    #[inline(always)]
     fn note_reply(
         &mut self,
         at: u32,
@@ -154,6 +157,7 @@ impl<'a> Books<'a> {
     }
 
     /// The names of the nodes that a request names, if it names any. The error is the code where one of them is not known.
+    #[inline(always)]
     fn names_of(&self, request: &Request<'_>) -> Result<Option<Names>, u16>
         ensures named { IfOk result (λ names. (es : List PlainEvent) → NodesShow es self.now.nodes.known.entries → AreNamesIfAny es (request_shown request.now) names) }
         ensures unknown { IfErr result (λ code. (code ≡ FORGOTTEN_NODE) × ((es : List PlainEvent) → NodesShow es self.now.nodes.known.entries → NamesKnown es (request_shown request.now) → ⊥)) }
@@ -175,6 +179,7 @@ impl<'a> Books<'a> {
     }
 
     /// The file handle that a request on a node of this name uses, if any. The error is the code where it is not open.
+    #[inline(always)]
     fn handle_of(&self, node: NodeName, request: &Request<'_>) -> Result<Option<Used>, u16>
         ensures used { IfOk result (λ used. (es : List PlainEvent) → KeysShow es self.now.handles.opened.entries → name_at es request.now.node ≡ Some node → IsUsedIfAny es (request_shown request.now) self.now.handles.opened.entries used) }
         ensures closed { IfErr result (λ code. (code ≡ CLOSED_HANDLE) × ((es : List PlainEvent) → KeysShow es self.now.handles.opened.entries → name_at es request.now.node ≡ Some node → UsesOpen es (request_shown request.now) → ⊥)) }
@@ -191,6 +196,7 @@ impl<'a> Books<'a> {
 
     /// Notes a request that names these nodes and uses this file handle: a tree request is one more call, and a closing
     /// closes its handle once; where no opening is left, the offsets that were reached on it go.
+    #[inline(always)]
     fn note_use(
         &mut self,
         at: u32,
@@ -227,6 +233,7 @@ impl<'a> Books<'a> {
     }
 
     /// What a request that uses this file handle goes on from, if it lists.
+    #[inline(always)]
     fn listing_of(&self, body: &RequestBody<'_>, used: Option<Used>) -> Option<Listing>
         ensures { result ≡ listing_by (offset_asked (body_shown body.now)) used (place_of self.now.listings.by_key.entries) }
     {

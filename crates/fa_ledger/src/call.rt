@@ -27,6 +27,7 @@ impl GivenNodes<'_> {
     /// The names, as a slice.
     ///
     /// Takes no memory, in constant time.
+    #[inline(always)]
     pub fn names(&self) -> &[NodeName]
         ensures { result.now ≡ given_shown self.now }
     {
@@ -95,6 +96,7 @@ impl<'c> Call<'c> {
     /// What it asks for, with what came of it.
     ///
     /// Takes no memory. Time in the bytes of names and targets and of a listing, and constant otherwise: both messages are read.
+    #[inline(always)]
     pub fn operation(&self) -> Operation<'c>
         ensures { operation_shown result ≡ (call_shown self.now).operation }
     {
@@ -105,6 +107,7 @@ impl<'c> Call<'c> {
     /// ([`laws`](crate::laws)).
     ///
     /// Takes no memory, in constant time.
+    #[inline(always)]
     pub fn is_answered(&self) -> bool
         ensures { IsTrue result ↔ (ended (call_shown self.now).operation ≢ Unanswered) }
     {

@@ -63,6 +63,7 @@ impl<'a> CallList<'a> {
     }
 
     /// Adds a call that waits for its answer.
+    #[inline(always)]
     pub(crate) fn push(&mut self, call: Call<'a>) -> Result<(), AllocError>
         requires waits { call.answer ≡ None }
         requires apart { AreNotBoth call.other call.listing }
@@ -81,6 +82,7 @@ impl<'a> CallList<'a> {
     /// The call that waits under this number.
     ///
     /// Takes no memory, in expected constant time.
+    #[inline(always)]
     pub(crate) fn find(&self, asked: u32) -> Option<WaitingCall>
         ensures some { IfSome result (λ waiting. (place : ℕ) × (call : PlainCall) × WaitsAt self.now asked place call × (waiting ≡ waiting_of call)) }
         ensures none { IfNone result ((place : ℕ) (call : PlainCall) → WaitsAt self.now asked place call → ⊥) }
@@ -97,6 +99,7 @@ impl<'a> CallList<'a> {
     /// Notes the answer of this number to the call that waits under that number, with both messages.
     ///
     /// Takes no memory, in expected constant time.
+    #[inline(always)]
     pub(crate) fn answer(
         &mut self,
         asked: u32,
@@ -116,6 +119,7 @@ impl<'a> CallList<'a> {
     /// How many calls there are.
     ///
     /// Takes no memory, in constant time.
+    #[inline(always)]
     pub fn len(&self) -> usize
         ensures { result ≡ length self.now }
     {
@@ -125,6 +129,7 @@ impl<'a> CallList<'a> {
     /// The call at this place, if there is one.
     ///
     /// Takes no memory, in constant time.
+    #[inline(always)]
     pub fn get(&self, place: usize) -> Option<Call<'_>>
         ensures { option_map call_shown result ≡ slice_get self.now place }
     {
@@ -135,6 +140,7 @@ impl<'a> CallList<'a> {
     /// The call at this place, which is below [`len`](CallList::len).
     ///
     /// Takes no memory, in constant time.
+    #[inline(always)]
     pub fn call(&self, place: usize) -> Call<'_>
         requires { place < length self.now }
         ensures { slice_get self.now place ≡ Some (call_shown result) }
@@ -154,6 +160,7 @@ impl<'a> CallList<'a> {
 }
 
 /// Whether what a request goes on from is adrift, if it lists.
+#[inline(always)]
 fn is_adrift(listing: Option<Listing>) -> bool
     ensures { result ≡ option_map_or (λ l. l.adrift) listing false }
 {

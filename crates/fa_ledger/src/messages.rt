@@ -27,6 +27,7 @@ pub struct CallMessages<'a> {
 
 impl<'a> CallMessages<'a> {
     /// The message of a tree request without a reply.
+    #[inline(always)]
     pub(crate) fn asked(message: &RequestMessage<'a>) -> Self
         requires { IsTreeRequest (body_shown message.now.request.body) }
         ensures { operation_of (body_shown message.now.request.body) None ≡ Some result.said.0 }
@@ -38,6 +39,7 @@ impl<'a> CallMessages<'a> {
     }
 
     /// The messages of a tree request and its reply.
+    #[inline(always)]
     pub(crate) fn answered(messages: &ReplyMessages<'a>) -> Self
         requires { IsTreeRequest (body_shown messages.now.to.request.body) }
         ensures { operation_of (body_shown messages.now.to.request.body) (Some (reply_shown messages.now.reply)) ≡ Some result.said.0 }
@@ -51,6 +53,7 @@ impl<'a> CallMessages<'a> {
     /// Whether there is a reply.
     ///
     /// Takes no memory, in constant time.
+    #[inline(always)]
     pub fn is_answered(&self) -> bool
         ensures { IsTrue result ↔ (ended self.now.said.0 ≢ Unanswered) }
     {
@@ -70,6 +73,7 @@ impl<'a> CallMessages<'a> {
 }
 
 /// The request that these bytes are.
+#[inline(always)]
 fn asked_in<'a>(bytes: &'a [u8]) -> Request<'a>
     requires { ∥ ((r : PlainRequest) × IsRequest bytes.now r) ∥₁ }
     ensures { IsRequest bytes.now (request_shown result) }
@@ -82,6 +86,7 @@ fn asked_in<'a>(bytes: &'a [u8]) -> Request<'a>
 }
 
 /// What these bytes, if there are some, say to a request.
+#[inline(always)]
 fn answer_in<'a>(asked: &Request<'_>, bytes: &'a [u8]) -> Option<Reply<'a>>
     requires { ∥ ((answer : Option PlainReply) × IsReplyIfAny (request_shown asked.now) bytes.now answer) ∥₁ }
     ensures { IsReplyIfAny (request_shown asked.now) bytes.now (option_map reply_shown result) }
@@ -93,6 +98,7 @@ fn answer_in<'a>(asked: &Request<'_>, bytes: &'a [u8]) -> Option<Reply<'a>>
 }
 
 /// What these bytes say to a request.
+#[inline(always)]
 fn reply_in<'a>(asked: &Request<'_>, bytes: &'a [u8]) -> Reply<'a>
     requires { ∥ ((said : PlainReply) × IsReply (request_shown asked.now) bytes.now said) ∥₁ }
     ensures { IsReply (request_shown asked.now) bytes.now (reply_shown result) }

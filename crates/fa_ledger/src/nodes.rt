@@ -41,6 +41,7 @@ impl Nodes {
     }
 
     /// The name of a node, if it is known.
+    #[inline(always)]
     pub fn name_of(&self, id: u64) -> Option<NodeName>
         ensures { result ≡ named_by id (get nat_eq self.now.known id) }
     {
@@ -52,6 +53,7 @@ impl Nodes {
     }
 
     /// The name that a node has once the reply of this number has given it.
+    #[inline(always)]
     pub fn name_given(&self, id: u64, at: u32) -> NodeName
         ensures { result ≡ given_to id at (get nat_eq self.now.known id) }
     {
@@ -224,6 +226,7 @@ impl Nodes {
     }
 
     /// Whether the node of some of the names is none that is known.
+    #[inline(always)]
     fn has_new(&self, names: &[NodeName]) -> bool
         ensures { result ≡ some_new self.now.known.entries names.now }
     {
@@ -231,6 +234,7 @@ impl Nodes {
     }
 
     /// Whether the node of a name is none that is known.
+    #[inline(always)]
     fn is_new(&self, name: NodeName) -> bool
         ensures { result ≡ is_new self.now.known.entries name }
     {
@@ -241,6 +245,7 @@ impl Nodes {
     }
 
     /// Counts one lookup more of the node of a name, by the reply of this number.
+    #[inline(always)]
     fn give_one(&mut self, name: NodeName, at: u32)
         requires room { IsTrue (is_new self.old.known.entries name) → 0 < spare self.old.known }
         requires few { (node : ℕ) → count_left (get nat_eq self.old.known node) < 18446744073709551615 }

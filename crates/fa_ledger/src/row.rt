@@ -39,6 +39,7 @@ pub(crate) enum Beside {
 
 impl Beside {
     /// The other node or the listing, whichever there is.
+    #[inline(always)]
     fn new(other: Option<NodeName>, listing: Option<Listing>) -> Self
         requires { AreNotBoth other listing }
         ensures other { other_kept result ≡ other }
@@ -53,6 +54,7 @@ impl Beside {
     }
 
     /// What a listing goes on from.
+    #[inline(always)]
     fn listed(listing: Listing) -> Self
         ensures other { other_kept result ≡ None }
         ensures listing { listing_kept result ≡ Some listing }
@@ -74,6 +76,7 @@ impl Beside {
     }
 
     /// The other node, if it names one.
+    #[inline(always)]
     fn other(self) -> Option<NodeName>
         ensures { result ≡ other_kept self }
     {
@@ -85,6 +88,7 @@ impl Beside {
     }
 
     /// What it goes on from, if it lists.
+    #[inline(always)]
     pub fn listing(self) -> Option<Listing>
         ensures { result ≡ listing_kept self }
     {
@@ -124,6 +128,7 @@ pub(crate) enum Gives {
 
 impl Gives {
     /// Those that have these names.
+    #[inline(always)]
     fn new(given: GivenNames) -> Self
         ensures { names_kept result ≡ given_names_shown given }
     {
@@ -136,6 +141,7 @@ impl Gives {
     }
 
     /// Their names.
+    #[inline(always)]
     fn names(&self) -> GivenNodes<'_>
         ensures { given_shown result ≡ names_kept self.now }
     {
@@ -178,6 +184,7 @@ const _: () = prove!(size_of::<Row<'static>>() <= 96);
 
 impl<'a> Row<'a> {
     /// That of a call without an answer.
+    #[inline(always)]
     pub fn waiting(call: Call<'a>) -> Self
         requires waits { call.answer ≡ None }
         requires apart { AreNotBoth call.other call.listing }
@@ -199,6 +206,7 @@ impl<'a> Row<'a> {
     }
 
     /// Notes the answer with both messages: its number, the nodes that it gives, and whether it opens a handle.
+    #[inline(always)]
     pub fn note_answer(
         &mut self,
         messages: CallMessages<'a>,
@@ -219,6 +227,7 @@ impl<'a> Row<'a> {
     }
 
     /// What it is.
+    #[inline(always)]
     pub fn call(&self) -> Call<'_>
         ensures { call_shown result ≡ row_shown self.now }
     {
@@ -236,6 +245,7 @@ impl<'a> Row<'a> {
     }
 
     /// The file handle that it uses, if any.
+    #[inline(always)]
     pub fn handle(&self) -> Option<u32>
         ensures { result ≡ handle_kept self.now }
     {
@@ -243,6 +253,7 @@ impl<'a> Row<'a> {
     }
 
     /// Its answer, if it has one.
+    #[inline(always)]
     fn answer(&self) -> Option<Answer<'_>>
         ensures { option_map answer_shown result ≡ answer_kept self.now }
     {

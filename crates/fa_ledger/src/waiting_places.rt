@@ -54,6 +54,7 @@ impl WaitingPlaces {
     /// The place of the call that waits under this number, if one does.
     ///
     /// Takes no memory, in expected constant time.
+    #[inline(always)]
     pub fn get(&self, asked: u32) -> Option<usize>
         ensures { result ≡ lookup (nat_eq asked) self.now }
     {
@@ -67,6 +68,7 @@ impl WaitingPlaces {
     /// nothing is changed.
     ///
     /// Expected constant time but for growing.
+    #[inline(always)]
     pub fn insert(&mut self, asked: u32, place: usize) -> Result<(), AllocError>
         requires { lookup (nat_eq asked) self.old ≡ None }
         ensures inserted { OnOk result ((other : ℕ) → lookup (nat_eq other) self.new ≡ cond (nat_eq asked other) (Some place) (lookup (nat_eq other) self.old)) }
@@ -82,6 +84,7 @@ impl WaitingPlaces {
     /// Takes the place of the call that waits under this number away, if one does.
     ///
     /// Takes no memory, in expected constant time.
+    #[inline(always)]
     pub fn remove(&mut self, asked: u32) -> Option<usize>
         ensures value { result ≡ lookup (nat_eq asked) self.old }
         ensures removed { (other : ℕ) → lookup (nat_eq other) self.new ≡ cond (nat_eq asked other) None (lookup (nat_eq other) self.old) }

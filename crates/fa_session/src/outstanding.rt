@@ -56,6 +56,7 @@ impl<'a> Outstanding<'a> {
     /// The request with this unique.
     ///
     /// Takes no memory, in expected constant time.
+    #[inline(always)]
     pub fn get(&self, unique: u64) -> Option<&Waiting<'a>>
         ensures found { option_copied result ≡ lookup (nat_eq unique) self.now }
         ensures unique { IfSome result (λ waiting. waiting.now.unique ≡ unique) }
@@ -108,6 +109,7 @@ impl<'a> Outstanding<'a> {
 }
 
 /// Whether this request is there and has this unique.
+#[inline(always)]
 fn has_unique(waiting: &Option<Waiting<'_>>, unique: u64) -> bool
     ensures { result ≡ option_map_or (λ w. nat_eq w.unique unique) waiting.now false }
 {

@@ -63,6 +63,7 @@ impl<'a> Session<'a> {
     /// until INIT is answered.
     ///
     /// Takes no memory, in constant time.
+    #[inline(always)]
     pub fn negotiated(&self) -> Option<u32>
         ensures { result ≡ self.now.negotiated }
     {
@@ -154,6 +155,7 @@ impl<'a> Session<'a> {
     }
 
     /// How many messages came.
+    #[inline(always)]
     fn len(&self) -> u32
         ensures { result ≡ self.now.messages }
     {
@@ -161,6 +163,7 @@ impl<'a> Session<'a> {
     }
 
     /// Whether no message came.
+    #[inline(always)]
     fn is_empty(&self) -> bool
         ensures { IsTrue result ↔ (self.now.messages ≡ 0) }
     {
@@ -168,6 +171,7 @@ impl<'a> Session<'a> {
     }
 
     /// The outstanding request with this unique, read again, behind the number of its message.
+    #[inline(always)]
     fn waiting_for(&self, unique: u64) -> Option<(u32, RequestMessage<'a>)>
         ensures found { option_map (λ w. asked_shown w.0 w.1) result ≡ waiting_for self.now unique }
         ensures unique { IfSome result (λ w. w.1.request.unique ≡ unique) }
@@ -210,6 +214,7 @@ impl<'a> Session<'a> {
     }
 
     /// Gives the next message its number, and counts it.
+    #[inline(always)]
     fn next_number(&mut self) -> u32
         requires { self.old.messages < MAX_MESSAGES }
         ensures at { result ≡ self.old.messages }
@@ -221,6 +226,7 @@ impl<'a> Session<'a> {
     }
 
     /// Notes a request, which is outstanding from now on if it may be answered: the number of its message.
+    #[inline(always)]
     fn note_request(&mut self, message: &RequestMessage<'a>) -> Result<u32, SessionError>
         requires { self.old.messages < MAX_MESSAGES }
         ensures at { IfOk result (λ at. at ≡ self.old.messages) }
@@ -238,6 +244,7 @@ impl<'a> Session<'a> {
 
     /// Notes the reply to the request with this unique, and the flags that it settles if the request is INIT: the
     /// number of its message.
+    #[inline(always)]
     fn note_reply(&mut self, unique: u64, flags: Option<u32>) -> u32
         requires { self.old.messages < MAX_MESSAGES }
         ensures at { result ≡ self.old.messages }

@@ -26,6 +26,7 @@ const _: () = prove!(size_of::<Waiting<'static>>() <= 64);
 
 impl<'a> Waiting<'a> {
     /// The request of this number.
+    #[inline(always)]
     pub fn new(at: u32, message: &RequestMessage<'a>) -> Self
         ensures at { result.at ≡ at }
         ensures unique { result.unique ≡ message.now.request.unique }
@@ -39,6 +40,7 @@ impl<'a> Waiting<'a> {
     }
 
     /// Its message, read again.
+    #[inline(always)]
     pub fn message(&self) -> RequestMessage<'a>
         ensures request { request_shown result.request ≡ self.now.said.0 }
         ensures unique { result.request.unique ≡ self.now.unique }

@@ -43,6 +43,7 @@ fn count_written(action: &Action<'_>, wrote: Option<u32>) -> u32
 }
 
 /// The names of nodes that the answer to a call gives, in their order.
+#[inline(always)]
 pub(crate) fn names_given<'c>(call: &'c Call<'_>) -> &'c [NodeName]
     ensures { result.now ≡ names_given (call_shown call.now) }
 {
@@ -53,6 +54,7 @@ pub(crate) fn names_given<'c>(call: &'c Call<'_>) -> &'c [NodeName]
 }
 
 /// Whether the answer to a call opens a handle that was not open.
+#[inline(always)]
 fn opens_anew(call: &Call<'_>) -> bool
     ensures { result ≡ opens_anew (call_shown call.now) }
 {
@@ -130,6 +132,7 @@ impl Tree {
     }
 
     /// The file that the name of a node stands for, if it stands for one.
+    #[inline(always)]
     fn file_of(&self, name: &NodeName) -> Option<FileId>
         ensures { result ≡ file_of self.now name.now }
     {
@@ -140,6 +143,7 @@ impl Tree {
     }
 
     /// The files that the nodes of a call stand for, if the tree knows all of them.
+    #[inline(always)]
     pub(crate) fn files_named(&self, call: &Call<'_>) -> Option<Named>
         ensures found { IfSome result (λ named. (file_of self.now call.now.node ≡ Some named.node) × (other_of self.now call.now.other ≡ Some named.other) × (named.asked ≡ call.now.asked)) }
         ensures none { IfNone result ((node : FileId) (other : Option FileId) → file_of self.now call.now.node ≡ Some node → other_of self.now call.now.other ≡ Some other → ⊥) }
@@ -163,6 +167,7 @@ impl Tree {
     }
 
     /// The files that a call names that does not list, if the tree knows all of them.
+    #[inline(always)]
     fn named(&self, call: &Call<'_>) -> Option<Named>
         requires { call.now.listing ≡ None }
         ensures found { IfSome result (λ named. resolved self.now (call_shown call.now) ≡ Some (named_shown named None)) }
