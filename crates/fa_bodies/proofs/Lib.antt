@@ -5,6 +5,7 @@ pub mod BodyLaws
 pub mod OptionLaws
 pub mod RequestLaws
 pub mod ReplyLaws
+pub mod KnownLaws
 pub mod OperationLaws
 pub mod ItemLaws
 pub mod ListingLaws

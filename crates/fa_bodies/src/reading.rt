@@ -8,8 +8,9 @@ ghost use Rattle.fa_bodies.specs.Replies.{PlainReply, IsErrorValue, IsNotificati
 use crate::bodies::request_body;
 use crate::headers::{IN_HEADER, OUT_HEADER, check_length, in_header_at, out_header_at};
 use crate::replies::{Reply, ReplyHead};
-use crate::requests::Request;
+use crate::requests::{Request, RequestBody};
 use crate::successes::success;
+use crate::walking::entries;
 use fa_capture::{Packet, codes};
 
 /// The least error that a reply may have.
@@ -132,6 +133,24 @@ pub fn reply_body<'a>(asked: &Request<'_>, p: &Packet<'a>) -> Result<Reply<'a>, 
 {
     let (header, body) = out_header_at(p.bytes);
     said(asked, header.error, body).ok_or(codes::REPLY_BODY)
+}
+
+/// The reply to a request that a message is known to be: [`reply_body`] told it before.
+///
+/// Takes no memory. The time is constant: the entries of a listing are not looked at.
+pub fn known_reply<'a>(asked: &Request<'_>, p: &Packet<'a>) -> Reply<'a>
+    requires { ∥ ((reply : PlainReply) × IsReply (request_shown asked.now) p.now.bytes.now reply) ∥₁ }
+    ensures { ∥ IsReply (request_shown asked.now) p.now.bytes.now (reply_shown result) ∥₁ }
+{
+    let (header, body) = out_header_at(p.bytes);
+    if header.error == 0 {
+        match &asked.body {
+            RequestBody::Readdir(_) => return Reply::Listed(entries(false, body)),
+            RequestBody::Readdirplus(_) => return Reply::Listed(entries(true, body)),
+            _ => {}
+        }
+    }
+    said(asked, header.error, body).unwrap()
 }
 
 /// What a reply with this error and body says to a request.

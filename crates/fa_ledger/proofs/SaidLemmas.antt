@@ -31,24 +31,6 @@ pub request_ok : {T : Type 0} (bytes : List ℕ) (found : Result T ℕ) → IfEr
 request_ok bytes (Ok x) fails is = refl
 request_ok bytes (Err code) fails is = absurd (∥∥₁_elim is (λ x y. absurd x) (λ r. no_failure (request_checks bytes) code ((request_passes_checks bytes).1 r) fails))
 
--- bytes that are a reply, whose head is read
-pub head_ok : {T : Type 0} (asked : PlainRequest) (bytes : List ℕ) (found : Result T ℕ) → IfErr found (FirstFailure (reply_head_checks bytes)) → ∥ ((said : PlainReply) × IsReply asked bytes said) ∥₁ → IsOk found
-head_ok asked bytes (Ok x) fails is = refl
-head_ok asked bytes (Err code) fails is = absurd (∥∥₁_elim is (λ x y. absurd x) (λ s. no_failure (reply_head_checks bytes) code ((head-checks bytes).1 (record { unique = asked.unique; error = s.1.error }, s.1.head)) fails))
-
--- their head is that of a reply to the request
-pub head_there : (asked : PlainRequest) (bytes : List ℕ) (found : Result ReplyHead ℕ) (head : ReplyHead) → found ≡ Ok head → IfOk found (IsReplyHead bytes) → ∥ ((said : PlainReply) × IsReply asked bytes said) ∥₁
-    → (error : ℤ) × IsReplyHead bytes (record { unique = asked.unique; error = error })
-head_there asked bytes found head read is reply =
-    let here : IsReplyHead bytes head = subst (λ (r : Result ReplyHead ℕ). IfOk r (IsReplyHead bytes)) read is in
-    let same : head.unique ≡ asked.unique = ∥∥₁_elim reply (hlevel props) (λ s. ap (λ (h : ReplyHead). h.unique) (reply_head_is_one bytes head (record { unique = asked.unique; error = s.1.error }) here s.1.head)) in
-    (head.error, subst (λ (u : ℕ). IsReplyHead bytes (record { unique = u; error = head.error })) same here)
-
--- and they are read
-pub body_ok : {T : Type 0} (asked : PlainRequest) (bytes : List ℕ) (found : Result T ℕ) → IfErr found (FirstFailure (reply_checks asked bytes)) → ∥ ((said : PlainReply) × IsReply asked bytes said) ∥₁ → IsOk found
-body_ok asked bytes (Ok x) fails is = refl
-body_ok asked bytes (Err code) fails is = absurd (∥∥₁_elim is (λ x y. absurd x) (λ s. no_failure (reply_checks asked bytes) code (s, tt) fails))
-
 length-le32 : (n : ℕ) → length (le32 n) ≡ 4
 unfolding le32
 length-le32 n = refl
@@ -64,8 +46,8 @@ pub is_reply_if_any : (asked : PlainRequest) (bytes : List ℕ) (reply : PlainRe
 is_reply_if_any asked [] reply is = absurd (reply_has_bytes asked reply is)
 is_reply_if_any asked (b ∷ bytes) reply is = is
 
-pub none_said : (asked : PlainRequest) (bytes : List ℕ) → length bytes ≡ 0 → IsReplyIfAny asked bytes None
-none_said asked [] empty = tt
+pub none_said : (asked : PlainRequest) (bytes : List ℕ) → length bytes ≡ 0 → ∥ IsReplyIfAny asked bytes None ∥₁
+none_said asked [] empty = ∣ tt ∣₁
 none_said asked (b ∷ bytes) empty = absurd (omega (arith, empty))
 
 -- a reply that is there
@@ -77,6 +59,9 @@ some_said asked bytes some is = ∥∥₁_elim is (squash ((said : PlainReply) �
     by (b ∷ bytes) None some says = absurd says
     by (b ∷ bytes) (Some said) some says = (said, says)
 
+pub known_said : (asked : PlainRequest) (bytes : List ℕ) (reply : PlainReply) → ∥ IsReply asked bytes reply ∥₁ → ∥ IsReplyIfAny asked bytes (Some reply) ∥₁
+known_said asked bytes reply known = ∥∥₁_elim known (squash (IsReplyIfAny asked bytes (Some reply))) (λ is. ∣ is_reply_if_any asked bytes reply is ∣₁)
+
 -- ---- both messages
 
 pub asked_there : (request reply : List ℕ) → OperationSaid request reply → ∥ ((r : PlainRequest) × IsRequest request r) ∥₁
@@ -86,12 +71,12 @@ pub said_there : (request reply : List ℕ) → OperationSaid request reply → 
 said_there request reply said asked is =
     ∥∥₁_elim said.1 (squash ((answer : Option PlainReply) × IsReplyIfAny asked reply answer)) (λ x. ∣ (x.answer, subst (λ (r : PlainRequest). IsReplyIfAny r reply x.answer) (request_is_one request x.asked asked x.is is) x.answers) ∣₁)
 
-pub does_there : (request reply : List ℕ) (said : OperationSaid request reply) (asked : PlainRequest) (answer : Option PlainReply) → IsRequest request asked → IsReplyIfAny asked reply answer
+pub does_there : (request reply : List ℕ) (said : OperationSaid request reply) (asked : PlainRequest) (answer : Option PlainReply) → IsRequest request asked → ∥ IsReplyIfAny asked reply answer ∥₁
     → operation_of asked.body answer ≡ Some said.0
-does_there request reply said asked answer is answers = ∥∥₁_elim said.1 (hlevel (operation_set, props)) (λ x.
+does_there request reply said asked answer is answers = ∥∥₁_elim answers (hlevel (operation_set, props)) (λ here. ∥∥₁_elim said.1 (hlevel (operation_set, props)) (λ x.
     let one : x.asked ≡ asked = request_is_one request x.asked asked x.is is in
-    let two : x.answer ≡ answer = reply_one asked reply x.answer answer (subst (λ (r : PlainRequest). IsReplyIfAny r reply x.answer) one x.answers) answers in
-    sym (ap (λ (r : PlainRequest). operation_of r.body x.answer) one ∙ ap (λ (s : Option PlainReply). operation_of asked.body s) two) ∙ x.does)
+    let two : x.answer ≡ answer = reply_one asked reply x.answer answer (subst (λ (r : PlainRequest). IsReplyIfAny r reply x.answer) one x.answers) here in
+    sym (ap (λ (r : PlainRequest). operation_of r.body x.answer) one ∙ ap (λ (s : Option PlainReply). operation_of asked.body s) two) ∙ x.does))
 
 -- what is behind a reference shows the same
 pub seen_through : (seen : Option (Bor Reply)) (reply : Option Reply) → option_copied seen ≡ reply → option_map (λ (r : Bor Reply). reply_shown r.now) seen ≡ option_map reply_shown reply
@@ -139,13 +124,13 @@ answered_said bytes answer r reply is says tree =
 
 -- what such messages say
 pub asked_does : (bytes : List ℕ) (said : OperationSaid bytes []) (r : PlainRequest) → ∥ IsRequest bytes r ∥₁ → operation_of r.body None ≡ Some said.0
-asked_does bytes said r is = ∥∥₁_elim is (hlevel (operation_set, props)) (λ here. does_there bytes [] said r None here tt)
+asked_does bytes said r is = ∥∥₁_elim is (hlevel (operation_set, props)) (λ here. does_there bytes [] said r None here ∣ tt ∣₁)
 
 pub answered_does : (bytes answer : List ℕ) (said : OperationSaid bytes answer) (r : PlainRequest) (reply : PlainReply) → ∥ IsRequest bytes r ∥₁ → ∥ IsReply r answer reply ∥₁
     → operation_of r.body (Some reply) ≡ Some said.0
 answered_does bytes answer said r reply is says =
     ∥∥₁_elim is (hlevel (operation_set, props)) (λ here. ∥∥₁_elim says (hlevel (operation_set, props)) (λ there.
-    does_there bytes answer said r (Some reply) here (is_reply_if_any r answer reply there)))
+    does_there bytes answer said r (Some reply) here ∣ is_reply_if_any r answer reply there ∣₁))
 
 -- ---- whether there is a reply
 

@@ -2,7 +2,7 @@
 
 ghost use Rattle.std.specs.Prelude.{◌≡◌, ◌≢◌, ◌↔◌, IsTrue, Option, Some, None, option_map};
 ghost use Rattle.fa_bodies.specs.Requests.{PlainRequest, IsRequest, request_shown, body_shown};
-ghost use Rattle.fa_bodies.specs.Replies.{PlainReply, IsReply, reply_shown};
+ghost use Rattle.fa_bodies.specs.Replies.{PlainReply, reply_shown};
 ghost use Rattle.fa_ledger.specs.Kinds.{IsTreeRequest};
 ghost use Rattle.fa_ledger.specs.declared.operation.Outcome.TheVariants.{Unanswered};
 ghost use Rattle.fa_ledger.specs.Operations.{ended, operation_of, operation_shown};
@@ -10,7 +10,7 @@ ghost use Rattle.fa_ledger.specs.Said.{IsReplyIfAny, OperationSaid};
 ghost use Rattle.fa_ledger.specs.parts.SaidLaws.{OperationSaid-prop};
 
 use crate::operation::Operation;
-use fa_bodies::{Reply, Request, reply_body, reply_head, request};
+use fa_bodies::{Reply, Request, known_reply, request};
 use fa_capture::{Direction, Packet};
 use fa_session::{ReplyMessages, RequestMessage};
 
@@ -62,7 +62,8 @@ impl<'a> CallMessages<'a> {
 
     /// What is asked for, with what came of it.
     ///
-    /// Takes no memory. Time in the bytes of names and targets and of a listing, and constant otherwise: both messages are read.
+    /// Takes no memory. Time in the bytes of names and targets, and constant otherwise: both messages are read, but for the entries of
+    /// a listing.
     pub fn operation(&self) -> Operation<'a>
         ensures { operation_shown result ≡ self.now.said.0 }
     {
@@ -89,25 +90,14 @@ fn asked_in<'a>(bytes: &'a [u8]) -> Request<'a>
 #[inline(always)]
 fn answer_in<'a>(asked: &Request<'_>, bytes: &'a [u8]) -> Option<Reply<'a>>
     requires { ∥ ((answer : Option PlainReply) × IsReplyIfAny (request_shown asked.now) bytes.now answer) ∥₁ }
-    ensures { IsReplyIfAny (request_shown asked.now) bytes.now (option_map reply_shown result) }
+    ensures { ∥ IsReplyIfAny (request_shown asked.now) bytes.now (option_map reply_shown result) ∥₁ }
 {
     if bytes.is_empty() {
         return None;
     }
-    Some(reply_in(asked, bytes))
-}
-
-/// What these bytes say to a request.
-#[inline(always)]
-fn reply_in<'a>(asked: &Request<'_>, bytes: &'a [u8]) -> Reply<'a>
-    requires { ∥ ((said : PlainReply) × IsReply (request_shown asked.now) bytes.now said) ∥₁ }
-    ensures { IsReply (request_shown asked.now) bytes.now (reply_shown result) }
-{
     let packet = Packet {
         direction: Direction::FromServer,
         bytes,
     };
-    // For the condition of `reply_body`: the unique is the request's.
-    let _head = reply_head(&packet).unwrap();
-    reply_body(asked, &packet).unwrap()
+    Some(known_reply(asked, &packet))
 }
