@@ -1,24 +1,25 @@
 -- The bytes of a file as they are read and written, and the pages that they are in.
-use Rattle.std.proofs.Common.{◌≡◌, ◌↔◌, ℕ, zero, suc, ◌+◌, ◌-◌, ◌*◌, ◌<◌, ◌≤◌, ◌/◌, ◌%◌, ◌⊎◌, ◌==◌, true, false, List, [], ◌∷◌, ◌++◌, length, replicate, take, drop, set, get_or, min, max, inl, inr, refl, sym, ap, ◌∙◌, arith, zero-add, length-append}
-use Rattle.std.proofs.lemmas.List.{length-take, take-append-drop, length-replicate, length-drop, get_or-take, get_or-drop, get_or_past, get_or-replicate, get_or_append_left, get_or-append_right, get_or-set_same, get_or-set_other, get_or_push, length_push, ext_get_or}
+use Rattle.std.proofs.Common.{◌≡◌, ◌↔◌, ℕ, ◌+◌, ◌-◌, ◌<◌, ◌≤◌, ◌/◌, ◌%◌, ◌⊎◌, ◌==◌, true, false, List, [], ◌++◌, length, replicate, take, drop, get_or, min, max, inl, inr, refl, sym, ap, ◌∙◌, arith, zero-add, length-append}
+use Rattle.std.proofs.lemmas.List.{length-take, take-append-drop, length-replicate, length-drop, get_or-take, get_or-drop, get_or_past, get_or-replicate, get_or_append_left, get_or-append_right, ext_get_or}
 use Rattle.std.proofs.lemmas.List.FromFn.{length-map-range_with_len, get_or-map-range_with_len}
 use Rattle.std.proofs.lemmas.Bool.{cases_lt, cases_eq}
 use Rattle.std.proofs.lemmas.Bool.Decides.{nat_tests}
 use Rattle.fa_tree.specs.Contents.{IsReadAs, filled, readable, resized, written}
-use Rattle.fa_tree.specs.parts.PageParts.{IsPart, with_part, page_at, byte_at, bytes_of, IsZeroFrom, SameBytes, IsStored, AreFrom, AreWritten}
+use Rattle.fa_tree.specs.parts.PageParts.{PagesShown, only_page, page_of, IsPart, with_part, page_at, byte_at, bytes_of, IsZeroFrom, IsZeroNear, SameBytes, IsStored, AreFrom, AreWritten, IsSet, IsGrown}
+use Rattle.fa_tree.proofs.PageLemmas.{page_near, only_here, only_others}
 
 -- ---- the bytes in pages
 
-pub length-bytes_of : (pages : List (List ℕ)) (len : ℕ) → length (bytes_of pages len) ≡ len
+pub length-bytes_of : (pages : ℕ → List ℕ) (len : ℕ) → length (bytes_of pages len) ≡ len
 unfolding bytes_of
 length-bytes_of pages len = length-map-range_with_len (λ i. byte_at pages i) 0 len
 
-get_or-bytes_of : (pages : List (List ℕ)) (len i : ℕ) → i < len → get_or (bytes_of pages len) i 0 ≡ byte_at pages i
+get_or-bytes_of : (pages : ℕ → List ℕ) (len i : ℕ) → i < len → get_or (bytes_of pages len) i 0 ≡ byte_at pages i
 unfolding bytes_of
 get_or-bytes_of pages len i within = get_or-map-range_with_len (λ k. byte_at pages k) 0 len i i 0 within (zero-add i)
 
 -- any byte at all, where what is behind the end are zeros
-bytes_at : (pages : List (List ℕ)) (len : ℕ) → IsZeroFrom pages len → (i : ℕ) → get_or (bytes_of pages len) i 0 ≡ byte_at pages i
+bytes_at : (pages : ℕ → List ℕ) (len : ℕ) → IsZeroFrom pages len → (i : ℕ) → get_or (bytes_of pages len) i 0 ≡ byte_at pages i
 bytes_at pages len zeros i = elim (cases_lt i len) [
   | inl within ↦ get_or-bytes_of pages len i within
   | inr behind ↦
@@ -27,180 +28,120 @@ bytes_at pages len zeros i = elim (cases_lt i len) [
 ]
 
 -- bytes that are the pages', one by one
-bytes_are : (pages : List (List ℕ)) (len : ℕ) (bytes : List ℕ) → length bytes ≡ len
+bytes_are : (pages : ℕ → List ℕ) (len : ℕ) (bytes : List ℕ) → length bytes ≡ len
     → ((i : ℕ) → i < len → get_or bytes i 0 ≡ byte_at pages i) → bytes_of pages len ≡ bytes
 bytes_are pages len bytes size each =
     let all = length-bytes_of pages len in
     ext_get_or 0 (bytes_of pages len) bytes (all ∙ sym size)
     (λ i within. let here : i < len = omega arith in get_or-bytes_of pages len i here ∙ sym (each i here))
 
-pub bytes_same : (now before : List (List ℕ)) (len : ℕ) → SameBytes now before → bytes_of now len ≡ bytes_of before len
+pub byte_same : (now before : ℕ → List ℕ) → SameBytes now before → (i : ℕ) → byte_at now i ≡ byte_at before i
+unfolding byte_at page_at
+byte_same now before same i = same (i / 4096) (i % 4096)
+
+pub bytes_same : (now before : ℕ → List ℕ) (len : ℕ) → SameBytes now before → bytes_of now len ≡ bytes_of before len
 bytes_same now before len same =
-    bytes_are now len (bytes_of before len) (length-bytes_of before len) (λ i within. get_or-bytes_of before len i within ∙ sym (same i))
+    bytes_are now len (bytes_of before len) (length-bytes_of before len) (λ i within. get_or-bytes_of before len i within ∙ sym (byte_same now before same i))
 
 -- ---- pages
 
-pub bytes_none : (pages : List (List ℕ)) → bytes_of pages 0 ≡ []
+pub bytes_none : (pages : ℕ → List ℕ) → bytes_of pages 0 ≡ []
 unfolding bytes_of
 bytes_none pages = refl
 
--- one more page, that stores nothing
-pub byte_push : (pages : List (List ℕ)) (i : ℕ) → byte_at (pages ++ [] ∷ []) i ≡ byte_at pages i
-unfolding byte_at page_at
-byte_push pages i =
-    let same : get_or (pages ++ [] ∷ []) (i / 4096) [] ≡ get_or pages (i / 4096) [] = elim (cases_lt (i / 4096) (length pages)) [
-      | inl within ↦ get_or_append_left pages ([] ∷ []) [] (i / 4096) within
-      | inr behind ↦ elim (cases_eq (i / 4096) (length pages)) [
-        | inl last ↦ get_or_push pages [] [] (i / 4096) (sym last) ∙ sym (get_or_past pages (i / 4096) [] behind)
-        | inr past ↦
-            let size = length_push pages [] in
-            get_or_past (pages ++ [] ∷ []) (i / 4096) [] (omega arith) ∙ sym (get_or_past pages (i / 4096) [] behind)
-      ]
-    ] in
-    ap (λ page. get_or page (i % 4096) 0) same
-
--- one page, that stores nothing
-pub byte_none : (pages : List (List ℕ)) → pages ≡ [] ∷ [] → (i : ℕ) → byte_at pages i ≡ 0
-unfolding byte_at page_at
-byte_none pages none i = rw none (byte_push [] i)
-
--- one page: what it stores, and zeros behind
-module _ (pages : List (List ℕ)) (page : List ℕ) (is : pages ≡ page ∷ []) (fits : length page ≤ 4096) where
-  pub zero_behind : IsZeroFrom pages (length page)
-  unfolding byte_at page_at
-  zero_behind i behind = rw is (at (i / 4096) refl) where
-    at : (k : ℕ) → i / 4096 ≡ k → get_or (get_or (page ∷ []) k []) (i % 4096) 0 ≡ 0
-    at zero here = get_or_past page (i % 4096) 0 (omega arith)
-    at (suc k) here = refl
-
-  byte_of_one : (i : ℕ) → i < length page → get_or page i 0 ≡ byte_at pages i
-  unfolding byte_at page_at
-  byte_of_one i within =
-      let first : i / 4096 ≡ 0 = omega arith in
-      let same : i % 4096 ≡ i = omega arith in
-      rw (is, first, same) refl
-
-  pub bytes_of_one : bytes_of pages (length page) ≡ page
-  bytes_of_one = bytes_are pages (length page) page refl byte_of_one
-
--- a page put in the place of the first of pages that store nothing has the bytes that it has by itself
-pub bytes_first : (page : List ℕ) (pages : List (List ℕ)) → SameBytes pages [] → 0 < length pages → SameBytes (set pages 0 page) (page ∷ [])
-unfolding byte_at page_at
-bytes_first page pages none within i = at (i / 4096) refl where
-  at : (k : ℕ) → i / 4096 ≡ k → get_or (get_or (set pages 0 page) k []) (i % 4096) 0 ≡ get_or (get_or (page ∷ []) k []) (i % 4096) 0
-  at zero here = ap (λ p. get_or p (i % 4096) 0) (get_or-set_same pages 0 page [] within)
-  at (suc k) here =
-      ap (λ p. get_or p (i % 4096) 0) (get_or-set_other pages 0 (suc k) page [] (λ same. omega (arith, same)))
-      ∙ rw here at (none i)
-
--- a page that is set, and the others
-page_here : (pages : List (List ℕ)) (page : List ℕ) (k i : ℕ) → i / 4096 ≡ k → k < length pages → page_at (set pages k page) i ≡ page
-unfolding page_at
-page_here pages page k i here within = rw here (get_or-set_same pages k page [] within)
-
-page_other : (pages : List (List ℕ)) (page : List ℕ) (k i : ℕ) → (i / 4096 ≡ k → ⊥) → page_at (set pages k page) i ≡ page_at pages i
-unfolding page_at
-page_other pages page k i other = get_or-set_other pages k (i / 4096) page [] other
-
 -- bytes in one page
-page_same : (pages : List (List ℕ)) (i k : ℕ) → i / 4096 ≡ k / 4096 → page_at pages i ≡ page_at pages k
+page_in : (pages : ℕ → List ℕ) (i k : ℕ) → i / 4096 ≡ k → page_at pages i ≡ pages k
 unfolding page_at
-page_same pages i k same = ap (λ n. get_or pages n []) same
+page_in pages i k here = ap pages here
 
-page_of : (pages : List (List ℕ)) (i k : ℕ) → i / 4096 ≡ k → page_at pages i ≡ get_or pages k []
+page_same : (pages : ℕ → List ℕ) (i k : ℕ) → i / 4096 ≡ k / 4096 → page_at pages i ≡ page_at pages k
 unfolding page_at
-page_of pages i k here = ap (λ n. get_or pages n []) here
+page_same pages i k same = ap pages same
 
-byte_in : (pages : List (List ℕ)) (page : List ℕ) (i : ℕ) → page_at pages i ≡ page → byte_at pages i ≡ get_or page (i % 4096) 0
+byte_in : (pages : ℕ → List ℕ) (page : List ℕ) (i : ℕ) → page_at pages i ≡ page → byte_at pages i ≡ get_or page (i % 4096) 0
 unfolding byte_at
 byte_in pages page i is = ap (λ p. get_or p (i % 4096) 0) is
 
-byte_here : (pages : List (List ℕ)) (page : List ℕ) (k i : ℕ) → i / 4096 ≡ k → k < length pages → byte_at (set pages k page) i ≡ get_or page (i % 4096) 0
-byte_here pages page k i here within = byte_in (set pages k page) page i (page_here pages page k i here within)
-
-byte_other : (pages : List (List ℕ)) (page : List ℕ) (k i : ℕ) → (i / 4096 ≡ k → ⊥) → byte_at (set pages k page) i ≡ byte_at pages i
-unfolding byte_at
-byte_other pages page k i other = ap (λ p. get_or p (i % 4096) 0) (page_other pages page k i other)
-
--- a page that has the same bytes as the one in whose place it stands
-pub page_alike : (pages : List (List ℕ)) (page : List ℕ) (k : ℕ) → k < length pages → ((i : ℕ) → get_or page i 0 ≡ get_or (get_or pages k []) i 0) → SameBytes (set pages k page) pages
-page_alike pages page k within same i = elim (cases_eq (i / 4096) k) [
-  | inl here ↦ byte_here pages page k i here within ∙ (same (i % 4096) ∙ sym (byte_in pages (get_or pages k []) i (page_of pages i k here)))
-  | inr other ↦ byte_other pages page k i other
-]
-
--- behind the pages that there are all bytes are zeros
-pub zero_past : (pages : List (List ℕ)) → IsZeroFrom pages (length pages * 4096)
+-- a byte of a page that is as it was
+byte_kept : (now before : ℕ → List ℕ) (i : ℕ) → now (i / 4096) ≡ before (i / 4096) → byte_at now i ≡ byte_at before i
 unfolding byte_at page_at
-zero_past pages i behind =
-    let past : length pages ≤ i / 4096 = omega arith in
-    ap (λ page. get_or page (i % 4096) 0) (get_or_past pages (i / 4096) [] past)
+byte_kept now before i same = ap (λ p. get_or p (i % 4096) 0) same
 
--- pages behind which all bytes are zeros have the same bytes without what is behind them
-pub front_same : (pages : List (List ℕ)) (count : ℕ) → IsZeroFrom pages (count * 4096) → SameBytes (take count pages) pages
-unfolding byte_at page_at
-front_same pages count zeros i = elim (cases_lt (i / 4096) count) [
-  | inl front ↦ ap (λ page. get_or page (i % 4096) 0) (get_or-take count pages (i / 4096) [] front)
-  | inr behind ↦
-      let few : length (take count pages) ≤ i / 4096 = simp length-take (omega arith) in
-      let none : get_or (get_or (take count pages) (i / 4096) []) (i % 4096) 0 ≡ 0 = ap (λ page. get_or page (i % 4096) 0) (get_or_past (take count pages) (i / 4096) [] few) in
-      none ∙ sym (zeros i (omega arith))
-]
+-- a byte of a page that stores nothing
+byte_past : (pages : ℕ → List ℕ) (i : ℕ) → pages (i / 4096) ≡ [] → byte_at pages i ≡ 0
+byte_past pages i none = byte_in pages [] i (page_in pages i (i / 4096) refl ∙ none)
 
--- what is left of them, and what has the bytes of that
-pub left_same : (pages before left now : List (List ℕ)) (count : ℕ) → pages ≡ before → IsZeroFrom before (count * 4096) → left ≡ take count pages → SameBytes now left → SameBytes now before
-left_same pages before left now count is zeros front same i =
-    same i ∙ ap (λ p. byte_at p i) (front ∙ ap (take count) is) ∙ front_same before count zeros i
+-- one page: what it stores, and zeros behind
+module _ (pages : PagesShown) (page : List ℕ) (is : pages ≡ only_page page) (fits : length page ≤ 4096) where
+  pub zero_behind : IsZeroFrom (page_of pages) (length page)
+  zero_behind i behind = rw is (elim (cases_eq (i / 4096) 0) [
+    | inl here ↦
+        byte_in (page_of (only_page page)) page i (page_in (page_of (only_page page)) i 0 here ∙ only_here page)
+        ∙ get_or_past page (i % 4096) 0 (omega arith)
+    | inr other ↦ byte_past (page_of (only_page page)) i (only_others page (i / 4096) other)
+  ])
 
--- where a page is taken from the end of no more than one, it is all of them
-pub last_alone : (page : List ℕ) (left all : List (List ℕ)) → all ≡ left ++ page ∷ [] → length all ≤ 1 → page ∷ [] ≡ all
-last_alone page [] all is few = sym is
-last_alone page (first ∷ left) all is few =
-    let long = length_push left page in
-    let size : length all ≡ length (first ∷ (left ++ page ∷ [])) = ap length is in
-    absurd (omega (arith, few, size, long))
+  byte_of_one : (i : ℕ) → i < length page → get_or page i 0 ≡ byte_at (page_of pages) i
+  byte_of_one i within =
+      let first : i / 4096 ≡ 0 = omega arith in
+      let same : i % 4096 ≡ i = omega arith in
+      rw is (sym (byte_in (page_of (only_page page)) page i (page_in (page_of (only_page page)) i 0 first ∙ only_here page) ∙ ap (λ k. get_or page k 0) same))
 
--- a byte that is stored is in a page that there is
-pub stored_within : (pages : List (List ℕ)) (i : ℕ) → i % 4096 < length (page_at pages i) → i / 4096 < length pages
-unfolding page_at
-stored_within pages i stored = elim (cases_lt (i / 4096) (length pages)) [
-  | inl within ↦ within
-  | inr behind ↦
-      let none : get_or pages (i / 4096) [] ≡ [] = get_or_past pages (i / 4096) [] behind in
-      let nothing = rw none at stored in
-      absurd (omega arith)
-]
+  pub bytes_of_one : bytes_of (page_of pages) (length page) ≡ page
+  bytes_of_one = bytes_are (page_of pages) (length page) page refl byte_of_one
+
+-- one page, that stores nothing
+pub byte_none : (pages : PagesShown) → pages ≡ only_page [] → (i : ℕ) → byte_at (page_of pages) i ≡ 0
+byte_none pages none i = zero_behind pages [] none (omega arith) i (omega arith)
+
+-- a page that is set, and the others
+module _ (now before : ℕ → List ℕ) (k : ℕ) (page : List ℕ) (put : IsSet now before k page) where
+  page_here : (i : ℕ) → i / 4096 ≡ k → page_at now i ≡ page
+  page_here i here = page_in now i k here ∙ put.here
+
+  page_other : (i : ℕ) → (i / 4096 ≡ k → ⊥) → page_at now i ≡ page_at before i
+  unfolding page_at
+  page_other i other = put.others (i / 4096) other
+
+  byte_here : (i : ℕ) → i / 4096 ≡ k → byte_at now i ≡ get_or page (i % 4096) 0
+  byte_here i here = byte_in now page i (page_here i here)
+
+  byte_other : (i : ℕ) → (i / 4096 ≡ k → ⊥) → byte_at now i ≡ byte_at before i
+  byte_other i other = byte_kept now before i (put.others (i / 4096) other)
+
+-- pages that have the same bytes as some of which the list near the beginning had so many
+pub zero_near : (now before : PagesShown) (count : ℕ) → count ≡ length before.near → SameBytes (page_of now) (page_of before) → IsZeroNear now count
+zero_near now before count is same place at behind near =
+    sym (ap (λ p. get_or p at 0) (page_near now place near))
+    ∙ (same place at
+    ∙ ap (λ p. get_or p at 0) (page_near before place near ∙ get_or_past before.near place [] (omega arith)))
 
 -- ---- a page that stores more
 
 -- a page that stores more, with the same bytes
-module _ (pages : List (List ℕ)) (page page' : List ℕ) (at : ℕ) (within : at / 4096 < length pages) (is : page_at pages at ≡ page) where
-  pub byte_stored : ((i : ℕ) → get_or page' i 0 ≡ get_or page i 0) → SameBytes (set pages (at / 4096) page') pages
-  byte_stored same i = elim (cases_eq (i / 4096) (at / 4096)) [
-    | inl here ↦
-        byte_here pages page' (at / 4096) i here within
-        ∙ (same (i % 4096) ∙ sym (byte_in pages page i (page_same pages i at here ∙ is)))
-    | inr other ↦ byte_other pages page' (at / 4096) i other
-  ]
-
+module _ (now before : ℕ → List ℕ) (at : ℕ) (grown : IsGrown now before (at / 4096)) where
   -- what was stored is stored still
-  pub still_stored : length page ≤ length page' → (i : ℕ) → i % 4096 < length (page_at pages i) → i % 4096 < length (page_at (set pages (at / 4096) page') i)
-  still_stored longer i stored = elim (cases_eq (i / 4096) (at / 4096)) [
+  pub still_stored : (i : ℕ) → i % 4096 < length (page_at before i) → i % 4096 < length (page_at now i)
+  unfolding page_at
+  still_stored i stored = elim (cases_eq (i / 4096) (at / 4096)) [
     | inl here ↦
-        let before : page_at pages i ≡ page = page_same pages i at here ∙ is in
-        let stored_2 = rw before at stored in
-        rw (page_here pages page' (at / 4096) i here within) (omega arith)
-    | inr other ↦ rw (page_other pages page' (at / 4096) i other) stored
+        let kept = grown.kept in
+        let was : length (before (i / 4096)) ≡ length (before (at / 4096)) = ap (λ k. length (before k)) here in
+        let is : length (now (i / 4096)) ≡ length (now (at / 4096)) = ap (λ k. length (now k)) here in
+        omega arith
+    | inr other ↦ rw (grown.others (i / 4096) other) stored
   ]
 
-  -- what the page has to store now is stored
-  pub now_stored : (count : ℕ) → count ≤ 4096 - at % 4096 → at % 4096 + count ≤ length page' → IsStored (set pages (at / 4096) page') at (at + count)
-  now_stored count fits long i from below =
-      let here : i / 4096 ≡ at / 4096 = omega arith in
-      rw (page_here pages page' (at / 4096) i here within) (omega arith)
+-- what a page has to store now is stored
+pub now_stored : (now : ℕ → List ℕ) (at count : ℕ) → count ≤ 4096 - at % 4096 → at % 4096 + count ≤ length (now (at / 4096)) → IsStored now at (at + count)
+unfolding page_at
+now_stored now at count fits long i from below =
+    let here : i / 4096 ≡ at / 4096 = omega arith in
+    let is : length (now (i / 4096)) ≡ length (now (at / 4096)) = ap (λ k. length (now k)) here in
+    omega arith
 
 -- stored up to a place, and from it on
-pub stored_more : (pages : List (List ℕ)) (start at end : ℕ) → IsStored pages start at → IsStored pages at end → IsStored pages start end
+pub stored_more : (pages : ℕ → List ℕ) (start at end : ℕ) → IsStored pages start at → IsStored pages at end → IsStored pages start end
 stored_more pages start at end before behind i from below = elim (cases_lt i at) [
   | inl front ↦ before i from front
   | inr back ↦ behind i back below
@@ -241,49 +182,56 @@ get_or-piece : (bytes : List ℕ) (done count i : ℕ) → i < count → get_or 
 get_or-piece bytes done count i within = get_or-take (done + count - done) (drop done bytes) i 0 (omega arith) ∙ get_or-drop done bytes i 0
 
 -- one page more that is written
-module _ (now before : List (List ℕ)) (page page' part : List ℕ) (start : ℕ) (bytes : List ℕ) (done count : ℕ)
-    (within : (start + done) / 4096 < length now) (is : page_at now (start + done) ≡ page) (put : page' ≡ with_part page ((start + done) % 4096) part)
+module _ (now mid before : ℕ → List ℕ) (part : List ℕ) (start : ℕ) (bytes : List ℕ) (done count : ℕ)
+    (put : IsSet now mid ((start + done) / 4096) (with_part (mid ((start + done) / 4096)) ((start + done) % 4096) part))
     (piece : part ≡ take (done + count - done) (drop done bytes)) (fits : done + count ≤ length bytes) (one : count ≤ 4096 - (start + done) % 4096)
-    (stored : (start + done) % 4096 + count ≤ length page) where
+    (stored : (start + done) % 4096 + count ≤ length (mid ((start + done) / 4096))) where
+  abbrev page : List ℕ
+  page = mid ((start + done) / 4096)
+
   part_count : length part ≡ count
   part_count = ap length piece ∙ length-piece bytes done count fits
 
   part_fits : (start + done) % 4096 + length part ≤ length page
   part_fits = rw part_count stored
 
-  pub piece_stored : (i : ℕ) → i % 4096 < length (page_at now i) → i % 4096 < length (page_at (set now ((start + done) / 4096) page') i)
-  piece_stored i here =
-      let size : length page' ≡ length page = ap length put ∙ length-with_part page part ((start + done) % 4096) part_fits in
-      still_stored now page page' (start + done) within is (omega arith) i here
+  pub piece_stored : (i : ℕ) → i % 4096 < length (page_at mid i) → i % 4096 < length (page_at now i)
+  piece_stored i here = elim (cases_eq (i / 4096) ((start + done) / 4096)) [
+    | inl same ↦
+        let was : length (page_at mid i) ≡ length page = ap length (page_in mid i ((start + done) / 4096) same) in
+        let is : length (page_at now i) ≡ length page =
+        ap length (page_here now mid ((start + done) / 4096) _ put i same) ∙ length-with_part page part ((start + done) % 4096) part_fits in
+        omega arith
+    | inr other ↦ rw (page_other now mid ((start + done) / 4096) _ put i other) here
+  ]
 
   -- a byte that is not written
-  piece_others : (i : ℕ) → (i < start + done) ⊎ (start + (done + count) ≤ i) → byte_at (set now ((start + done) / 4096) page') i ≡ byte_at now i
+  piece_others : (i : ℕ) → (i < start + done) ⊎ (start + (done + count) ≤ i) → byte_at now i ≡ byte_at mid i
   piece_others i out = elim (cases_eq (i / 4096) ((start + done) / 4096)) [
     | inl here ↦
-        let was : byte_at now i ≡ get_or page (i % 4096) 0 = byte_in now page i (page_same now i (start + done) here ∙ is) in
+        let was : byte_at mid i ≡ get_or page (i % 4096) 0 = byte_in mid page i (page_in mid i ((start + done) / 4096) here) in
         let size = part_count in
         let kept : get_or (with_part page ((start + done) % 4096) part) (i % 4096) 0 ≡ get_or page (i % 4096) 0 = elim out [
           | inl front ↦ part_front page part ((start + done) % 4096) part_fits (i % 4096) (omega arith)
           | inr back ↦ part_back page part ((start + done) % 4096) part_fits (i % 4096) (omega arith)
         ] in
-        byte_here now page' ((start + done) / 4096) i here within ∙ (ap (λ p. get_or p (i % 4096) 0) put ∙ (kept ∙ sym was))
-    | inr other ↦ byte_other now page' ((start + done) / 4096) i other
+        byte_here now mid ((start + done) / 4096) _ put i here ∙ (kept ∙ sym was)
+    | inr other ↦ byte_other now mid ((start + done) / 4096) _ put i other
   ]
 
   -- one that is
-  piece_inside : (i : ℕ) → done ≤ i → i < done + count → byte_at (set now ((start + done) / 4096) page') (start + i) ≡ get_or bytes i 0
+  piece_inside : (i : ℕ) → done ≤ i → i < done + count → byte_at now (start + i) ≡ get_or bytes i 0
   piece_inside i from below =
       let here : (start + i) / 4096 ≡ (start + done) / 4096 = omega arith in
       let place : (start + i) % 4096 - (start + done) % 4096 ≡ i - done = omega arith in
       let sum : done + (i - done) ≡ i = omega arith in
       let size = part_count in
-      byte_here now page' ((start + done) / 4096) (start + i) here within
-      ∙ (ap (λ p. get_or p ((start + i) % 4096) 0) put
+      byte_here now mid ((start + done) / 4096) _ put (start + i) here
       ∙ (part_inside page part ((start + done) % 4096) part_fits ((start + i) % 4096) (omega arith) (omega arith)
       ∙ (ap (λ k. get_or part k 0) place
-      ∙ (ap (λ l. get_or l (i - done) 0) piece ∙ (get_or-piece bytes done count (i - done) (omega arith) ∙ ap (λ k. get_or bytes k 0) sum)))))
+      ∙ (ap (λ l. get_or l (i - done) 0) piece ∙ (get_or-piece bytes done count (i - done) (omega arith) ∙ ap (λ k. get_or bytes k 0) sum))))
 
-  pub piece_written : AreWritten now before start bytes done → AreWritten (set now ((start + done) / 4096) page') before start bytes (done + count)
+  pub piece_written : AreWritten mid before start bytes done → AreWritten now before start bytes (done + count)
   piece_written so_far = record {
     in_front = λ i front. piece_others i (inl (omega arith)) ∙ so_far.in_front i front;
     inside = λ i below. elim (cases_lt i done) [
@@ -296,7 +244,7 @@ module _ (now before : List (List ℕ)) (page page' part : List ℕ) (start : �
 -- ---- bytes that are compared
 
 -- one page more that is compared
-module _ (pages : List (List ℕ)) (part : List ℕ) (start : ℕ) (bytes : List ℕ) (done count : ℕ)
+module _ (pages : ℕ → List ℕ) (part : List ℕ) (start : ℕ) (bytes : List ℕ) (done count : ℕ)
     (piece : part ≡ take (done + count - done) (drop done bytes)) (fits : done + count ≤ length bytes) (one : count ≤ 4096 - (start + done) % 4096) where
   -- a byte of the page
   piece_byte : (i : ℕ) → i < count → byte_at pages (start + (done + i)) ≡ get_or (page_at pages (start + done)) ((start + done) % 4096 + i) 0
@@ -327,66 +275,64 @@ module _ (pages : List (List ℕ)) (part : List ℕ) (start : ℕ) (bytes : List
 
 -- ---- bytes that are cut
 
--- behind the last page
-page_past : (pages : List (List ℕ)) (i : ℕ) → length pages ≤ i / 4096 → page_at pages i ≡ []
-unfolding page_at
-page_past pages i back = get_or_past pages (i / 4096) [] back
-
-byte_past : (pages : List (List ℕ)) (i : ℕ) → length pages ≤ i / 4096 → byte_at pages i ≡ 0
-byte_past pages i back = byte_in pages [] i (page_past pages i back)
-
 -- pages of which that of this place was cut there
-pub record IsCutThere (now before : List (List ℕ)) (size : ℕ) : Type 0 where
+pub record IsCutThere (now before : ℕ → List ℕ) (size : ℕ) : Type 0 where
   pub in_front : (i : ℕ) → i < size → byte_at now i ≡ byte_at before i
   pub there : (i : ℕ) → size ≤ i → i / 4096 ≡ size / 4096 → byte_at now i ≡ 0
   pub others : (i : ℕ) → (i / 4096 ≡ size / 4096 → ⊥) → byte_at now i ≡ byte_at before i
 
-pub cut_there : (pages : List (List ℕ)) (page : List ℕ) (size : ℕ) → size / 4096 < length pages → page_at pages size ≡ page
-    → IsCutThere (set pages (size / 4096) (take (size % 4096) page)) pages size
-cut_there pages page size within is = record {
+pub cut_there : (now before : ℕ → List ℕ) (size : ℕ) → IsSet now before (size / 4096) (take (size % 4096) (before (size / 4096)))
+    → IsCutThere now before size
+cut_there now before size put = record {
   in_front = λ i front. elim (cases_eq (i / 4096) (size / 4096)) [
     | inl here ↦
-        byte_here pages (take (size % 4096) page) (size / 4096) i here within
-        ∙ (get_or-take (size % 4096) page (i % 4096) 0 (omega arith) ∙ sym (byte_in pages page i (page_same pages i size here ∙ is)))
-    | inr other ↦ byte_other pages (take (size % 4096) page) (size / 4096) i other
+        byte_here now before (size / 4096) _ put i here
+        ∙ (get_or-take (size % 4096) (before (size / 4096)) (i % 4096) 0 (omega arith)
+        ∙ sym (byte_in before (before (size / 4096)) i (page_in before i (size / 4096) here)))
+    | inr other ↦ byte_other now before (size / 4096) _ put i other
   ];
   there = λ i back here.
-      let short = length-take (size % 4096) page in
-      byte_here pages (take (size % 4096) page) (size / 4096) i here within ∙ get_or_past (take (size % 4096) page) (i % 4096) 0 (omega arith);
-  others = λ i other. byte_other pages (take (size % 4096) page) (size / 4096) i other;
+      let short = length-take (size % 4096) (before (size / 4096)) in
+      byte_here now before (size / 4096) _ put i here ∙ get_or_past (take (size % 4096) (before (size / 4096))) (i % 4096) 0 (omega arith);
+  others = λ i other. byte_other now before (size / 4096) _ put i other;
 }
 
--- there is no such page
-pub none_there : (pages : List (List ℕ)) (size : ℕ) → length pages ≤ size / 4096 → IsCutThere pages pages size
-none_there pages size past = record {
-  in_front = λ i front. refl;
-  there = λ i back here. byte_past pages i (omega arith);
-  others = λ i other. refl;
-}
+-- then the far ones behind it were taken away
+module _ (now : PagesShown) (mid before : ℕ → List ℕ) (size : ℕ) (cut : IsCutThere mid before size)
+    (kept : (k : ℕ) → k < size / 4096 + 1 → page_of now k ≡ mid k) where
+  pub cut_front : (i : ℕ) → i < size → byte_at (page_of now) i ≡ byte_at before i
+  cut_front i front = byte_kept (page_of now) mid i (kept (i / 4096) (omega arith)) ∙ cut.in_front i front
 
--- what is not in a page that is walked behind it is cut
-pub cut_ready : (now before : List (List ℕ)) (size len count end : ℕ) → IsCutThere now before size → IsZeroFrom before len
-    → count ≡ len / 4096 + min 1 (len % 4096) → end ≡ min count (length now) → (i : ℕ) → size ≤ i
-    → (i / 4096 < size / 4096 + 1) ⊎ (end ≤ i / 4096) → byte_at now i ≡ 0
-cut_ready now before size len count end cut zeros enough few i back out = elim (cases_eq (i / 4096) (size / 4096)) [
-  | inl here ↦ cut.there i back here
-  | inr other ↦ elim (cases_lt i len) [
-    | inl below ↦ byte_past now i (elim out [ inl last ↦ absurd (other (omega arith)) | inr past ↦ omega arith ])
-    | inr behind ↦ cut.others i other ∙ zeros i behind
+  -- what is not in a page near the beginning that is walked behind it is cut
+  pub cut_ready : ((k : ℕ) → k < 4096 → page_of now k ≡ mid k) → ((k : ℕ) → 4096 ≤ k → size / 4096 + 1 ≤ k → page_of now k ≡ [])
+      → (len count end : ℕ) → IsZeroFrom before len → count ≡ len / 4096 + min 1 (len % 4096) → end ≡ min count (length now.near)
+      → (i : ℕ) → size ≤ i → (i / 4096 < size / 4096 + 1) ⊎ (end ≤ i / 4096) → byte_at (page_of now) i ≡ 0
+  cut_ready near far len count end zeros enough few i back out = elim (cases_eq (i / 4096) (size / 4096)) [
+    | inl here ↦ byte_kept (page_of now) mid i (kept (i / 4096) (omega arith)) ∙ cut.there i back here
+    | inr other ↦ elim (cases_lt (i / 4096) 4096) [
+      | inl close ↦ elim (cases_lt i len) [
+        | inl below ↦
+            let past : length now.near ≤ i / 4096 = elim out [ inl last ↦ absurd (other (omega arith)) | inr past ↦ omega arith ] in
+            byte_past (page_of now) i (page_near now (i / 4096) close ∙ get_or_past now.near (i / 4096) [] past)
+        | inr behind ↦ byte_kept (page_of now) mid i (near (i / 4096) close) ∙ (cut.others i other ∙ zeros i behind)
+      ]
+      | inr away ↦
+          let later : size / 4096 + 1 ≤ i / 4096 = omega (arith, other) in
+          byte_past (page_of now) i (far (i / 4096) away later)
+    ]
   ]
-]
 
 -- one page more that stores nothing
-module _ (now : List (List ℕ)) (at : ℕ) (within : at < length now) where
-  pub emptied_others : (i : ℕ) → i / 4096 < at → byte_at (set now at []) i ≡ byte_at now i
-  emptied_others i front = byte_other now [] at i (λ here. omega arith)
+module _ (now before : ℕ → List ℕ) (at : ℕ) (put : IsSet now before at []) where
+  pub emptied_others : (i : ℕ) → i / 4096 < at → byte_at now i ≡ byte_at before i
+  emptied_others i front = byte_other now before at [] put i (λ here. omega arith)
 
-  pub emptied : (size end : ℕ) → ((i : ℕ) → size ≤ i → (i / 4096 < at) ⊎ (end ≤ i / 4096) → byte_at now i ≡ 0)
-      → (i : ℕ) → size ≤ i → (i / 4096 < at + 1) ⊎ (end ≤ i / 4096) → byte_at (set now at []) i ≡ 0
+  pub emptied : (size end : ℕ) → ((i : ℕ) → size ≤ i → (i / 4096 < at) ⊎ (end ≤ i / 4096) → byte_at before i ≡ 0)
+      → (i : ℕ) → size ≤ i → (i / 4096 < at + 1) ⊎ (end ≤ i / 4096) → byte_at now i ≡ 0
   emptied size end so_far i back out = elim (cases_eq (i / 4096) at) [
-    | inl here ↦ byte_here now [] at i here within
+    | inl here ↦ byte_here now before at [] put i here
     | inr other ↦
-        byte_other now [] at i other
+        byte_other now before at [] put i other
         ∙ so_far i back (elim out [ inl front ↦ inl (omega arith) | inr past ↦ inr past ])
   ]
 
@@ -410,7 +356,7 @@ length-filled : (bytes : List ℕ) (size : ℕ) → length (filled bytes size) �
 length-filled bytes size = length-append bytes (replicate (size - length bytes) 0) ∙ ap (λ n. length bytes + n) (length-replicate (size - length bytes) 0)
 
 -- bytes in pages that are cut or filled
-pub resized_is : (pages : List (List ℕ)) (len : ℕ) (before : List (List ℕ)) (size : ℕ) → IsZeroFrom before len
+pub resized_is : (pages : ℕ → List ℕ) (len : ℕ) (before : ℕ → List ℕ) (size : ℕ) → IsZeroFrom before len
     → ((i : ℕ) → i < size → byte_at pages i ≡ byte_at before i) → bytes_of pages size ≡ resized (bytes_of before len) size
 resized_is pages len before size zeros same =
     let long = length-filled (bytes_of before len) size in
@@ -461,7 +407,7 @@ module _ (bytes payload : List ℕ) (offset : ℕ) (some : (length payload == 0)
       ∙ (get_or-drop (offset + length payload) bytes ((i - offset) - length payload) 0 ∙ ap (λ k. get_or bytes k 0) sum))
 
 -- bytes in pages that are written
-module _ (now before : List (List ℕ)) (len : ℕ) (payload : List ℕ) (offset : ℕ) (some : (length payload == 0) ≡ false) (zeros : IsZeroFrom before len)
+module _ (now before : ℕ → List ℕ) (len : ℕ) (payload : List ℕ) (offset : ℕ) (some : (length payload == 0) ≡ false) (zeros : IsZeroFrom before len)
     (put : AreWritten now before offset payload (length payload)) where
   pub written_is : bytes_of now (max len (offset + length payload)) ≡ written (bytes_of before len) offset payload
   written_is =
@@ -479,7 +425,7 @@ module _ (now before : List (List ℕ)) (len : ℕ) (payload : List ℕ) (offset
       ])
 
 -- bytes that are read
-module _ (pages : List (List ℕ)) (len offset size start asked : ℕ) (given : List ℕ)
+module _ (pages : ℕ → List ℕ) (len offset size start asked : ℕ) (given : List ℕ)
     (from : start ≡ min len offset) (most : asked ≡ min (len - start) size) where
   length-readable : length (readable (bytes_of pages len) offset size) ≡ asked
   length-readable =
@@ -529,7 +475,7 @@ module _ (pages : List (List ℕ)) (len offset size start asked : ℕ) (given : 
       )
 
 -- bytes that are the pages'
-pub all_are : (pages : List (List ℕ)) (len : ℕ) (bytes : List ℕ) → (length bytes ≡ len) × AreFrom pages 0 bytes ↔ (bytes ≡ bytes_of pages len)
+pub all_are : (pages : ℕ → List ℕ) (len : ℕ) (bytes : List ℕ) → (length bytes ≡ len) × AreFrom pages 0 bytes ↔ (bytes ≡ bytes_of pages len)
 all_are pages len bytes = (
   (λ are. sym (bytes_are pages len bytes are.0 (λ i within. are.1 i (omega (arith, are.0)) ∙ ap (λ k. byte_at pages k) (zero-add i)))),
   (λ same.
@@ -561,13 +507,13 @@ written_rest bytes count is =
           rw none (ext_get_or 0 (take count bytes) bytes (front ∙ omega arith) (λ i within. get_or-take count bytes i 0 (omega arith)))
     ]
 
--- the page at a place of the list
-pub page_there : (pages : List (List ℕ)) (at : ℕ) → page_at pages at ≡ get_or pages (at / 4096) []
+-- the page of a byte
+pub page_there : (pages : ℕ → List ℕ) (at : ℕ) → page_at pages at ≡ pages (at / 4096)
 unfolding page_at
 page_there pages at = refl
 
 -- a page stores what is stored of it
-pub room_of_page : (pages : List (List ℕ)) (page : List ℕ) (start end at count : ℕ) → IsStored pages start end → start ≤ at → 0 < count → at + count ≤ end
+pub room_of_page : (pages : ℕ → List ℕ) (page : List ℕ) (start end at count : ℕ) → IsStored pages start end → start ≤ at → 0 < count → at + count ≤ end
     → count ≤ 4096 - at % 4096 → page_at pages at ≡ page → at % 4096 + count ≤ length page
 room_of_page pages page start end at count stored from some below one is =
     let here : (at + count - 1) / 4096 ≡ at / 4096 = omega arith in
@@ -576,10 +522,10 @@ room_of_page pages page start end at count stored from some below one is =
     let size : length (page_at pages (at + count - 1)) ≡ length page = ap length (page_same pages (at + count - 1) at here ∙ is) in
     omega arith
 
-pub written_over : (now mid before : List (List ℕ)) (start : ℕ) (bytes : List ℕ) (done : ℕ) → AreWritten now mid start bytes done → SameBytes mid before
+pub written_over : (now mid before : ℕ → List ℕ) (start : ℕ) (bytes : List ℕ) (done : ℕ) → AreWritten now mid start bytes done → SameBytes mid before
     → AreWritten now before start bytes done
 written_over now mid before start bytes done put same = record {
-  in_front = λ i front. put.in_front i front ∙ same i;
+  in_front = λ i front. put.in_front i front ∙ byte_same mid before same i;
   inside = put.inside;
-  behind = λ i back. put.behind i back ∙ same i;
+  behind = λ i back. put.behind i back ∙ byte_same mid before same i;
 }

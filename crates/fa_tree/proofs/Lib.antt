@@ -24,6 +24,7 @@ pub mod NodeLemmas
 pub mod OpenLemmas
 pub mod OrderlyLemmas
 pub mod OutcomeLemmas
+pub mod PageLemmas
 pub mod ParentLemmas
 pub mod PartLemmas
 pub mod PlaceOrderLemmas

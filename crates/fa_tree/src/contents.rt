@@ -2,8 +2,9 @@
 
 ghost use Rattle.std.specs.Prelude.{◌≡◌, ◌↔◌, ◌+◌, ◌^◌, ◌<◌, [], length, IsTrue, IfOk, OnOk, OnErr};
 ghost use Rattle.fa_tree.specs.Contents.{IsReadAs, readable, resized, written};
-ghost use Rattle.fa_tree.specs.parts.PageParts.{IsZeroFrom, SameBytes, IsStored, AreFrom, AreWritten, AreCut};
+ghost use Rattle.fa_tree.specs.parts.PageParts.{page_of, IsZeroFrom, SameBytes, IsStored, AreNear, AreFrom, AreWritten, AreCut};
 
+use crate::many_pages::NEAR;
 use crate::page::PAGE;
 use crate::pages::Pages;
 use std::alloc::{AllocError, Global};
@@ -21,14 +22,14 @@ pub(crate) struct Contents {
 
 impl Model for Contents {
     ghost use Rattle.std.specs.Prelude.{List, ℕ};
-    ghost use Rattle.fa_tree.specs.parts.PageParts.{bytes_of, IsZeroFrom};
+    ghost use Rattle.fa_tree.specs.parts.PageParts.{page_of, bytes_of, IsZeroFrom};
 
     ghost Value = { List ℕ };
 
-    ghost view = { λ c. bytes_of c.pages c.len };
+    ghost view = { λ c. bytes_of (page_of c.pages) c.len };
 
     // What is stored behind the end are zeros, so that growing changes the length alone.
-    ghost invariant = { λ c. IsZeroFrom c.pages c.len };
+    ghost invariant = { λ c. IsZeroFrom (page_of c.pages) c.len };
 }
 
 impl Contents {
@@ -68,7 +69,7 @@ impl Contents {
         self.len
     }
 
-    /// Whether they are these. Takes no memory, and time in their number.
+    /// Whether they are these. Takes no memory, and time in their number, for each far page in the logarithm of those that are there.
     pub fn is(&self, bytes: &[u8]) -> bool
         ensures { IsTrue result ↔ (bytes.now ≡ self.now) }
     {
@@ -76,7 +77,7 @@ impl Contents {
     }
 
     /// Whether a read of so many bytes at an offset gives these; where the handle is direct, whether it may give these, a front
-    /// of what there is. Takes no memory, and time in the bytes given.
+    /// of what there is. Takes no memory, and time in the bytes given, for each far page in the logarithm of those that are there.
     pub fn is_read(&self, direct: bool, offset: u64, size: u32, given: &[u8]) -> bool
         ensures { IsTrue result ↔ IsReadAs direct (readable self.now offset size) given.now }
     {
@@ -92,8 +93,9 @@ impl Contents {
 
     /// Writes bytes at an offset, with zeros between the end and the offset; writing none changes nothing. An error says that
     /// memory was refused, or that the bytes would end at 2^64 or behind it, which no memory holds; nothing is changed. Time in the
-    /// bytes written, and a constant for each page in front of them that was not there yet: of the zeros only those are stored that
-    /// are in one page with bytes written, less than a page of them.
+    /// bytes written, a constant for each page near the beginning in front of them that was not there yet, and for each far page that
+    /// is written the logarithm of those that are there: of the zeros only those are stored that are in one page with bytes written,
+    /// less than a page of them.
     pub fn write(&mut self, offset: u64, payload: &[u8]) -> Result<(), AllocError>
         ensures written { OnOk result (self.new ≡ written self.old offset payload.now) }
         ensures unchanged { OnErr result (self.new ≡ self.old) }
@@ -111,8 +113,9 @@ impl Contents {
     }
 
     /// Cuts the bytes to this length, or fills them with zeros up to it. No length is refused, since it takes no memory; an error
-    /// would leave all as it was. Constant time, and a constant for each page that is cut: at most those
-    /// that were written or grown over. These keep their memory for what is written next, as a `Vec` keeps its capacity.
+    /// would leave all as it was. Constant time, and for each page that is cut a constant, or the logarithm of the far pages that are
+    /// there: those near the beginning that were written or grown over, which keep their memory for what is written next, as a `Vec`
+    /// keeps its capacity, and far ones that were written, which give it back.
     pub fn resize(&mut self, size: u64) -> Result<(), AllocError>
         ensures resized { OnOk result (self.new ≡ resized self.old size) }
         ensures unchanged { OnErr result (self.new ≡ self.old) }
@@ -125,8 +128,7 @@ impl Contents {
         Ok(())
     }
 
-    /// Takes all bytes away, in constant time and a constant for each page that is cut, as `resize` does. The pages keep their
-    /// memory.
+    /// Takes all bytes away, in the time of `resize`. The pages near the beginning keep their memory.
     pub fn clear(&mut self)
         ensures { self.new ≡ [] }
     {
@@ -135,11 +137,11 @@ impl Contents {
     }
 }
 
-/// Whether these are the bytes of the pages from this place on. Takes no memory, and time in their number: each page is compared
-/// as a whole.
+/// Whether these are the bytes of the pages from this place on. Takes no memory, and time in their number, for each far page in the
+/// logarithm of those that are there: each page is compared as a whole, and zeros with themselves where there is none.
 fn are_from(pages: &Pages, start: usize, bytes: &[u8]) -> bool
     requires { start + length bytes.now < 2 ^ 64 }
-    ensures { IsTrue result ↔ AreFrom pages.now start bytes.now }
+    ensures { IsTrue result ↔ AreFrom (page_of pages.now) start bytes.now }
 {
     let mut done = 0;
     while done < bytes.len() {
@@ -154,16 +156,17 @@ fn are_from(pages: &Pages, start: usize, bytes: &[u8]) -> bool
 }
 
 /// Makes pages store the bytes from one place up to another. All are as they were, after an error too, which gives back the memory
-/// that was taken before it. Time in the bytes that were not stored, and in the pages that are added.
+/// that was taken before it. Time in the bytes that were not stored, in the pages near the beginning that are added, and for each far
+/// page in the logarithm of those that are there.
 fn store(alloc: Global, pages: &mut Pages, start: usize, end: usize) -> Result<(), AllocError>
-    ensures same { SameBytes pages.new pages.old }
-    ensures stored { OnOk result (IsStored pages.new start end) }
+    ensures same { SameBytes (page_of pages.new) (page_of pages.old) }
+    ensures stored { OnOk result (IsStored (page_of pages.new) start end) }
 {
-    let count = pages.len();
+    let count = pages.near_len();
     match store_each(alloc, pages, start, end) {
         Ok(()) => Ok(()),
         Err(error) => {
-            pages.give_back(count, start / PAGE);
+            pages.give_back(count, start / PAGE, end.div_ceil(PAGE));
             Err(error)
         }
     }
@@ -171,25 +174,38 @@ fn store(alloc: Global, pages: &mut Pages, start: usize, end: usize) -> Result<(
 
 /// Makes pages store the bytes from one place up to another, page by page, as [`store`] does. What was taken before an error is kept.
 fn store_each(alloc: Global, pages: &mut Pages, start: usize, end: usize) -> Result<(), AllocError>
-    ensures same { SameBytes pages.new pages.old }
-    ensures stored { OnOk result (IsStored pages.new start end) }
+    ensures same { SameBytes (page_of pages.new) (page_of pages.old) }
+    ensures stored { OnOk result (IsStored (page_of pages.new) start end) }
 {
-    pages.add(alloc, end.div_ceil(PAGE))?;
+    add_near(alloc, pages, start, end)?;
     let mut at = start;
     while at < end {
         let from = at % PAGE;
         let count = (PAGE - from).min(end - at);
-        pages.store(at / PAGE, from + count)?;
+        pages.store(alloc, at / PAGE, from + count)?;
         at += count;
     }
     Ok(())
 }
 
+/// Adds the pages near the beginning that the bytes from one place up to another are in, and those in front of them; none where all
+/// of these bytes are far. All bytes are as they were, after an error too. Time in the pages that are added.
+fn add_near(alloc: Global, pages: &mut Pages, start: usize, end: usize) -> Result<(), AllocError>
+    ensures same { SameBytes (page_of pages.new) (page_of pages.old) }
+    ensures added { OnOk result (AreNear pages.new start end) }
+{
+    if start / PAGE < NEAR {
+        pages.add(alloc, end.div_ceil(PAGE).min(NEAR))
+    } else {
+        Ok(())
+    }
+}
+
 /// Puts these bytes at this place, where as many are stored. Takes no memory, and time in their number.
 fn put(pages: &mut Pages, start: usize, bytes: &[u8])
     requires fits { start + length bytes.now < 2 ^ 64 }
-    requires stored { IsStored pages.old start (start + length bytes.now) }
-    ensures { AreWritten pages.new pages.old start bytes.now (length bytes.now) }
+    requires stored { IsStored (page_of pages.old) start (start + length bytes.now) }
+    ensures { AreWritten (page_of pages.new) (page_of pages.old) start bytes.now (length bytes.now) }
 {
     let mut done = 0;
     while done < bytes.len() {
@@ -202,17 +218,17 @@ fn put(pages: &mut Pages, start: usize, bytes: &[u8])
 }
 
 /// Takes the bytes from this place on away, up to the length before: zeros follow. The page that goes on behind the place is cut
-/// there, each further one stores nothing; all stay in the list and keep their memory for what is written next. Takes no memory.
-/// Constant time, and a constant for each page that is cut: those behind the length store zeros alone, and are not walked.
+/// there. Further ones near the beginning store nothing, stay in the list and keep their memory for what is written next; far ones
+/// are taken away. Takes no memory. Constant time, and for each page that is cut a constant, or a logarithm of the far pages that are
+/// there: those behind the length store zeros alone, and are not walked.
 fn cut(pages: &mut Pages, size: usize, len: usize)
-    requires { IsZeroFrom pages.old len }
-    ensures { AreCut pages.new pages.old size }
+    requires { IsZeroFrom (page_of pages.old) len }
+    ensures { AreCut (page_of pages.new) (page_of pages.old) size }
 {
     let last = size / PAGE;
-    if last < pages.len() {
-        pages.cut(last, size % PAGE);
-    }
-    let end = len.div_ceil(PAGE).min(pages.len());
+    pages.cut(last, size % PAGE);
+    pages.cut_far(last + 1);
+    let end = len.div_ceil(PAGE).min(pages.near_len());
     let mut at = last + 1;
     while at < end {
         pages.cut(at, 0);

@@ -83,6 +83,13 @@ impl Page {
         self.bytes.shrink_to_fit();
     }
 
+    /// Whether nothing is stored.
+    pub fn is_empty(&self) -> bool
+        ensures { IsTrue result → self.now ≡ [] }
+    {
+        self.bytes.is_empty()
+    }
+
     /// Whether these are the bytes from this place on. Takes no memory, and time in their number.
     pub fn has(&self, at: usize, part: &[u8]) -> bool
         ensures { IsTrue result ↔ IsPart self.now at part.now }

@@ -1,31 +1,33 @@
 //! The pages that the bytes of a file are in.
 
-ghost use Rattle.std.specs.Prelude.{◌≡◌, ◌↔◌, ◌+◌, ◌*◌, ◌<◌, ◌≤◌, [], ◌∷◌, get_or, length, set, take, IfOk, IsTrue, OnOk};
-ghost use Rattle.fa_tree.specs.parts.PageParts.{IsPart, with_part, IsZeroFrom, SameBytes, IsGrown};
+ghost use Rattle.std.specs.Prelude.{◌≡◌, ◌↔◌, ◌+◌, ◌<◌, ◌≤◌, ℕ, [], ◌∷◌, get_or, length, take, IfOk, IsTrue, OnErr, OnOk};
+ghost use Rattle.fa_tree.specs.parts.PageParts.{page_of, only_page, with_part, IsPart, IsSet, IsGrown, SameBytes, IsZeroNear};
 
+use crate::many_pages::ManyPages;
 use crate::page::{Page, are_zeros};
 use std::alloc::{AllocError, Global};
 use std::marker::Model;
-use std::mem;
 
-/// One page by itself, which takes no memory for a list, or a list of them.
+/// One page by itself, which takes no memory for a list, or more of them.
 #[derive(Drop)]
 pub(crate) enum PageList {
     One(Page),
-    Many(Vec<Page>),
+    Many(Box<ManyPages>),
 }
 
-/// Pages, one after the other.
+/// Pages, each at its place. One that is not there stores nothing: near the beginning of a file they are in a list, which has a
+/// constant for each up to the last of them that was written; those far from it (`NEAR`) are in a map, which has those alone that
+/// were written.
 #[derive(Drop)]
 pub(crate) struct Pages {
     list: PageList,
 }
 
 impl Model for Pages {
-    ghost use Rattle.std.specs.Prelude.{List, ℕ};
+    ghost use Rattle.fa_tree.specs.parts.PageParts.{PagesShown};
     ghost use Rattle.fa_tree.specs.parts.PagesView.{pages_shown};
 
-    ghost Value = { List (List ℕ) };
+    ghost Value = { PagesShown };
 
     ghost view = { λ p. pages_shown p.list };
 }
@@ -33,7 +35,7 @@ impl Model for Pages {
 impl Pages {
     /// One page, that stores nothing. Takes no memory.
     pub fn new(alloc: Global) -> Self
-        ensures { result ≡ [] ∷ [] }
+        ensures { result ≡ only_page [] }
     {
         Pages {
             list: PageList::One(Page::new(alloc)),
@@ -43,47 +45,47 @@ impl Pages {
     /// One page, that stores these bytes. Time in the bytes.
     pub fn from_slice(alloc: Global, bytes: &[u8]) -> Result<Self, AllocError>
         requires { length bytes.now ≤ 4096 }
-        ensures { IfOk result (λ pages. pages ≡ bytes.now ∷ []) }
+        ensures { IfOk result (λ pages. pages ≡ only_page bytes.now) }
     {
         Ok(Pages {
             list: PageList::One(Page::from_slice(alloc, bytes)?),
         })
     }
 
-    /// How many there are.
-    pub fn len(&self) -> usize
-        ensures { result ≡ length self.now }
+    /// How many near the beginning there are.
+    pub fn near_len(&self) -> usize
+        ensures { result ≡ length self.now.near }
     {
         match &self.list {
             PageList::One(_) => 1,
-            PageList::Many(pages) => pages.len(),
+            PageList::Many(pages) => pages.near_len(),
         }
     }
 
-    /// Adds pages up to so many. They store nothing: all bytes are as they were, after an error too. Time in the pages that are
-    /// added.
+    /// Adds pages near the beginning, up to so many. They store nothing: all bytes are as they were, after an error too. Time in the
+    /// pages that are added.
     pub fn add(&mut self, alloc: Global, count: usize) -> Result<(), AllocError>
-        ensures same { SameBytes self.new self.old }
-        ensures added { OnOk result (count ≤ length self.new) }
+        ensures same { SameBytes (page_of self.new) (page_of self.old) }
+        ensures added { OnOk result (count ≤ length self.new.near) }
     {
         match &mut self.list {
             PageList::One(page) => {
                 if count > 1 {
-                    let mut pages = Vec::with_capacity(alloc, count)?;
-                    add_pages(alloc, &mut pages, count)?;
-                    mem::swap(&mut pages[0], page);
+                    let mut pages = taken(alloc, page, count)?;
+                    let added = pages.add(alloc, count);
                     self.list = PageList::Many(pages);
+                    return added;
                 }
                 Ok(())
             }
-            PageList::Many(pages) => add_pages(alloc, pages, count),
+            PageList::Many(pages) => pages.add(alloc, count),
         }
     }
 
     /// Whether these are the bytes from this place on in the page at a place of the list; where there is none, they are zeros.
-    /// Takes no memory, and time in their number.
+    /// Takes no memory, and time in their number, for a far page in the logarithm of those that are there too.
     pub fn has(&self, place: usize, at: usize, part: &[u8]) -> bool
-        ensures { IsTrue result ↔ IsPart (get_or self.now place []) at part.now }
+        ensures { IsTrue result ↔ IsPart (page_of self.now place) at part.now }
     {
         match &self.list {
             PageList::One(page) if place == 0 => page.has(at, part),
@@ -95,97 +97,97 @@ impl Pages {
         }
     }
 
-    /// Makes the page at a place store so many bytes at least, as `Page::store` does.
-    pub fn store(&mut self, place: usize, size: usize) -> Result<(), AllocError>
-        requires there { place < length self.old }
+    /// Makes the page at a place store so many bytes at least, as `Page::store` does. A far page is made where it is not there, and
+    /// has no place before its memory is.
+    pub fn store(&mut self, alloc: Global, place: usize, size: usize) -> Result<(), AllocError>
+        requires there { place < 4096 → place < length self.old.near }
         requires fits { size ≤ 4096 }
-        ensures grown { IsGrown self.new self.old place }
-        ensures stored { OnOk result (size ≤ length (get_or self.new place [])) }
+        ensures grown { IsGrown (page_of self.new) (page_of self.old) place }
+        ensures stored { OnOk result (size ≤ length (page_of self.new place)) }
+        ensures as_many { length self.new.near ≡ length self.old.near }
     {
         match &mut self.list {
-            PageList::One(page) => page.store(size),
-            PageList::Many(pages) => {
-                let page = &mut pages[place];
-                page.store(size)
+            PageList::One(page) if place == 0 => page.store(size),
+            PageList::One(page) => {
+                let mut pages = taken(alloc, page, 1)?;
+                let stored = pages.store(alloc, place, size);
+                self.list = PageList::Many(pages);
+                stored
             }
+            PageList::Many(pages) => pages.store(alloc, place, size),
         }
     }
 
     /// Puts these bytes at this place of the page at a place, where as many are stored, as `Page::put` does.
     pub fn put(&mut self, place: usize, at: usize, part: &[u8])
-        requires there { place < length self.old }
-        requires stored { at + length part.now ≤ length (get_or self.old place []) }
-        ensures { self.new ≡ set self.old place (with_part (get_or self.old place []) at part.now) }
+        requires { at + length part.now ≤ length (page_of self.old place) }
+        ensures { IsSet (page_of self.new) (page_of self.old) place (with_part (page_of self.old place) at part.now) }
     {
         match &mut self.list {
-            PageList::One(page) => page.put(at, part),
-            PageList::Many(pages) => {
-                let page = &mut pages[place];
-                page.put(at, part);
+            PageList::One(page) => {
+                if place == 0 {
+                    page.put(at, part);
+                }
             }
+            PageList::Many(pages) => pages.put(place, at, part),
         }
     }
 
     /// Makes the page at a place store so many bytes at most, as `Page::cut` does.
     pub fn cut(&mut self, place: usize, size: usize)
-        requires { place < length self.old }
-        ensures { self.new ≡ set self.old place (take size (get_or self.old place [])) }
+        ensures { IsSet (page_of self.new) (page_of self.old) place (take size (page_of self.old place)) }
     {
         match &mut self.list {
-            PageList::One(page) => page.cut(size),
-            PageList::Many(pages) => {
-                let page = &mut pages[place];
-                page.cut(size);
+            PageList::One(page) => {
+                if place == 0 {
+                    page.cut(size);
+                }
             }
+            PageList::Many(pages) => pages.cut(place, size),
         }
     }
 
-    /// Leaves so many pages, where those behind them store zeros alone, and gives back what a page at this place or behind it stores
-    /// of zeros at its end: all bytes are as they were. Where one page is left, it takes no memory for a list. Takes no memory but to
-    /// move what a page stores into less of it, and time in the bytes that the pages store.
-    pub fn give_back(&mut self, count: usize, from: usize)
-        requires { IsZeroFrom self.old (count * 4096) }
-        ensures { SameBytes self.new self.old }
+    /// Takes the far pages at this place and behind it away, and gives back their memory. Takes none. Time in the pages that are
+    /// taken away, and a logarithm of those that are there for each.
+    pub fn cut_far(&mut self, place: usize)
+        ensures cut { (k : ℕ) → 4096 ≤ k → place ≤ k → page_of self.new k ≡ [] }
+        ensures kept { (k : ℕ) → k < place → page_of self.new k ≡ page_of self.old k }
+        ensures near { (k : ℕ) → k < 4096 → page_of self.new k ≡ page_of self.old k }
+        ensures as_many { length self.new.near ≡ length self.old.near }
+    {
+        match &mut self.list {
+            PageList::One(_) => {}
+            PageList::Many(pages) => pages.cut_far(place),
+        }
+    }
+
+    /// Leaves so many pages near the beginning, where those behind them store zeros alone, and gives back what a page at this place
+    /// or behind it stores of zeros at its end, a far one before the end, and far ones before the end that store nothing else: all
+    /// bytes are as they were. Where one page is left, it takes no memory for a list. Takes no memory but to move what a page stores
+    /// into less of it, and time in the bytes that the pages store and the places before the end.
+    pub fn give_back(&mut self, count: usize, from: usize, end: usize)
+        requires { IsZeroNear self.old count }
+        ensures { SameBytes (page_of self.new) (page_of self.old) }
     {
         match &mut self.list {
             PageList::One(page) => page.give_back(),
             PageList::Many(pages) => {
-                pages.truncate(count);
-                pages.shrink_to_fit();
-                give_back_from(pages, from);
-                if count == 1 {
-                    if let Some(page) = pages.pop() {
-                        self.list = PageList::One(page);
-                    }
+                pages.give_back(count, from, end);
+                if let Some(page) = pages.take_only() {
+                    self.list = PageList::One(page);
                 }
             }
         }
     }
 }
 
-/// Gives back what the pages from this place on store of zeros at their ends, as `Pages::give_back` does.
-fn give_back_from(pages: &mut Vec<Page>, from: usize)
-    ensures same { SameBytes pages.new.items pages.old.items }
-    ensures as_many { length pages.new.items ≡ length pages.old.items }
+/// More pages, of which a page that is moved there is the first and the only one, with room for so many near the beginning. Where
+/// memory is refused, the page stays.
+fn taken(alloc: Global, page: &mut Page, count: usize) -> Result<Box<ManyPages>, AllocError>
+    ensures moved { IfOk result (λ pages. (pages.value.near ≡ page.old ∷ []) × (pages.value.far ≡ [])) }
+    ensures kept { OnErr result (page.new ≡ page.old) }
 {
-    let mut place = from;
-    while place < pages.len() {
-        let page = &mut pages[place];
-        page.give_back();
-        place += 1;
-    }
-}
-
-/// Adds pages up to so many to a list, as `Pages::add` does.
-fn add_pages(alloc: Global, pages: &mut Vec<Page>, count: usize) -> Result<(), AllocError>
-    ensures same { SameBytes pages.new.items pages.old.items }
-    ensures added { OnOk result (count ≤ length pages.new.items) }
-{
-    if pages.len() < count {
-        pages.reserve(count - pages.len())?;
-    }
-    while pages.len() < count {
-        pages.push(Page::new(alloc))?;
-    }
-    Ok(())
+    let mut pages = Box::new(alloc, ManyPages::with_capacity(alloc, count)?)?;
+    pages.swap_first(page);
+    Ok(pages)
 }

@@ -1,0 +1,177 @@
+//! The pages of a file of more than one.
+
+ghost use Rattle.std.specs.Prelude.{◌≡◌, ◌+◌, ◌<◌, ◌≤◌, ℕ, [], ◌∷◌, get_or, length, set, take, IfOk, IfNone, IfSome, OnOk};
+ghost use Rattle.std.specs.Option.{option_copied, unwrap_or};
+ghost use Rattle.fa_tree.specs.parts.PageParts.{page_of, with_part, IsSet, IsGrown, SameBytes, IsZeroNear};
+
+use crate::far_pages::FarPages;
+use crate::page::Page;
+use std::alloc::{AllocError, Global};
+use std::marker::Model;
+use std::mem;
+
+/// So many pages are near the beginning of a file: 16 MiB.
+pub(crate) const NEAR: usize = 4096;
+
+/// Pages near the beginning of a file, one after the other, holes too, and those far from it that are there.
+#[derive(Drop)]
+pub(crate) struct ManyPages {
+    near: Vec<Page>,
+    far: FarPages,
+}
+
+impl Model for ManyPages {
+    ghost use Rattle.fa_tree.specs.parts.PageParts.{PagesShown};
+
+    ghost Value = { PagesShown };
+
+    ghost view = { λ p. record { near = p.near.items; far = p.far } };
+}
+
+impl ManyPages {
+    /// One page, that stores nothing, with room for so many near the beginning.
+    pub fn with_capacity(alloc: Global, count: usize) -> Result<Self, AllocError>
+        ensures { IfOk result (λ pages. (pages.near ≡ [] ∷ []) × (pages.far ≡ [])) }
+    {
+        let mut near = Vec::with_capacity(alloc, count)?;
+        near.push(Page::new(alloc))?;
+        Ok(ManyPages {
+            near,
+            far: FarPages::new(alloc),
+        })
+    }
+
+    /// Exchanges the first page with another.
+    pub fn swap_first(&mut self, page: &mut Page)
+        requires { 0 < length self.old.near }
+        ensures first { page.new ≡ get_or self.old.near 0 [] }
+        ensures near { self.new.near ≡ set self.old.near 0 page.old }
+        ensures far { self.new.far ≡ self.old.far }
+    {
+        mem::swap(&mut self.near[0], page);
+    }
+
+    /// How many near the beginning there are.
+    pub fn near_len(&self) -> usize
+        ensures { result ≡ length self.now.near }
+    {
+        self.near.len()
+    }
+
+    /// The page at a place, if it is there. Constant time near the beginning, else in the logarithm of the far pages that are there.
+    pub fn get(&self, place: usize) -> Option<&Page>
+        ensures { unwrap_or (option_copied result) [] ≡ page_of self.now place }
+    {
+        if place < NEAR {
+            self.near.get(place)
+        } else {
+            self.far.get(place)
+        }
+    }
+
+    /// Adds pages near the beginning, up to so many, as `Pages::add` does.
+    pub fn add(&mut self, alloc: Global, count: usize) -> Result<(), AllocError>
+        ensures same { SameBytes (page_of self.new) (page_of self.old) }
+        ensures added { OnOk result (count ≤ length self.new.near) }
+    {
+        add_pages(alloc, &mut self.near, count)
+    }
+
+    /// Makes the page at a place store so many bytes at least, as `Pages::store` does.
+    pub fn store(&mut self, alloc: Global, place: usize, size: usize) -> Result<(), AllocError>
+        requires there { place < 4096 → place < length self.old.near }
+        requires fits { size ≤ 4096 }
+        ensures grown { IsGrown (page_of self.new) (page_of self.old) place }
+        ensures stored { OnOk result (size ≤ length (page_of self.new place)) }
+        ensures as_many { length self.new.near ≡ length self.old.near }
+    {
+        if place < NEAR {
+            let page = &mut self.near[place];
+            return page.store(size);
+        }
+        self.far.store(alloc, place, size)
+    }
+
+    /// Puts these bytes at this place of the page at a place, as `Pages::put` does.
+    pub fn put(&mut self, place: usize, at: usize, part: &[u8])
+        requires { at + length part.now ≤ length (page_of self.old place) }
+        ensures { IsSet (page_of self.new) (page_of self.old) place (with_part (page_of self.old place) at part.now) }
+    {
+        if place >= NEAR {
+            self.far.put(place, at, part);
+        } else if place < self.near.len() {
+            let page = &mut self.near[place];
+            page.put(at, part);
+        }
+    }
+
+    /// Makes the page at a place store so many bytes at most, as `Pages::cut` does.
+    pub fn cut(&mut self, place: usize, size: usize)
+        ensures { IsSet (page_of self.new) (page_of self.old) place (take size (page_of self.old place)) }
+    {
+        if place >= NEAR {
+            self.far.cut(place, size);
+        } else if place < self.near.len() {
+            let page = &mut self.near[place];
+            page.cut(size);
+        }
+    }
+
+    /// Takes the far pages at this place and behind it away, as `Pages::cut_far` does.
+    pub fn cut_far(&mut self, place: usize)
+        ensures cut { (k : ℕ) → 4096 ≤ k → place ≤ k → page_of self.new k ≡ [] }
+        ensures kept { (k : ℕ) → k < place → page_of self.new k ≡ page_of self.old k }
+        ensures near { self.new.near ≡ self.old.near }
+    {
+        self.far.cut_from(place);
+    }
+
+    /// Gives back memory, as `Pages::give_back` does.
+    pub fn give_back(&mut self, count: usize, from: usize, end: usize)
+        requires { IsZeroNear self.old count }
+        ensures { SameBytes (page_of self.new) (page_of self.old) }
+    {
+        self.near.truncate(count);
+        self.near.shrink_to_fit();
+        give_back_from(&mut self.near, from);
+        self.far.give_back(from.max(NEAR), end);
+    }
+
+    /// Takes the page out, where there is one alone.
+    pub fn take_only(&mut self) -> Option<Page>
+        ensures some { IfSome result (λ page. (self.old.near ≡ page ∷ []) × (self.old.far ≡ [])) }
+        ensures none { IfNone result (self.new ≡ self.old) }
+    {
+        if self.near.len() == 1 && self.far.is_empty() {
+            self.near.pop()
+        } else {
+            None
+        }
+    }
+}
+
+/// Gives back what the pages from this place on store of zeros at their ends, as `Pages::give_back` does.
+fn give_back_from(pages: &mut Vec<Page>, from: usize)
+    ensures { SameBytes (λ k. get_or pages.new.items k []) (λ k. get_or pages.old.items k []) }
+{
+    let mut place = from;
+    while place < pages.len() {
+        let page = &mut pages[place];
+        page.give_back();
+        place += 1;
+    }
+}
+
+/// Adds pages up to so many to a list, as `Pages::add` does.
+fn add_pages(alloc: Global, pages: &mut Vec<Page>, count: usize) -> Result<(), AllocError>
+    ensures same { SameBytes (λ k. get_or pages.new.items k []) (λ k. get_or pages.old.items k []) }
+    ensures added { OnOk result (count ≤ length pages.new.items) }
+{
+    if pages.len() < count {
+        pages.reserve(count - pages.len())?;
+    }
+    while pages.len() < count {
+        pages.push(Page::new(alloc))?;
+    }
+    Ok(())
+}
