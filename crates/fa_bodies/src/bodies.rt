@@ -19,8 +19,8 @@ use crate::requests::RequestBody;
 use bitflags::Flags;
 use fa_capture::codes;
 
-/// The most bytes that a file may have.
-pub const MAX_FILE_BYTES: u64 = 16_777_216;
+/// The most bytes that a file may have, 1 TiB.
+pub const MAX_FILE_BYTES: u64 = 1_099_511_627_776;
 
 /// The body of a request with this opcode. The error is the code of the first check that fails.
 pub(crate) fn request_body(opcode: u32, body: &[u8]) -> Result<RequestBody<'_>, u16>

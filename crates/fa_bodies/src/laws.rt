@@ -77,6 +77,6 @@ pub fn numbers()
 /// The limits of this profile for names and files, and the node id of the root, as numbers.
 pub fn limits()
     ensures name { MAX_NAME ≡ 1024 }
-    ensures file { MAX_FILE_BYTES ≡ 16777216 }
+    ensures file { MAX_FILE_BYTES ≡ 1099511627776 }
     ensures root { ROOT_ID ≡ 1 }
 {}

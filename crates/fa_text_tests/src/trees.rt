@@ -248,7 +248,7 @@ static TEXTS: [(&[u8], Told); 33] = [
 type Repeated = (&'static [u8], &'static [u8], u32, &'static [u8]);
 
 /// Lines at the limit of a name, and what comes of the text. A name has at most 1,024 bytes as it is decoded, and a path any number.
-/// The limit of a file, 16,777,216 bytes, is tried by cases of the built program: a row takes a minute under `rt try`.
+/// A file of more than 16 MiB is tried by cases of the built program: a row takes a minute under `rt try`.
 static LIMITS: [(Repeated, Told); 12] = [
     ((b"f 644 ", b"a", 1_024, b" -\n"), Read),
     ((b"f 644 ", b"a", 1_025, b" -\n"), Line(3)),

@@ -2,7 +2,7 @@
 
 use crate::steps::{MEMORY, step};
 use crate::trees::empty_tree;
-use fa_bodies::ROOT_ID as ROOT;
+use fa_bodies::{MAX_FILE_BYTES, ROOT_ID as ROOT};
 use fa_ledger::Calls;
 use fa_sample::Sample;
 use fa_tests::messages::begun;
@@ -11,6 +11,7 @@ use fa_tests::sent::Sent::{Create, Created};
 use fa_tests::sent::{CREAT, with_all};
 use fa_tree::Tree;
 use std::alloc::Global;
+use std::process::Abort;
 
 /// How many bytes the WRITE has, the most that FUSE sends at a time.
 const WRITTEN: u32 = 1 << 20;
@@ -24,13 +25,13 @@ fn mark(alloc: Global) -> bool {
     bytes.is_ok()
 }
 
-/// CREATE, the message 2, and WRITE of these bytes, the message 4, each with its answer.
-fn created_and_written(alloc: Global, payload: &[u8]) -> Sample {
+/// CREATE, the message 2, and WRITE of these bytes at an offset, the message 4, each with its answer.
+fn created_and_written(alloc: Global, offset: u64, payload: &[u8]) -> Sample {
     let created = with_all(
         begun(alloc, (0, 0)),
         &[Create(2, ROOT, CREAT), Created(2, 2, 1)],
     );
-    created.write(4, 2, 1, 0, payload).written(4, WRITTEN)
+    created.write(4, 2, 1, offset, payload).written(4, WRITTEN)
 }
 
 /// Whether the CREATE steps, and between two marks the WRITE, which is taken again behind them where memory was refused.
@@ -43,16 +44,27 @@ fn writes_again(alloc: Global, tree: &mut Tree, calls: &Calls<'_>) -> bool {
     is_made && is_begun && is_ended && is_written
 }
 
-#[test]
-fn a_write_between_two_marks(rt: HostRuntime) {
-    let payload = vec![in rt.alloc(); 1u8; WRITTEN as usize].expect(&rt, "memory");
-    let bytes = created_and_written(rt.alloc(), &payload)
+/// Whether a WRITE at an offset steps, between two marks.
+fn is_written_at(rt: &impl Abort, alloc: Global, offset: u64) -> bool {
+    let payload = vec![in alloc; 1u8; WRITTEN as usize].expect(rt, "memory");
+    let bytes = created_and_written(alloc, offset, &payload)
         .capture()
-        .expect(&rt, "memory");
-    let calls = calls_in(rt.alloc(), &bytes).expect(&rt, "good calls, and memory");
-    let mut tree = empty_tree(&rt, rt.alloc());
-    let is_written = writes_again(rt.alloc(), &mut tree, &calls);
+        .expect(rt, "memory");
+    let calls = calls_in(alloc, &bytes).expect(rt, "good calls, and memory");
+    let mut tree = empty_tree(rt, alloc);
+    let is_written = writes_again(alloc, &mut tree, &calls);
     drop(tree);
     drop(calls);
-    assert!(rt; is_written);
+    is_written
+}
+
+#[test]
+fn a_write_between_two_marks(rt: HostRuntime) {
+    assert!(rt; is_written_at(&rt, rt.alloc(), 0));
+}
+
+/// The same of the last bytes that a file may have.
+#[test]
+fn a_far_write_between_two_marks(rt: HostRuntime) {
+    assert!(rt; is_written_at(&rt, rt.alloc(), MAX_FILE_BYTES - u64::from(WRITTEN)));
 }

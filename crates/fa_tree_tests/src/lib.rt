@@ -6,6 +6,8 @@
 #[cfg(test)]
 mod held;
 #[cfg(test)]
+mod large;
+#[cfg(test)]
 mod lists;
 #[cfg(test)]
 mod steps;

@@ -15,7 +15,7 @@
 //! the first and none behind the last. In a name a byte stands for itself if it is visible ASCII (0x21 to 0x7e) and neither a slash
 //! nor `%`; `%` and two hexadecimal digits stand for any byte. A name has 1 to 1,024 bytes, none of them zero or a slash, and is
 //! neither `.` nor `..`. The directory of a path is that of an earlier `d` line or the root, and the path is new; paths are
-//! compared as decoded. A file has at most 16,777,216 bytes, a target too. Each line ends with one line feed, and one space parts
+//! compared as decoded. A target has one byte at least. Each line ends with one line feed, and one space parts
 //! two fields. The format is this profile's.
 
 ghost use Rattle.std.specs.Prelude.{◌≡◌, ◌≤◌, ◌++◌, ℕ, List, [], length, IfOk, IfErr, IfSome, IfNone, OnOk};
