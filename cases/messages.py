@@ -20,6 +20,7 @@ import rows
 
 HERE = os.path.dirname(os.path.abspath(__file__))
 MAGIC = b"FUSECAP1"
+TIMED_MAGIC = b"FUSECAP2"
 MOST_OF_A_MESSAGE = 2_097_152
 RUN = 32  # so many equal bytes one after the other are written as a run
 EQUAL = 4  # so many equal messages one after the other are written as one line
@@ -62,6 +63,8 @@ def struct(text):
     return [Field(field) for field in text.split()]
 
 
+RECORD = struct("direction:1 length:4=*")
+TIMED_RECORD = struct("direction:1 time:8 length:4=*")
 REQUEST = struct("len:4=* opcode:4 unique:8 node:8 uid:4 gid:4 pid:4 padding:4")
 ANSWER = struct("len:4=* error:4s unique:8")
 OPEN = "flags:4x unused:4"
@@ -323,18 +326,22 @@ def message_bytes(direction, words):
     return encoded(header, given, size(header) + len(body)) + body
 
 
-def line_bytes(line):
-    """The bytes of a line: those of a record, or of some times the same one, or bytes as they are."""
+def record_of(begun):
+    """What stands before each message of a capture that begins so."""
+    return TIMED_RECORD if begun == TIMED_MAGIC else RECORD
+
+
+def line_bytes(line, head):
+    """The bytes of a line: those of a record with this head, or of some times the same one, or bytes as they are."""
     words = Words(line)
     sign = words.take()
     if sign == "bytes":
         data = bytes.fromhex(words.take())
     elif sign in (">", "<"):
         direction = ">;<".index(sign) // 2
-        record = words.given({"direction", "length"})
+        record = {"direction": direction} | words.given(names(head))
         message = message_bytes(direction, words)
-        data = record.get("direction", direction).to_bytes(1, "little")
-        data += record.get("length", len(message)).to_bytes(4, "little") + message
+        data = encoded(head, record, len(message)) + message
         if words.takes("times"):
             data *= words.count()
     else:
@@ -367,7 +374,7 @@ def read(text):
                 parts = [left[: len(left) - words.count()]]
                 words.end()
             elif is_told(line):
-                parts.append(line_bytes(line))
+                parts.append(line_bytes(line, record_of(begun)))
         except (ValueError, OverflowError) as error:
             raise ValueError(f"line {count}: {error}") from None
     return b"".join([begun, *parts])
@@ -471,41 +478,43 @@ def answer_words(message, asked):
     return words + data_words(body)
 
 
-def line_of(record, asked):
-    """The line of a whole record, or of one whose length is beyond what it has. `asked` has the opcodes of requests by unique."""
-    direction, length, message = record[0], int.from_bytes(record[1:5], "little"), record[5:]
+def line_of(record, head, asked):
+    """The line of a whole record with this head, or of one whose length is beyond what it has. `asked` has the opcodes of requests by
+    unique."""
+    values, message = decoded(head, record), record[size(head) :]
+    direction = values["direction"]
     start = ["<" if direction == 1 else ">"]
-    start += ["direction", str(direction)] if direction > 1 else []
-    start += ["length", str(length)] if length != len(message) else []
+    start += told(head, values | {"direction": direction if direction > 1 else 0}, len(message))
     lines = [" ".join([*start, "message", message.hex()]).rstrip()]
     if len(message) >= size(ANSWER if direction == 1 else REQUEST):
         words = answer_words(message, asked) if direction == 1 else request_words(message)
         lines.insert(0, " ".join(start + words))
     for line in lines:
         try:
-            if line_bytes(line) == record:
+            if line_bytes(line, head) == record:
                 return line
         except ValueError:
             pass
     return f"bytes {record.hex()}"
 
 
-def tail_lines(tail, asked):
+def tail_lines(tail, head, asked):
     """The lines of what is no whole record. Where it is shorter so, it is told as a whole one that is cut."""
-    if len(tail) < 5:
+    if len(tail) < size(head):
         return [f"bytes {tail.hex()}"] if tail else []
-    lines = [line_of(tail, asked)]
-    missing = 5 + int.from_bytes(tail[1:5], "little") - len(tail)
+    lines = [line_of(tail, head, asked)]
+    missing = size(head) + decoded(head, tail)["length"] - len(tail)
     if missing <= MOST_OF_A_MESSAGE:
-        lines = min(lines, [line_of(tail + bytes(missing), asked), f"cut {missing}"], key=lambda told: len("\n".join(told)))
+        lines = min(lines, [line_of(tail + bytes(missing), head, asked), f"cut {missing}"], key=lambda told: len("\n".join(told)))
     return lines
 
 
 def ends(capture):
     """Where each whole record of a capture ends, the first of them being the magic."""
-    found = [len(MAGIC)]
-    while len(capture) - found[-1] >= 5:
-        end = found[-1] + 5 + int.from_bytes(capture[found[-1] + 1 : found[-1] + 5], "little")
+    found, head = [len(MAGIC)], size(record_of(capture[: len(MAGIC)]))
+    while len(capture) - found[-1] >= head:
+        behind = found[-1] + head
+        end = behind + int.from_bytes(capture[behind - 4 : behind], "little")
         if end > len(capture):
             break
         found.append(end)
@@ -516,15 +525,16 @@ def write(capture):
     """The text of a capture."""
     begun = capture[: len(MAGIC)]
     lines = [] if begun == MAGIC else [f"magic {quote(begun)}"]
+    head = record_of(begun)
     asked, bounds = {}, ends(capture)
     for record, same in itertools.groupby(capture[start:end] for start, end in itertools.pairwise(bounds)):
         count = sum(1 for _ in same)
-        line = line_of(record, asked)
+        line = line_of(record, head, asked)
         lines += [f"{line} times {count}"] if count >= EQUAL else [line] * count
-        if record[0] == 0 and len(record) >= 5 + size(REQUEST):
-            header = decoded(REQUEST, record[5:])
+        if record[0] == 0 and len(record) >= size(head) + size(REQUEST):
+            header = decoded(REQUEST, record[size(head) :])
             asked[header["unique"]] = header["opcode"]
-    lines += tail_lines(capture[bounds[-1] :], asked)
+    lines += tail_lines(capture[bounds[-1] :], head, asked)
     return "".join(line + "\n" for line in lines)
 
 

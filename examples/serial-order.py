@@ -18,13 +18,18 @@ RENAME2 = 45
 FLAGS = {0, 1, 2}
 
 
+# What stands before a message, by the 8 bytes that a capture begins with: the direction, the time behind FUSECAP2, and the length.
+HEADS = {b"FUSECAP1": "<BI", b"FUSECAP2": "<BQI"}
+
+
 def messages(capture):
     """The direction and the bytes of each message."""
-    at = 8
-    while capture[:8] == b"FUSECAP1" and at + 5 <= len(capture):
-        direction, length = struct.unpack_from("<BI", capture, at)
-        yield direction, capture[at + 5 : at + 5 + length]
-        at += 5 + length
+    at, head = 8, HEADS.get(capture[:8])
+    while head and at + struct.calcsize(head) <= len(capture):
+        direction, *_, length = struct.unpack_from(head, capture, at)
+        at += struct.calcsize(head)
+        yield direction, capture[at : at + length]
+        at += length
 
 
 def acts_on_the_tree(message):
