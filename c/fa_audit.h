@@ -16,7 +16,8 @@ enum {
     FA_AUDIT_FAULT = 1,
     FA_AUDIT_NOT_SHOWN = 2,
     FA_AUDIT_TEXT = 3, /* the tree text or the order text is not in its grammar */
-    FA_AUDIT_FAILED = 5, /* memory was refused, or the capture or a text has more than 268,435,456 bytes */
+    FA_AUDIT_FAILED = 5, /* memory was refused, or the capture has more than 402,653,184 bytes,
+                           or a text more than 268,435,456 */
 };
 
 /* So many bytes have room for each line. */

@@ -1,9 +1,10 @@
 #!/usr/bin/env python3
 """Runs the built program on each case of these folders, and compares what it writes and how it ends.
 
-usage: cases/run.py [PROGRAM] [--only TEXT]
+usage: cases/run.py [PROGRAM] [--only TEXT] [--migrated]
 
-PROGRAM is crates/fa_audit_program/out/fa_audit_program of this repository unless it is named. With --only, only the cases whose names, as
+With --migrated, the cases of `check`, `propose` and `cut` alone, each on its capture as `migrate` of the program writes it, where there is
+no framing fault: what is expected stays the same. PROGRAM is crates/fa_audit_program/out/fa_audit_program of this repository unless it is named. With --only, only the cases whose names, as
 FOLDER/NAME or FOLDER/NAME row N, hold TEXT are run. README.md beside this script says what files a case has. That
 `messages.py check` finds nothing wrong is one case more. Each failure is printed; the last line is 'N passed, M failed', and the
 status is 1 where a case failed or none was run.
@@ -160,13 +161,37 @@ def run(program, words, folder, output):
         return subprocess.run([program, *words], stdout=opened, **how)
 
 
-def differences(program, case):
-    """What is not as the case expects it, a line each."""
+def text(word):
+    """A word of a call as text."""
+    return os.fsdecode(word) if isinstance(word, bytes) else word
+
+
+def migrate_capture(program, words, folder):
+    """Puts what `migrate` writes of the capture of a call in its place, and tells whether there is such a capture."""
+    words = [text(word) for word in words]
+    if words[:1] not in (["check"], ["propose"], ["cut"]) or "--capture" not in words[:-1]:
+        return False
+    path = os.path.join(folder, words[words.index("--capture") + 1])
+    if not os.path.isfile(path):
+        return False
+    ran = run(program, ["migrate", "--capture", path], folder, None)
+    if ran.returncode != 0:
+        return False
+    with open(path, "wb") as opened:
+        opened.write(ran.stdout)
+    return True
+
+
+def differences(program, case, migrated):
+    """What is not as the case expects it, a line each. None where its capture is to be migrated and there is none."""
     output, error = case.own("output"), case.own("stderr")
     try:
         expected, status = case.expected()
         with tempfile.TemporaryDirectory() as room:
-            ran = run(program, case.words, case.laid_out(room), output and output.strip())
+            folder = case.laid_out(room)
+            if migrated and not migrate_capture(program, case.words, folder):
+                return None
+            ran = run(program, case.words, folder, output and output.strip())
     except (OSError, ValueError, subprocess.TimeoutExpired) as failure:
         return [str(failure), *case.shown]
     found = []
@@ -195,13 +220,16 @@ def main():
     parser = argparse.ArgumentParser(description=__doc__, formatter_class=argparse.RawDescriptionHelpFormatter)
     parser.add_argument("program", nargs="?", default=PROGRAM, help="the built program")
     parser.add_argument("--only", default="", metavar="TEXT", help="only the cases whose names hold this text")
+    parser.add_argument("--migrated", action="store_true", help="each capture as `migrate` writes it")
     given = parser.parse_args()
     program = os.path.abspath(given.program)
     cases = list(all_cases())
-    results = [(case.name, differences(program, case)) for case in cases if given.only in case.name]
-    if given.only in "messages.py check":
-        results.append(("messages.py check", messages.check()))
-    results += [(file, ["no case has this file"]) for file in sorted(without_a_case(cases))]
+    results = [(case.name, differences(program, case, given.migrated)) for case in cases if given.only in case.name]
+    results = [(name, found) for name, found in results if found is not None]
+    if not given.migrated:
+        if given.only in "messages.py check":
+            results.append(("messages.py check", messages.check()))
+        results += [(file, ["no case has this file"]) for file in sorted(without_a_case(cases))]
     for name, found in results:
         for line in found:
             print(f"{name}: {line}")

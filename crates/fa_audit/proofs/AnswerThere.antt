@@ -1,6 +1,6 @@
 -- The audit, a proposal and a cut have never no answer, by what each stands on: the capture is good or has a first fault, the tree
 -- text is in its grammar or at fault, and so is the order text.
-use Rattle.std.proofs.Common.{◌≡◌, ℕ, zero, suc, ◌≤◌, ◌⊎◌, List, length, take, Option, Some, None, Result, Ok, Err, refl, sym, subst, ◌∙◌, inl, inr, arith}
+use Rattle.std.proofs.Common.{◌≡◌, ℕ, zero, suc, ◌≤◌, ◌⊎◌, List, length, take, Option, Some, None, Ok, Err, refl, sym, subst, ◌∙◌, inl, inr, arith}
 use Rattle.std.specs.Prelude.{◌<◌, All, slice_get}
 use Rattle.std.proofs.lemmas.Bool.{cases_lt}
 use Rattle.std.proofs.lemmas.Option.{same_Some}
@@ -85,7 +85,7 @@ tree_or_fault capture c good (Some text) not_given no_fault =
 
 -- so many messages a good capture has at most
 messages_few : (capture : List ℕ) (c : List Message) → IsGoodCapture capture c → length c ≤ MAX_MESSAGES
-messages_few capture c good = good.read.packets.framed.count
+messages_few capture c good = subst (λ (ms : List Message). length ms ≤ MAX_MESSAGES) good.read.1 good.read.2.records.framed.count
 
 -- ---- answers
 

@@ -1,19 +1,14 @@
 -- The parts of the audit make its answer.
-use Rattle.std.proofs.Common.{◌≡◌, ℕ, ◌⊎◌, List, length, map, Option, Some, None, Result, Ok, Err, refl, sym, ap, subst, ◌∙◌, inl, inr}
-use Rattle.std.proofs.lemmas.List.{length-map}
-use Rattle.fa_capture.specs.declared.packet.Packet.{Packet}
-use Rattle.fa_capture.specs.declared.fault.CaptureFault.{CaptureFault}
-use Rattle.fa_capture.specs.Message.{Message, message, messages}
-use Rattle.fa_capture.specs.Reading.{IsReading}
+use Rattle.std.proofs.Common.{◌≡◌, ℕ, ◌⊎◌, List, Option, Result, Ok, Err, refl, sym, subst, ◌∙◌, inl, inr}
+use Rattle.fa_capture.specs.Message.{Message, messages}
 use Rattle.fa_ledger.specs.declared.calls.Calls.{Calls}
-use Rattle.fa_ledger.specs.Calls.{AreCalls, call_shown}
-use Rattle.fa_ledger.specs.Passing.{AreGood, IsGoodCapture, IsMessageFault, IsFirstFault}
+use Rattle.fa_ledger.specs.Passing.{IsGoodCapture}
 use Rattle.fa_tree.specs.State.{TreeState}
 use Rattle.fa_order.specs.declared.entry.Entry.{Entry}
 use Rattle.fa_order.specs.Order.{IsOrderText}
 use Rattle.fa_check.specs.declared.verdict.Verdict.{Verdict}
 use Rattle.fa_check.specs.declared.verdict.Verdict.TheVariants.{Legal, Fault, NotShown}
-use Rattle.fa_check.specs.Verdicts.{AreMessagesOf, IsVerdict}
+use Rattle.fa_check.specs.Verdicts.{IsVerdict}
 use Rattle.fa_audit.specs.declared.verdict.AuditError.{AuditError}
 use Rattle.fa_audit.specs.declared.verdict.AuditError.TheVariants.{OrderText, TreeText, Memory}
 use Rattle.fa_audit.specs.declared.verdict.StartError.{StartError}
@@ -23,43 +18,7 @@ use Rattle.fa_audit.specs.Laws.{OneAnswer}
 use Rattle.fa_audit.specs.Proposed.{answer_of}
 use Rattle.fa_audit.specs.declared.protocol.Broken.{Broken}
 use Rattle.fa_audit.specs.declared.protocol.Broken.TheVariants as broken
-use Rattle.fa_audit.specs.parts.Protocol.{IsBroken}
 use Rattle.fa_audit.specs.parts.Answers.{Tells, AreCallsOf, IsCaptureRefused, start_refused, IsStartOf, IsNoStart, IsTreeRefused, IsOrderRefused}
-
-pub messages_length : (packets : List Packet) → length (messages packets) ≡ length packets
-messages_length packets = length-map packets message
-
--- the first message that does not pass
-message_fault : (bytes : List ℕ) (packets given : List Packet) (framing : Option CaptureFault) (at code : ℕ) → IsReading bytes (messages packets) framing → given ≡ packets → IsMessageFault (messages given) at code → IsFirstFault bytes at code
-message_fault bytes packets given framing at code read same fault = record {
-  messages = messages packets;
-  framing = framing;
-  read = read;
-  fault = inl (subst (λ (ps : List Packet). IsMessageFault (messages ps) at code) same fault);
-}
-
--- the framing fault after messages that pass
-pub framing_fault : (bytes : List ℕ) (packets given : List Packet) (framing : Option CaptureFault) (f : CaptureFault) → IsReading bytes (messages packets) framing → given ≡ packets → AreGood (messages given)
-    → framing ≡ Some f → IsFirstFault bytes f.whole f.code
-framing_fault bytes packets given framing f read same good is = record {
-  messages = messages packets;
-  framing = framing;
-  read = read;
-  fault = inr (record { there = is; passes = subst (λ (ps : List Packet). AreGood (messages ps)) same good });
-}
-
--- messages that have no calls, in a capture
-pub broken_refused : (bytes : List ℕ) (packets given : List Packet) (framing : Option CaptureFault) (b : Broken) → IsReading bytes (messages packets) framing → given ≡ packets → IsBroken (messages given) b → IsCaptureRefused bytes b
-broken_refused bytes packets given framing (broken.Fault at code) read same fault = message_fault bytes packets given framing at code read same fault
-broken_refused bytes packets given framing broken.Memory read same fault = tt
-
--- a good capture
-pub good_capture : (bytes : List ℕ) (packets given : List Packet) (framing : Option CaptureFault) → IsReading bytes (messages packets) framing → given ≡ packets → AreGood (messages given) → framing ≡ None
-    → IsGoodCapture bytes (messages packets)
-good_capture bytes packets given framing read same good none = record {
-  read = subst (IsReading bytes (messages packets)) none read;
-  good = subst (λ (ps : List Packet). AreGood (messages ps)) same good;
-}
 
 -- ---- the answer is the only one
 
@@ -99,15 +58,6 @@ order_line_apart line same = absurd cc
 
 -- ---- the verdict on an order
 
--- the calls of good messages
-pub messages_of : (packets given : List Packet) (calls : Calls) → given ≡ packets → AreGood (messages given) → calls.messages ≡ length given → AreCalls (messages given) calls.list
-    → AreMessagesOf calls (messages packets)
-messages_of packets given calls same good counted are = record {
-  good = subst (λ (ps : List Packet). AreGood (messages ps)) same good;
-  counted = counted ∙ ap (λ (ps : List Packet). length ps) same ∙ sym (messages_length packets);
-  are = subst (λ (ps : List Packet). AreCalls (messages ps) calls.list) same are;
-}
-
 -- what is answered of an order, as an answer of the audit
 pub verdict_told : (capture : List ℕ) (tree : Option (List ℕ)) (order : List ℕ) (c : List Message) (first : TreeState) (es : List Entry) (verdict : Verdict)
     → IsGoodCapture capture c → IsGivenTree tree first → IsOrderText order es → IsVerdict c first es verdict → IsAnswer capture tree order (Ok verdict)
@@ -138,16 +88,6 @@ order_told capture tree order c first (TreeText line) good given fault = absurd 
 order_told capture tree order c first Memory good given fault = tt
 
 -- ---- what an order starts with
-
--- the calls of a good capture
-pub calls_of_good : (bytes : List ℕ) (packets given : List Packet) (framing : Option CaptureFault) (calls : Calls)
-    → IsReading bytes (messages packets) framing → given ≡ packets → AreGood (messages given) → calls.messages ≡ length given → AreCalls (messages given) calls.list
-    → framing ≡ None → AreCallsOf bytes calls
-calls_of_good bytes packets given framing calls read same good counted are none = record {
-  messages = messages packets;
-  good = good_capture bytes packets given framing read same good none;
-  are = messages_of packets given calls same good counted are;
-}
 
 -- they and the given tree are a start
 pub start_of : (bytes : List ℕ) (tree : Option (List ℕ)) (calls : Calls) (first : TreeState) → AreCallsOf bytes calls → IsGivenTree tree first → IsStartOf bytes tree calls first

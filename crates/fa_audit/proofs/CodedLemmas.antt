@@ -5,10 +5,13 @@ use Rattle.fa_capture.specs.declared.packet.Direction.{Direction}
 use Rattle.fa_capture.specs.declared.packet.Direction.TheVariants.{ToServer, FromServer}
 use Rattle.fa_capture.specs.Checks.{FirstFailure}
 use Rattle.fa_capture.specs.Codes.{text_of}
-use Rattle.fa_capture.specs.Message.{Message}
-use Rattle.fa_capture.specs.Reading.{HasMagic, IsReading, IsFault, record_checks}
-use Rattle.fa_capture.specs.Framing.{capture_spelling}
+use Rattle.fa_capture.specs.Message.{Message, Recorded, without_times}
+use Rattle.fa_capture.specs.Reading.{HasMagic, IsReading, IsFault, IsMigrateError, record_checks}
+use Rattle.fa_capture.specs.declared.migration.MigrateError.{MigrateError}
+use Rattle.fa_capture.specs.declared.migration.MigrateError.TheVariants as migrating
+use Rattle.fa_capture.specs.Framing.{counted_bytes}
 use Rattle.fa_capture.specs.declared.codes.TheConstants.{NO_MAGIC}
+use Rattle.fa_capture.specs.declared.format.Format.{Format}
 use Rattle.fa_capture.specs.declared.fault.CaptureFault.{CaptureFault}
 use Rattle.fa_check.specs.declared.verdict.Verdict.{Verdict}
 use Rattle.fa_check.specs.declared.verdict.Verdict.TheVariants.{Legal, Fault, NotShown}
@@ -48,23 +51,30 @@ message_coded : (d : Direction) (before : List Message) (m : Message) → AllCod
 message_coded ToServer before m = (refl, (refl, (refl, (refl, (refl, (refl, (refl, (refl, (refl, (refl, (refl, (refl, (refl, tt)))))))))))))
 message_coded FromServer before m = (refl, (refl, (refl, (refl, (refl, (refl, (refl, (refl, (refl, (refl, (refl, (refl, (refl, tt)))))))))))))
 
-record_coded : (before offset : ℕ) (left : List ℕ) → AllCoded (record_checks before offset left)
-record_coded before offset left = (refl, (refl, (refl, (refl, (refl, (refl, tt))))))
+record_coded : (format : Format) (before counted : ℕ) (left : List ℕ) → AllCoded (record_checks format before counted left)
+record_coded format before counted left = (refl, (refl, (refl, (refl, (refl, (refl, tt))))))
 
 -- a framing fault's code, whether the magic is there or not
-framing_cases : (bytes : List ℕ) (c : List Message) (f : CaptureFault) (b : Bool) → is_some (text_of f.code) ≡ b → IsFault bytes c (Some f) → IsSome (text_of f.code)
-framing_cases bytes c f true has fault = has
-framing_cases bytes c f false lacks fault =
+framing_cases : (bytes : List ℕ) (rs : List Recorded) (f : CaptureFault) (b : Bool) → is_some (text_of f.code) ≡ b → IsFault bytes rs (Some f) → IsSome (text_of f.code)
+framing_cases bytes rs f true has fault = has
+framing_cases bytes rs f false lacks fault =
     let without : HasMagic bytes → ⊥ = λ has.
-    let there = fault.2 has in
-    let coded : is_some (text_of f.code) ≡ true = coded_failure (record_checks (length c) (length (capture_spelling c)) there.0) f.code (record_coded (length c) (length (capture_spelling c)) there.0) there.3 in
+    let there = fault.2 has.0 has.1 in
+    let counted : ℕ = counted_bytes (without_times rs) in
+    let coded : is_some (text_of f.code) ≡ true = coded_failure (record_checks has.0 (length rs) counted there.0) f.code (record_coded has.0 (length rs) counted there.0) there.3 in
     absurd cc in
     let code : f.code ≡ NO_MAGIC = fault.1 without in
     subst (λ (n : ℕ). IsSome (text_of n)) (sym code) refl
 
-framing_coded : (bytes : List ℕ) (c : List Message) (framing : Option CaptureFault) (at code : ℕ) → IsReading bytes c framing → framing ≡ Some (record { whole = at; code = code }) → IsSome (text_of code)
+pub framing_coded : (bytes : List ℕ) (c : List Message) (framing : Option CaptureFault) (at code : ℕ) → IsReading bytes c framing → framing ≡ Some (record { whole = at; code = code }) → IsSome (text_of code)
 framing_coded bytes c framing at code read is =
-    framing_cases bytes c (record { whole = at; code = code }) (is_some (text_of code)) refl (subst (IsFault bytes c) is read.ended)
+    framing_cases bytes read.0 (record { whole = at; code = code }) (is_some (text_of code)) refl (subst (IsFault bytes read.0) is read.2.ended)
+
+-- of a capture that is not migrated too
+pub unmigrated_coded : (bytes : List ℕ) (error : MigrateError) (f : CaptureFault) → error ≡ migrating.Fault f → IsMigrateError bytes error → IsSome (text_of f.code)
+unmigrated_coded bytes error f is refused =
+    let told = subst (IsMigrateError bytes) is refused in
+    framing_coded bytes told.0 (Some f) f.whole f.code told.1 refl
 
 pub fault_coded : (capture : List ℕ) (at code : ℕ) → IsFirstFault capture at code → IsSome (text_of code)
 fault_coded capture at code first =

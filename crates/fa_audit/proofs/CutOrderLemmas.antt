@@ -18,7 +18,7 @@ use Rattle.fa_check.proofs.CallerLemmas.{cut_is_one}
 use Rattle.fa_audit.specs.declared.protocol.Broken.{Broken}
 use Rattle.fa_audit.specs.declared.protocol.Broken.TheVariants as broken
 use Rattle.fa_audit.specs.declared.running.RunFault.{RunFault}
-use Rattle.fa_audit.specs.declared.running.TheConstants.{MAX_INPUT_BYTES}
+use Rattle.fa_audit.specs.declared.running.TheConstants.{MAX_CAPTURE_INPUT_BYTES, MAX_TEXT_INPUT_BYTES}
 use Rattle.fa_audit.specs.declared.verdict.AuditError.{AuditError}
 use Rattle.fa_audit.specs.declared.verdict.AuditError.TheVariants as errors
 use Rattle.fa_audit.specs.declared.verdict.CutError.{CutError}
@@ -184,7 +184,7 @@ uncut_told (Err fault) left error answer is told answered = tt
 
 -- a told answer is none that memory was refused, so it is that of the cut
 pub cut_from : (result : Result ℕ RunFault) (capture order old new : Option (List ℕ)) (c o : List ℕ) (m : ℕ) (left : Result (Vec ℕ Global) CutError)
-    → IfSome capture (λ bytes. c ≡ bytes) → IfSome order (λ bytes. o ≡ bytes) → length c ≤ MAX_INPUT_BYTES → length o ≤ MAX_INPUT_BYTES
+    → IfSome capture (λ bytes. c ≡ bytes) → IfSome order (λ bytes. o ≡ bytes) → length c ≤ MAX_CAPTURE_INPUT_BYTES → length o ≤ MAX_TEXT_INPUT_BYTES
     → IsErrOf left Memory ⊎ IsCutAnswer c o m (text_answered left)
     → IfOk result (IsCutTold (text_answered left) old new) → OnOk result (left ≢ Err Memory)
     → IfOk result (IsCutFrom capture order m old new)

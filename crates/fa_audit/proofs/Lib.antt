@@ -9,3 +9,4 @@ pub mod RunLemmas
 pub mod OneProposal
 pub mod ProposalLemmas
 pub mod CutOrderLemmas
+pub mod TimeLemmas

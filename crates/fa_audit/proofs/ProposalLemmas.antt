@@ -9,7 +9,7 @@ use Rattle.fa_order.specs.Order.{IsOrderText}
 use Rattle.fa_ledger.specs.declared.calls.Calls.{Calls}
 use Rattle.fa_propose.specs.Proposals.{IsProposal}
 use Rattle.fa_audit.specs.declared.running.RunFault.{RunFault}
-use Rattle.fa_audit.specs.declared.running.TheConstants.{MAX_INPUT_BYTES}
+use Rattle.fa_audit.specs.declared.running.TheConstants.{MAX_CAPTURE_INPUT_BYTES}
 use Rattle.fa_check.specs.declared.verdict.Verdict.{Verdict}
 use Rattle.fa_audit.specs.declared.verdict.AuditError.{AuditError}
 use Rattle.fa_audit.specs.declared.verdict.AuditError.TheVariants as errors
@@ -51,7 +51,7 @@ refusal_told (Err fault) proposal error answer is told answered = tt
 
 -- a told answer is none that memory was refused, so it is that of the proposal
 pub proposed_from : (result : Result ℕ RunFault) (capture old new : Option (List ℕ)) (Tree : Option (List ℕ) → Type 0) (c : List ℕ) (t : Option (List ℕ)) (proposal : Result (Vec ℕ Global) StartError)
-    → IfSome capture (λ bytes. c ≡ bytes) → length c ≤ MAX_INPUT_BYTES → Tree t
+    → IfSome capture (λ bytes. c ≡ bytes) → length c ≤ MAX_CAPTURE_INPUT_BYTES → Tree t
     → IsErrOf proposal Memory ⊎ IsProposalAnswer c t (text_answered proposal)
     → IfOk result (IsProposalTold (text_answered proposal) old new) → OnOk result (proposal ≢ Err Memory)
     → IfOk result (IsProposedFrom capture Tree old new)

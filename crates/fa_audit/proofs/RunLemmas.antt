@@ -4,7 +4,7 @@ use Rattle.fa_check.specs.declared.verdict.Verdict.{Verdict}
 use Rattle.fa_audit.specs.declared.verdict.AuditError.{AuditError}
 use Rattle.fa_audit.specs.declared.verdict.AuditError.TheVariants.{Memory}
 use Rattle.fa_audit.specs.declared.running.RunFault.{RunFault}
-use Rattle.fa_audit.specs.declared.running.TheConstants.{MAX_INPUT_BYTES}
+use Rattle.fa_audit.specs.declared.running.TheConstants.{MAX_CAPTURE_INPUT_BYTES, MAX_TEXT_INPUT_BYTES}
 use Rattle.fa_audit.specs.Verdict.{IsAnswer}
 use Rattle.fa_audit.specs.Run.{IsTold, IsAudited}
 
@@ -15,7 +15,7 @@ IsAnswerOrMemory capture tree order answer = (answer ≡ Err Memory) ⊎ IsAnswe
 -- a told answer is none that memory was refused, so it is the audit's
 pub audited : (result : Result ℕ RunFault) (capture order old new : Option (List ℕ)) (Tree : Option (List ℕ) → Type 0) (c o : List ℕ) (t : Option (List ℕ)) (answer : Result Verdict AuditError)
     → IfSome capture (λ bytes. c ≡ bytes) → IfSome order (λ bytes. o ≡ bytes)
-    → length c ≤ MAX_INPUT_BYTES → length o ≤ MAX_INPUT_BYTES → Tree t
+    → length c ≤ MAX_CAPTURE_INPUT_BYTES → length o ≤ MAX_TEXT_INPUT_BYTES → Tree t
     → IsAnswerOrMemory c t o answer
     → IfOk result (IsTold answer old new) → OnOk result (answer ≢ Err Memory)
     → IfOk result (IsAudited capture Tree order old new)

@@ -1,6 +1,6 @@
 -- The answers of a call that cuts an order at a message, each by what it says of the capture and of the order text; and what a run of
 -- it writes. The capture and its faults are those of the audit. No tree is read.
-use Rattle.std.specs.Prelude.{◌≡◌, ℕ, List, ◌++◌, Option, Result, Ok, Err}
+use Rattle.std.specs.Prelude.{ℕ, List, ◌++◌, Option, Result, Ok, Err}
 use Rattle.fa_capture.specs.Message.{Message}
 use Rattle.fa_ledger.specs.Passing.{IsGoodCapture, IsFirstFault}
 use Rattle.fa_order.specs.declared.entry.Entry.{Entry}
@@ -15,6 +15,7 @@ use Rattle.fa_audit.specs.declared.verdict.CutError.TheVariants.{Fault, OrderTex
 use Rattle.fa_audit.specs.declared.status.Status.TheVariants as status
 use Rattle.fa_audit.specs.Status.{status_number}
 use Rattle.fa_audit.specs.Line.{answer_line, answer_status}
+use Rattle.fa_audit.specs.declared.running.TheConstants.{MAX_CAPTURE_INPUT_BYTES, MAX_TEXT_INPUT_BYTES}
 use Rattle.fa_audit.specs.Run.{line_feed, IsWritten, IsRead}
 
 -- ---- answers
@@ -77,7 +78,7 @@ pub record IsCutFrom (capture order : Option (List ℕ)) (m : ℕ) (old new : Op
   pub capture_bytes : List ℕ
   pub order_bytes : List ℕ
   pub answer : Result (List ℕ) CutError
-  pub capture_read : IsRead capture capture_bytes
-  pub order_read : IsRead order order_bytes
+  pub capture_read : IsRead MAX_CAPTURE_INPUT_BYTES capture capture_bytes
+  pub order_read : IsRead MAX_TEXT_INPUT_BYTES order order_bytes
   pub is_answer : IsCutAnswer capture_bytes order_bytes m answer
   pub told : IsCutTold answer old new ended

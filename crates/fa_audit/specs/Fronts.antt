@@ -1,10 +1,11 @@
 -- What a run writes that cuts a capture: the capture of its first messages, or why there is none.
-use Rattle.std.specs.Prelude.{◌≡◌, ℕ, ◌⊎◌, List, Option, Ok}
+use Rattle.std.specs.Prelude.{ℕ, ◌⊎◌, List, Option, Ok}
 use Rattle.fa_capture.specs.declared.codes.TheConstants.{NO_MAGIC}
 use Rattle.fa_capture.specs.Reading.{HasMagic, IsFrontOf}
 use Rattle.fa_check.specs.declared.verdict.Verdict.TheVariants.{Fault}
 use Rattle.fa_audit.specs.declared.status.Status.TheVariants as status
 use Rattle.fa_audit.specs.Status.{status_number}
+use Rattle.fa_audit.specs.declared.running.TheConstants.{MAX_CAPTURE_INPUT_BYTES}
 use Rattle.fa_audit.specs.Run.{IsWritten, IsRead, IsTold}
 
 -- The capture of the first messages of these bytes was written; or they do not begin as a capture does, and the line of that fault was
@@ -17,5 +18,5 @@ IsFrontTold bytes messages old new ended =
 -- Some bytes were read of the capture, and what is to be written of its first messages was written.
 pub record IsFrontFrom (capture : Option (List ℕ)) (messages : ℕ) (old new : Option (List ℕ)) (ended : ℕ) : Type 0 where
   pub bytes : List ℕ
-  pub read : IsRead capture bytes
+  pub read : IsRead MAX_CAPTURE_INPUT_BYTES capture bytes
   pub told : IsFrontTold bytes messages old new ended

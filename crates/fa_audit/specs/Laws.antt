@@ -1,5 +1,8 @@
 -- The statements of the laws.
-use Rattle.std.specs.Prelude.{◌≡◌, ℕ, ◌<◌, List, All, Option, Result}
+use Rattle.std.specs.Prelude.{◌≡◌, ◌↔◌, ℕ, ◌<◌, List, All, Option, Result}
+use Rattle.fa_capture.specs.declared.fault.CaptureFault.{CaptureFault}
+use Rattle.fa_capture.specs.Message.{Message}
+use Rattle.fa_capture.specs.Reading.{IsReading, IsMigrated}
 use Rattle.fa_tree.specs.State.{TreeState}
 use Rattle.fa_tree.specs.Making.{HasMadeNone}
 use Rattle.fa_check.specs.declared.verdict.Verdict.{Verdict}
@@ -46,3 +49,20 @@ OneCutAnswer = (capture order : List ℕ) (m : ℕ) (a b : Result (List ℕ) Cut
 abbrev pub CutAnswerIsThere : Type 0
 CutAnswerIsThere =
     (capture order : List ℕ) (m : ℕ) → All (λ b. b < 256) capture → ((answer : Result (List ℕ) CutError) → IsCutAnswer capture order m answer → ⊥) → ⊥
+
+-- what the one capture holds the other holds too: the same messages and the same framing fault, whatever formats they are in and
+-- whatever times they have
+abbrev pub HoldsWhatIsIn : (other capture : List ℕ) → Type 0
+HoldsWhatIsIn other capture = (messages : List Message) (fault : Option CaptureFault) → IsReading capture messages fault → IsReading other messages fault
+
+-- no answer sees a format or a time
+abbrev pub AnswersSeeNoTimes : Type 0
+AnswersSeeNoTimes =
+    (capture other : List ℕ) (tree : Option (List ℕ)) (order : List ℕ) (answer : Result Verdict AuditError)
+    → HoldsWhatIsIn other capture → IsAnswer capture tree order answer → IsAnswer other tree order answer
+
+-- a capture that was migrated has the answers that it had, for any tree and any order
+abbrev pub MigratedHasTheSameAnswers : Type 0
+MigratedHasTheSameAnswers =
+    (capture migrated : List ℕ) (tree : Option (List ℕ)) (order : List ℕ) (answer : Result Verdict AuditError)
+    → IsMigrated capture migrated → (IsAnswer capture tree order answer ↔ IsAnswer migrated tree order answer)

@@ -10,8 +10,9 @@ pub mod Run
 pub mod Proposed
 -- what each answer of a call says that cuts an order, and what a run of it writes
 pub mod CutOrders
--- what a run writes that cuts a capture
+-- what a run writes that cuts a capture, and one that migrates it
 pub mod Fronts
+pub mod Migrated
 -- the statements of the laws
 pub mod Laws
 -- the vocabulary of private contracts

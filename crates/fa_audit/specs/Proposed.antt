@@ -1,6 +1,6 @@
 -- The answers of a proposal, each by what it says of the capture and of the tree text if one is handed in; and what a run of it
 -- writes. The capture, the given tree and the faults are those of the audit.
-use Rattle.std.specs.Prelude.{◌≡◌, ℕ, List, ◌++◌, Option, Result, Ok, Err}
+use Rattle.std.specs.Prelude.{ℕ, List, ◌++◌, Option, Result, Ok, Err}
 use Rattle.fa_capture.specs.Message.{Message}
 use Rattle.fa_ledger.specs.Passing.{IsGoodCapture, IsFirstFault}
 use Rattle.fa_tree.specs.State.{TreeState}
@@ -17,6 +17,7 @@ use Rattle.fa_audit.specs.declared.status.Status.TheVariants as status
 use Rattle.fa_audit.specs.Status.{status_number}
 use Rattle.fa_audit.specs.Verdict.{IsGivenTree, IsTreeTextAtFault}
 use Rattle.fa_audit.specs.Line.{answer_line, answer_status}
+use Rattle.fa_audit.specs.declared.running.TheConstants.{MAX_CAPTURE_INPUT_BYTES}
 use Rattle.fa_audit.specs.Run.{line_feed, IsWritten, IsRead}
 
 -- ---- answers
@@ -74,7 +75,7 @@ pub record IsProposedFrom (capture : Option (List ℕ)) (Tree : Option (List ℕ
   pub capture_bytes : List ℕ
   pub tree_bytes : Option (List ℕ)
   pub answer : Result (List ℕ) StartError
-  pub capture_read : IsRead capture capture_bytes
+  pub capture_read : IsRead MAX_CAPTURE_INPUT_BYTES capture capture_bytes
   pub tree_read : Tree tree_bytes
   pub is_answer : IsProposalAnswer capture_bytes tree_bytes answer
   pub told : IsProposalTold answer old new ended

@@ -9,7 +9,7 @@ use Rattle.fa_check.specs.declared.verdict.Verdict.{Verdict}
 use Rattle.fa_audit.specs.declared.verdict.AuditError.{AuditError}
 use Rattle.fa_audit.specs.declared.running.RunFault.{RunFault}
 use Rattle.fa_audit.specs.declared.running.RunFault.TheVariants as faults
-use Rattle.fa_audit.specs.declared.running.TheConstants.{MAX_INPUT_BYTES}
+use Rattle.fa_audit.specs.declared.running.TheConstants.{MAX_CAPTURE_INPUT_BYTES, MAX_TEXT_INPUT_BYTES}
 use Rattle.fa_audit.specs.Verdict.{IsAnswer}
 use Rattle.fa_audit.specs.Line.{answer_line, answer_status}
 
@@ -42,16 +42,16 @@ IsHandedIn None left Such = ⊥
 IsHandedIn (Some input) (inr (inl left)) Such = Such input.now left.0.now
 IsHandedIn (Some input) other Such = ⊥
 
--- These are the bytes of an input, at most so many as an input may have: all that are left, where it tells that.
-pub record IsRead (remaining : Option (List ℕ)) (bytes : List ℕ) : Type 0 where
+-- These are the bytes of an input, at most so many: all that are left, where it tells that.
+pub record IsRead (limit : ℕ) (remaining : Option (List ℕ)) (bytes : List ℕ) : Type 0 where
   pub whole : IfSome remaining (λ left. bytes ≡ left)
-  pub within : length bytes ≤ MAX_INPUT_BYTES
+  pub within : length bytes ≤ limit
 
--- Some bytes were read, those of an input.
+-- Some bytes were read, those of the input of a text.
 abbrev pub IsSomeRead : (remaining : Option (List ℕ)) → (read : Option (List ℕ)) → Type 0
-IsSomeRead remaining read = (bytes : List ℕ) × (read ≡ Some bytes) × IsRead remaining bytes
+IsSomeRead remaining read = (bytes : List ℕ) × (read ≡ Some bytes) × IsRead MAX_TEXT_INPUT_BYTES remaining bytes
 
--- This was read of an input that may be handed in: nothing where there is none, and else its bytes, as far as it tells them.
+-- This was read of the input of a text that may be handed in: nothing where there is none, and else its bytes, as far as it tells them.
 abbrev pub IsReadIfAny : {R : Type 0} → (R → Option (List ℕ)) → Option (MutBor R) → (read : Option (List ℕ)) → Type 0
 IsReadIfAny remaining None read = read ≡ None
 IsReadIfAny remaining (Some input) read = IsSomeRead (remaining input.now) read
@@ -63,16 +63,16 @@ pub record IsAudited (capture : Option (List ℕ)) (Tree : Option (List ℕ) →
   pub tree_bytes : Option (List ℕ)
   pub order_bytes : List ℕ
   pub answer : Result Verdict AuditError
-  pub capture_read : IsRead capture capture_bytes
+  pub capture_read : IsRead MAX_CAPTURE_INPUT_BYTES capture capture_bytes
   pub tree_read : Tree tree_bytes
-  pub order_read : IsRead order order_bytes
+  pub order_read : IsRead MAX_TEXT_INPUT_BYTES order order_bytes
   pub is_answer : IsAnswer capture_bytes tree_bytes order_bytes answer
   pub told : IsTold answer old new status
 
--- The input failed or was interrupted, or has more bytes than an input may have, where it tells its bytes.
-abbrev pub IsUnread : Option (List ℕ) → Bool → Bool → Type 0
-IsUnread remaining failed interrupted =
-    (failed ≡ true) ⊎ (interrupted ≡ true) ⊎ IfSome remaining (λ bytes. MAX_INPUT_BYTES < length bytes)
+-- The input failed or was interrupted, or has more bytes than so many, where it tells its bytes.
+abbrev pub IsUnread : (limit : ℕ) → Option (List ℕ) → Bool → Bool → Type 0
+IsUnread limit remaining failed interrupted =
+    (failed ≡ true) ⊎ (interrupted ≡ true) ⊎ IfSome remaining (λ bytes. limit < length bytes)
 
 -- as which fault of a run an error of an input is told
 abbrev pub IsReadFault : ReadError → RunFault → Type 0

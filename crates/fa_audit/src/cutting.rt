@@ -7,11 +7,12 @@ ghost use Rattle.fa_order.specs.declared.lines.TheConstants.{MAX_TEXT_BYTES};
 ghost use Rattle.fa_audit.specs.Verdict.{ExactlyRefused};
 ghost use Rattle.fa_audit.specs.Line.{IsCoded};
 ghost use Rattle.fa_audit.specs.Run.{IsUnread};
+ghost use Rattle.fa_audit.specs.declared.running.TheConstants.{MAX_CAPTURE_INPUT_BYTES, MAX_TEXT_INPUT_BYTES};
 ghost use Rattle.fa_audit.specs.CutOrders.{IsCuttable, IsCutText, IsUncutAtLine, IsCutTold, IsCutFrom, answer_of_uncut};
 ghost use Rattle.fa_audit.specs.parts.Answers.{IsNoCut, text_answered};
 
-use crate::judge::good_calls;
-use crate::running::{RunFault, input_bytes, tell};
+use crate::protocol::good_calls;
+use crate::running::{MAX_CAPTURE_INPUT_BYTES, MAX_TEXT_INPUT_BYTES, RunFault, input_bytes, tell};
 use crate::status::Status;
 use crate::verdict::CutError;
 use fa_capture::{Input, Output};
@@ -107,8 +108,8 @@ fn tell_cut<W: Output>(
 ///
 /// # Errors
 ///
-/// - [`RunFault::Read`] where an input failed, did not come to its end, or has more than
-///   [`MAX_INPUT_BYTES`](crate::MAX_INPUT_BYTES) bytes.
+/// - [`RunFault::Read`] where an input failed, did not come to its end, or has too many bytes: a capture more than
+///   [`MAX_CAPTURE_INPUT_BYTES`], a text more than [`MAX_TEXT_INPUT_BYTES`].
 /// - [`RunFault::Write`] where the output did not take the whole text.
 /// - [`RunFault::Memory`] where memory was refused.
 ///
@@ -141,8 +142,8 @@ pub fn run_cut<R: Input, W: Output>(
 
     // When each fault comes.
     ensures read { IsErrOf result RunFault.Read →
-        IsUnread (R.remaining capture.old) (R.has_failed capture.new) (R.was_interrupted capture.new)
-        ⊎ IsUnread (R.remaining order.old) (R.has_failed order.new) (R.was_interrupted order.new) }
+        IsUnread MAX_CAPTURE_INPUT_BYTES (R.remaining capture.old) (R.has_failed capture.new) (R.was_interrupted capture.new)
+        ⊎ IsUnread MAX_TEXT_INPUT_BYTES (R.remaining order.old) (R.has_failed order.new) (R.was_interrupted order.new) }
     ensures failed { (R.has_failed capture.new ≡ true) ⊎ (R.has_failed order.new ≡ true) →
         IsErrOf result RunFault.Read }
     ensures write { IsErrOf result RunFault.Write ↔ (W.is_broken out.new ≡ true) }
@@ -151,7 +152,7 @@ pub fn run_cut<R: Input, W: Output>(
     ensures unread { IsErrOf result RunFault.Read → Keeps (W.written out.old) (W.written out.new) }
     ensures refused { IsErrOf result RunFault.Memory → Keeps (W.written out.old) (W.written out.new) }
 {
-    let capture = input_bytes(alloc, capture)?;
-    let order = input_bytes(alloc, order)?;
+    let capture = input_bytes(alloc, capture, MAX_CAPTURE_INPUT_BYTES)?;
+    let order = input_bytes(alloc, order, MAX_TEXT_INPUT_BYTES)?;
     tell_cut(alloc, cut_order(alloc, &capture, &order, messages), out)
 }

@@ -3,9 +3,10 @@
 ghost use Rattle.std.specs.Prelude.{◌≡◌, ◌↔◌, ℕ, false, true, IfOk, OnOk, IsErrOf};
 ghost use Rattle.std.specs.Io.KnownBytes.{IsAtEnd, Keeps};
 ghost use Rattle.fa_audit.specs.Run.{IsUnread};
+ghost use Rattle.fa_audit.specs.declared.running.TheConstants.{MAX_CAPTURE_INPUT_BYTES};
 ghost use Rattle.fa_audit.specs.Fronts.{IsFrontTold, IsFrontFrom};
 
-use crate::running::{RunFault, input_bytes, tell};
+use crate::running::{MAX_CAPTURE_INPUT_BYTES, RunFault, input_bytes, tell};
 use crate::status::Status;
 use fa_capture::{Input, Output, codes, front};
 use fa_check::Verdict;
@@ -50,7 +51,7 @@ fn tell_front<W: Output>(
 /// # Errors
 ///
 /// - [`RunFault::Read`] where the input failed, did not come to its end, or has more than
-///   [`MAX_INPUT_BYTES`](crate::MAX_INPUT_BYTES) bytes.
+///   [`MAX_CAPTURE_INPUT_BYTES`](crate::MAX_CAPTURE_INPUT_BYTES) bytes.
 /// - [`RunFault::Write`] where the output did not take all bytes.
 /// - [`RunFault::Memory`] where memory was refused.
 ///
@@ -76,7 +77,7 @@ pub fn run_front<R: Input, W: Output>(
 
     // When each fault comes.
     ensures read { IsErrOf result RunFault.Read →
-        IsUnread (R.remaining capture.old) (R.has_failed capture.new) (R.was_interrupted capture.new) }
+        IsUnread MAX_CAPTURE_INPUT_BYTES (R.remaining capture.old) (R.has_failed capture.new) (R.was_interrupted capture.new) }
     ensures failed { R.has_failed capture.new ≡ true → IsErrOf result RunFault.Read }
     ensures write { IsErrOf result RunFault.Write ↔ (W.is_broken out.new ≡ true) }
 
@@ -84,6 +85,6 @@ pub fn run_front<R: Input, W: Output>(
     ensures unread { IsErrOf result RunFault.Read → Keeps (W.written out.old) (W.written out.new) }
     ensures refused { IsErrOf result RunFault.Memory → Keeps (W.written out.old) (W.written out.new) }
 {
-    let bytes = input_bytes(alloc, capture)?;
+    let bytes = input_bytes(alloc, capture, MAX_CAPTURE_INPUT_BYTES)?;
     tell_front(alloc, &bytes, messages, out)
 }

@@ -7,11 +7,10 @@ ghost use Rattle.fa_order.specs.declared.lines.TheConstants.{MAX_TEXT_BYTES};
 ghost use Rattle.fa_order.specs.Order.{IsOrderText};
 ghost use Rattle.fa_audit.specs.Verdict.{IsGivenTree, IsLegal, IsTreeTextAtFault, IsOrderTextAtFault, IsNotShown, Exactly};
 ghost use Rattle.fa_audit.specs.Line.{IsCoded};
-ghost use Rattle.fa_audit.specs.parts.Answers.{Tells, AreCallsOf, IsCaptureRefused, IsStartOf, IsNoStart, IsTreeRefused, IsOrderRefused};
+ghost use Rattle.fa_audit.specs.parts.Answers.{Tells, IsStartOf, IsNoStart, IsTreeRefused, IsOrderRefused};
 
-use crate::protocol::{Broken, calls_of};
+use crate::protocol::good_calls;
 use crate::verdict::{AuditError, StartError};
-use fa_capture::read_capture;
 use fa_check::{Verdict, check};
 use fa_ledger::Calls;
 use fa_order::{Entry, TextError, read_order};
@@ -47,7 +46,7 @@ pub const ROOT_BITS: u16 = 0o755;
 /// # Cost
 ///
 /// Expected time, as of hash tables, linear in the bytes of the capture and of the texts, but for a logarithm for each entry and
-/// for what the steps and the lines of the tree text take ([`Tree::step`], [`Tree::add`]). Memory for a packet and two bytes a
+/// for what the steps and the lines of the tree text take ([`Tree::step`], [`Tree::add`]). Memory for two bytes a
 /// message, for what the session and the ledger keep, for a call a tree request, for an entry a line and for the tree; message
 /// bytes are not copied but where files hold them.
 pub fn audit(
@@ -89,31 +88,6 @@ fn given_tree(alloc: Global, tree: Option<&[u8]>) -> Result<Tree, StartError>
         Ok(tree) => Ok(tree),
         Err(TextError::Line(line)) => Err(StartError::TreeText { line }),
         Err(TextError::Memory) => Err(StartError::Memory),
-    }
-}
-
-/// The calls of a good capture.
-///
-/// # Errors
-///
-/// - [`Broken::Fault`] at the first fault of a capture that is not good.
-/// - [`Broken::Memory`] where memory was refused.
-///
-/// # Cost
-///
-/// That of [`read_capture`] and [`calls_of`].
-pub(crate) fn good_calls<'a>(alloc: Global, capture: &'a [u8]) -> Result<Calls<'a>, Broken>
-    ensures good { IfOk result (AreCallsOf capture.now) }
-    ensures fault { IfErr result (IsCaptureRefused capture.now) }
-{
-    let capture = read_capture(alloc, capture)?;
-    let calls = calls_of(alloc, &capture.packets)?;
-    match capture.fault {
-        Some(fault) => Err(Broken::Fault {
-            at: fault.whole,
-            code: fault.code,
-        }),
-        None => Ok(calls),
     }
 }
 

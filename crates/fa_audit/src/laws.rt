@@ -2,8 +2,8 @@
 
 ghost use Rattle.std.specs.Prelude.{◌≡◌};
 ghost use Rattle.fa_audit.specs.declared.judge.TheConstants.{ROOT_BITS};
-ghost use Rattle.fa_audit.specs.declared.running.TheConstants.{MAX_INPUT_BYTES};
-ghost use Rattle.fa_audit.specs.Laws.{OneAnswer, AnswerIsThere, GivenTreeHasNoMadeFile, OneProposalAnswer, ProposalAnswerIsThere, OneCutAnswer, CutAnswerIsThere};
+ghost use Rattle.fa_audit.specs.declared.running.TheConstants.{MAX_CAPTURE_INPUT_BYTES, MAX_TEXT_INPUT_BYTES};
+ghost use Rattle.fa_audit.specs.Laws.{OneAnswer, AnswerIsThere, GivenTreeHasNoMadeFile, OneProposalAnswer, ProposalAnswerIsThere, OneCutAnswer, CutAnswerIsThere, AnswersSeeNoTimes, MigratedHasTheSameAnswers};
 
 /// A capture, a tree text or none and an order text have one answer at most.
 pub fn one_answer()
@@ -40,8 +40,19 @@ pub fn cut_answer_is_there()
     ensures { CutAnswerIsThere }
 {}
 
-/// The limit of an input, and the permission bits of a root without a tree text, 755 in octal, as numbers.
+/// Captures that hold the same messages and the same framing fault have the same answers: none sees a format or a time.
+pub fn answers_see_no_times()
+    ensures { AnswersSeeNoTimes }
+{}
+
+/// A capture that was migrated has the answers that it had, for any tree and any order.
+pub fn migrated_has_the_same_answers()
+    ensures { MigratedHasTheSameAnswers }
+{}
+
+/// The limits of inputs, and the permission bits of a root without a tree text, 755 in octal, as numbers.
 pub fn limits()
-    ensures input { MAX_INPUT_BYTES ≡ 268435456 }
+    ensures capture { MAX_CAPTURE_INPUT_BYTES ≡ 402653184 }
+    ensures text { MAX_TEXT_INPUT_BYTES ≡ 268435456 }
     ensures root_bits { ROOT_BITS ≡ 493 }
 {}

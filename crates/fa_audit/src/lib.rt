@@ -1,8 +1,8 @@
 //! The audit of recorded /dev/fuse traffic.
 //!
 //! [`audit`] judges a capture and an order of its requests from the tree that the server began with, and [`verdict_text`] is the line
-//! that tells it. [`run`], [`run_propose`], [`run_cut`] and [`run_front`] go from inputs to an output: they are the commands `check`,
-//! `propose`, `cut` and `front` of the program `fa_audit`.
+//! that tells it. [`run`], [`run_propose`], [`run_cut`], [`run_front`] and [`run_migrate`] go from inputs to an output: they are the
+//! commands `check`, `propose`, `cut`, `front` and `migrate` of the program `fa_audit`.
 #![tactic(auto)]
 
 mod cutting;
@@ -10,6 +10,7 @@ mod fronts;
 mod judge;
 pub mod laws;
 mod line;
+mod migrating;
 mod proposing;
 mod protocol;
 mod running;
@@ -20,7 +21,8 @@ pub use cutting::{cut_order, run_cut};
 pub use fronts::run_front;
 pub use judge::{ROOT_BITS, audit};
 pub use line::{order_fault_text, tree_fault_text, verdict_text};
+pub use migrating::run_migrate;
 pub use proposing::{proposal, run_propose};
-pub use running::{MAX_INPUT_BYTES, RunFault, line_and_status, run};
+pub use running::{MAX_CAPTURE_INPUT_BYTES, MAX_TEXT_INPUT_BYTES, RunFault, line_and_status, run};
 pub use status::Status;
 pub use verdict::{AuditError, CutError, StartError};

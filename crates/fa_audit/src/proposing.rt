@@ -8,11 +8,12 @@ ghost use Rattle.fa_order.specs.declared.lines.TheConstants.{MAX_TEXT_BYTES};
 ghost use Rattle.fa_audit.specs.Verdict.{IsTreeTextAtFault, ExactlyRefused};
 ghost use Rattle.fa_audit.specs.Line.{IsCoded};
 ghost use Rattle.fa_audit.specs.Run.{IfHandedIn, IsHandedIn, IsSomeRead, IsReadIfAny, IsUnread};
+ghost use Rattle.fa_audit.specs.declared.running.TheConstants.{MAX_CAPTURE_INPUT_BYTES, MAX_TEXT_INPUT_BYTES};
 ghost use Rattle.fa_audit.specs.Proposed.{IsStart, IsProposed, IsProposalTold, IsProposedFrom, answer_of};
 ghost use Rattle.fa_audit.specs.parts.Answers.{IsNoStart, text_answered};
 
 use crate::judge::start;
-use crate::running::{RunFault, input_bytes, tell};
+use crate::running::{MAX_CAPTURE_INPUT_BYTES, MAX_TEXT_INPUT_BYTES, RunFault, input_bytes, tell};
 use crate::status::Status;
 use crate::verdict::StartError;
 use fa_capture::{Input, Output};
@@ -102,13 +103,13 @@ fn propose_on_empty_root<R: Input, W: Output>(
         (W.written out.old) (W.written out.new)) }
     ensures end { OnOk result (IsAtEnd (R.remaining capture.new)) }
     ensures read { IsErrOf result RunFault.Read →
-        IsUnread (R.remaining capture.old) (R.has_failed capture.new) (R.was_interrupted capture.new) }
+        IsUnread MAX_CAPTURE_INPUT_BYTES (R.remaining capture.old) (R.has_failed capture.new) (R.was_interrupted capture.new) }
     ensures failed { R.has_failed capture.new ≡ true → IsErrOf result RunFault.Read }
     ensures write { IsErrOf result RunFault.Write ↔ (W.is_broken out.new ≡ true) }
     ensures unread { IsErrOf result RunFault.Read → Keeps (W.written out.old) (W.written out.new) }
     ensures refused { IsErrOf result RunFault.Memory → Keeps (W.written out.old) (W.written out.new) }
 {
-    let capture = input_bytes(alloc, capture)?;
+    let capture = input_bytes(alloc, capture, MAX_CAPTURE_INPUT_BYTES)?;
     tell_proposal(alloc, proposal(alloc, &capture, None), out)
 }
 
@@ -129,16 +130,16 @@ fn propose_on_tree<R: Input, W: Output>(
     ensures end { OnOk result (IsAtEnd (R.remaining capture.new) × IsAtEnd (R.remaining tree.new)) }
     ensures capture_first { R.has_failed capture.new ≡ true → tree.new ≡ tree.old }
     ensures read { IsErrOf result RunFault.Read →
-        IsUnread (R.remaining capture.old) (R.has_failed capture.new) (R.was_interrupted capture.new)
-        ⊎ IsUnread (R.remaining tree.old) (R.has_failed tree.new) (R.was_interrupted tree.new) }
+        IsUnread MAX_CAPTURE_INPUT_BYTES (R.remaining capture.old) (R.has_failed capture.new) (R.was_interrupted capture.new)
+        ⊎ IsUnread MAX_TEXT_INPUT_BYTES (R.remaining tree.old) (R.has_failed tree.new) (R.was_interrupted tree.new) }
     ensures failed { (R.has_failed capture.new ≡ true) ⊎ (R.has_failed tree.new ≡ true) →
         IsErrOf result RunFault.Read }
     ensures write { IsErrOf result RunFault.Write ↔ (W.is_broken out.new ≡ true) }
     ensures unread { IsErrOf result RunFault.Read → Keeps (W.written out.old) (W.written out.new) }
     ensures refused { IsErrOf result RunFault.Memory → Keeps (W.written out.old) (W.written out.new) }
 {
-    let capture = input_bytes(alloc, capture)?;
-    let tree = input_bytes(alloc, tree)?;
+    let capture = input_bytes(alloc, capture, MAX_CAPTURE_INPUT_BYTES)?;
+    let tree = input_bytes(alloc, tree, MAX_TEXT_INPUT_BYTES)?;
     tell_proposal(alloc, proposal(alloc, &capture, Some(&tree)), out)
 }
 
@@ -154,8 +155,8 @@ fn propose_on_tree<R: Input, W: Output>(
 ///
 /// # Errors
 ///
-/// - [`RunFault::Read`] where an input failed, did not come to its end, or has more than
-///   [`MAX_INPUT_BYTES`](crate::MAX_INPUT_BYTES) bytes.
+/// - [`RunFault::Read`] where an input failed, did not come to its end, or has too many bytes: a capture more than
+///   [`MAX_CAPTURE_INPUT_BYTES`], a text more than [`MAX_TEXT_INPUT_BYTES`].
 /// - [`RunFault::Write`] where the output did not take the whole text.
 /// - [`RunFault::Memory`] where memory was refused.
 ///
@@ -188,9 +189,9 @@ pub fn run_propose<R: Input, W: Output>(
 
     // When each fault comes.
     ensures read { IsErrOf result RunFault.Read →
-        IsUnread (R.remaining capture.old) (R.has_failed capture.new)
+        IsUnread MAX_CAPTURE_INPUT_BYTES (R.remaining capture.old) (R.has_failed capture.new)
         (R.was_interrupted capture.new)
-        ⊎ IsHandedIn tree.entry tree.exit (λ old new. IsUnread (R.remaining old) (R.has_failed new) (R.was_interrupted new)) }
+        ⊎ IsHandedIn tree.entry tree.exit (λ old new. IsUnread MAX_TEXT_INPUT_BYTES (R.remaining old) (R.has_failed new) (R.was_interrupted new)) }
     ensures failed { (R.has_failed capture.new ≡ true) ⊎ IsHandedIn tree.entry tree.exit (λ old new. R.has_failed new ≡ true)
         → IsErrOf result RunFault.Read }
     ensures write { IsErrOf result RunFault.Write ↔ (W.is_broken out.new ≡ true) }

@@ -1,13 +1,13 @@
 //! The messages of a capture, one after the other: whether they keep the protocol, and their calls.
 
-ghost use Rattle.std.specs.Prelude.{◌≡◌, ◌<◌, ◌≤◌, ◌∷◌, ◌++◌, [], List, length, IfOk, IfErr, OnOk};
-ghost use Rattle.fa_capture.specs.Message.{Message, message, messages};
+ghost use Rattle.std.specs.Prelude.{◌<◌, ◌∷◌, ◌++◌, [], List, length, IfOk, IfErr, OnOk};
+ghost use Rattle.fa_capture.specs.Message.{Message, message};
 ghost use Rattle.fa_capture.specs.declared.limits.TheConstants.{MAX_MESSAGES};
-ghost use Rattle.fa_ledger.specs.Calls.{AreCalls};
-ghost use Rattle.fa_ledger.specs.Passing.{AreGood, Passes};
-ghost use Rattle.fa_audit.specs.parts.Protocol.{ShowBoth, IsRefusal, IsBroken};
+ghost use Rattle.fa_ledger.specs.Passing.{Passes};
+ghost use Rattle.fa_audit.specs.parts.Protocol.{ShowBoth, IsRefusal};
+ghost use Rattle.fa_audit.specs.parts.Answers.{AreCallsOf, IsCaptureRefused};
 
-use fa_capture::Packet;
+use fa_capture::{Packet, Packets, codes};
 use fa_ledger::{Calls, Ledger, LedgerError};
 use fa_session::{Session, SessionError};
 use std::alloc::{AllocError, Global};
@@ -49,7 +49,7 @@ impl From<LedgerError> for MessageError {
     }
 }
 
-/// Why messages, or a capture of them, have no calls.
+/// Why a capture has no calls.
 #[derive(Clone, Copy, Debug, PartialEq, Eq)]
 pub(crate) enum Broken {
     /// The number of the first message that does not keep the protocol, or of the framing fault of a capture, and the code of the
@@ -87,34 +87,39 @@ fn accept<'a>(
     Ok(())
 }
 
-/// The calls of messages that all keep the protocol.
+/// The calls of a good capture.
 ///
 /// # Errors
 ///
-/// - [`Broken::Fault`] at the first message that does not.
+/// - [`Broken::Fault`] at the first fault of a capture that is not good.
 /// - [`Broken::Memory`] where memory was refused.
 ///
 /// # Cost
 ///
-/// One pass, at each message that of [`Session::accept`] and [`Ledger::accept`].
-pub(crate) fn calls_of<'a>(alloc: Global, packets: &[Packet<'a>]) -> Result<Calls<'a>, Broken>
-    requires { length packets.now ≤ MAX_MESSAGES }
-    ensures good { OnOk result (AreGood (messages packets.now)) }
-    ensures counted { IfOk result (λ calls. calls.messages ≡ length packets.now) }
-    ensures calls { IfOk result (λ calls. AreCalls (messages packets.now) calls.list) }
-    ensures fault { IfErr result (IsBroken (messages packets.now)) }
+/// One pass, at each message that of [`Session::accept`] and [`Ledger::accept`]; no list of the messages is made.
+pub(crate) fn good_calls<'a>(alloc: Global, capture: &'a [u8]) -> Result<Calls<'a>, Broken>
+    ensures good { IfOk result (AreCallsOf capture.now) }
+    ensures fault { IfErr result (IsCaptureRefused capture.now) }
 {
+    let Some(mut packets) = Packets::new(capture) else {
+        return Err(Broken::Fault {
+            at: 0,
+            code: codes::NO_MAGIC,
+        });
+    };
     let mut session = Session::new(alloc);
     let mut ledger = Ledger::new(alloc);
-    for (at, packet) in packets.iter().enumerate() {
-        match accept(&mut session, &mut ledger, packet) {
-            Ok(()) => {}
-            Err(MessageError::Refused(code)) => {
-                let at = at as u32;
-                return Err(Broken::Fault { at, code });
-            }
+    let mut at = 0;
+    loop {
+        let packet = match packets.next() {
+            Ok(Some(packet)) => packet,
+            Ok(None) => return Ok(ledger.into_calls()),
+            Err(code) => return Err(Broken::Fault { at, code }),
+        };
+        match accept(&mut session, &mut ledger, &packet) {
+            Ok(()) => at += 1,
+            Err(MessageError::Refused(code)) => return Err(Broken::Fault { at, code }),
             Err(MessageError::Memory) => return Err(Broken::Memory),
         }
     }
-    Ok(ledger.into_calls())
 }

@@ -5,6 +5,8 @@ ghost use Rattle.std.specs.Io.KnownBytes.{IsAtEnd, Keeps};
 ghost use Rattle.fa_audit.specs.Line.{IsCoded, answer_line, answer_status};
 ghost use Rattle.fa_audit.specs.Status.{status_number};
 ghost use Rattle.fa_audit.specs.Run.{IsTold, IfHandedIn, IsHandedIn, IsSomeRead, IsReadIfAny, IsAudited, IsUnread};
+ghost use Rattle.fa_capture.specs.declared.input.TheConstants.{MAX_READ_LIMIT};
+ghost use Rattle.fa_audit.specs.declared.running.TheConstants.{MAX_CAPTURE_INPUT_BYTES, MAX_TEXT_INPUT_BYTES};
 
 use crate::judge::audit;
 use crate::line::{order_fault_text, tree_fault_text, verdict_text};
@@ -15,13 +17,17 @@ use fa_check::Verdict;
 use std::alloc::{AllocError, AllocFailed, Global};
 use thiserror::Error;
 
-/// How many bytes an input may have.
-pub const MAX_INPUT_BYTES: usize = 268_435_456;
+/// How many bytes the input of a capture may have: as many as a capture has at most with times, which do not count for its limit.
+pub const MAX_CAPTURE_INPUT_BYTES: usize = 402_653_184;
+
+/// How many bytes the input of a tree text or of an order text may have.
+pub const MAX_TEXT_INPUT_BYTES: usize = 268_435_456;
 
 /// Why no answer was told.
 #[derive(Clone, Copy, Debug, PartialEq, Eq, Hash, Error)]
 pub enum RunFault {
-    /// An input could not be opened or read to its end, or has more than [`MAX_INPUT_BYTES`] bytes.
+    /// An input could not be opened or read to its end, or has more bytes than [`MAX_CAPTURE_INPUT_BYTES`], for a capture, or
+    /// [`MAX_TEXT_INPUT_BYTES`], for a text.
     #[error("read")]
     Read,
     /// The output did not take the whole text.
@@ -89,19 +95,24 @@ fn status_of(verdict: Verdict) -> Status
     }
 }
 
-/// The whole of an input of at most [`MAX_INPUT_BYTES`] bytes.
-pub(crate) fn input_bytes<R: Input>(alloc: Global, input: &mut R) -> Result<Vec<u8>, RunFault>
+/// The whole of an input of at most `limit` bytes.
+pub(crate) fn input_bytes<R: Input>(
+    alloc: Global,
+    input: &mut R,
+    limit: usize,
+) -> Result<Vec<u8>, RunFault>
+    requires readable { limit ≤ MAX_READ_LIMIT }
     requires unfailed { R.has_failed input.old ≡ false }
     requires uninterrupted { R.was_interrupted input.old ≡ false }
     ensures bytes { IfOk result (λ v. IfSome (R.remaining input.old) (λ bytes. v.items ≡ bytes)) }
-    ensures within { IfOk result (λ v. vec_len v ≤ MAX_INPUT_BYTES) }
+    ensures within { IfOk result (λ v. vec_len v ≤ limit) }
     ensures end { OnOk result (IsAtEnd (R.remaining input.new)) }
     ensures read { IsErrOf result RunFault.Read →
-        IsUnread (R.remaining input.old) (R.has_failed input.new) (R.was_interrupted input.new) }
+        IsUnread limit (R.remaining input.old) (R.has_failed input.new) (R.was_interrupted input.new) }
     ensures failed { R.has_failed input.new ≡ true → IsErrOf result RunFault.Read }
     ensures write { IsErrOf result RunFault.Write → ⊥ }
 {
-    Ok(read_all(alloc, input, MAX_INPUT_BYTES)?)
+    Ok(read_all(alloc, input, limit)?)
 }
 
 /// The line that tells an answer of [`audit`], without a line feed, and its status. The code of a verdict is one that has a text, as
@@ -170,16 +181,16 @@ fn run_on_empty_root<R: Input, W: Output>(
     ensures end { OnOk result (IsAtEnd (R.remaining capture.new) × IsAtEnd (R.remaining order.new)) }
     ensures capture_first { R.has_failed capture.new ≡ true → order.new ≡ order.old }
     ensures read { IsErrOf result RunFault.Read →
-        IsUnread (R.remaining capture.old) (R.has_failed capture.new) (R.was_interrupted capture.new)
-        ⊎ IsUnread (R.remaining order.old) (R.has_failed order.new) (R.was_interrupted order.new) }
+        IsUnread MAX_CAPTURE_INPUT_BYTES (R.remaining capture.old) (R.has_failed capture.new) (R.was_interrupted capture.new)
+        ⊎ IsUnread MAX_TEXT_INPUT_BYTES (R.remaining order.old) (R.has_failed order.new) (R.was_interrupted order.new) }
     ensures failed { (R.has_failed capture.new ≡ true) ⊎ (R.has_failed order.new ≡ true) →
         IsErrOf result RunFault.Read }
     ensures write { IsErrOf result RunFault.Write ↔ (W.is_broken out.new ≡ true) }
     ensures unread { IsErrOf result RunFault.Read → Keeps (W.written out.old) (W.written out.new) }
     ensures refused { IsErrOf result RunFault.Memory → Keeps (W.written out.old) (W.written out.new) }
 {
-    let capture = input_bytes(alloc, capture)?;
-    let order = input_bytes(alloc, order)?;
+    let capture = input_bytes(alloc, capture, MAX_CAPTURE_INPUT_BYTES)?;
+    let order = input_bytes(alloc, order, MAX_TEXT_INPUT_BYTES)?;
     tell(alloc, audit(alloc, &capture, None, &order), out)
 }
 
@@ -204,18 +215,18 @@ fn run_on_tree<R: Input, W: Output>(
     ensures capture_first { R.has_failed capture.new ≡ true → (tree.new ≡ tree.old) × (order.new ≡ order.old) }
     ensures tree_first { R.has_failed tree.new ≡ true → order.new ≡ order.old }
     ensures read { IsErrOf result RunFault.Read →
-        IsUnread (R.remaining capture.old) (R.has_failed capture.new) (R.was_interrupted capture.new)
-        ⊎ IsUnread (R.remaining tree.old) (R.has_failed tree.new) (R.was_interrupted tree.new)
-        ⊎ IsUnread (R.remaining order.old) (R.has_failed order.new) (R.was_interrupted order.new) }
+        IsUnread MAX_CAPTURE_INPUT_BYTES (R.remaining capture.old) (R.has_failed capture.new) (R.was_interrupted capture.new)
+        ⊎ IsUnread MAX_TEXT_INPUT_BYTES (R.remaining tree.old) (R.has_failed tree.new) (R.was_interrupted tree.new)
+        ⊎ IsUnread MAX_TEXT_INPUT_BYTES (R.remaining order.old) (R.has_failed order.new) (R.was_interrupted order.new) }
     ensures failed { (R.has_failed capture.new ≡ true) ⊎ (R.has_failed tree.new ≡ true) ⊎ (R.has_failed order.new ≡ true) →
         IsErrOf result RunFault.Read }
     ensures write { IsErrOf result RunFault.Write ↔ (W.is_broken out.new ≡ true) }
     ensures unread { IsErrOf result RunFault.Read → Keeps (W.written out.old) (W.written out.new) }
     ensures refused { IsErrOf result RunFault.Memory → Keeps (W.written out.old) (W.written out.new) }
 {
-    let capture = input_bytes(alloc, capture)?;
-    let tree = input_bytes(alloc, tree)?;
-    let order = input_bytes(alloc, order)?;
+    let capture = input_bytes(alloc, capture, MAX_CAPTURE_INPUT_BYTES)?;
+    let tree = input_bytes(alloc, tree, MAX_TEXT_INPUT_BYTES)?;
+    let order = input_bytes(alloc, order, MAX_TEXT_INPUT_BYTES)?;
     tell(alloc, audit(alloc, &capture, Some(&tree), &order), out)
 }
 
@@ -231,7 +242,8 @@ fn run_on_tree<R: Input, W: Output>(
 ///
 /// # Errors
 ///
-/// - [`RunFault::Read`] where an input failed, did not come to its end, or has more than [`MAX_INPUT_BYTES`] bytes.
+/// - [`RunFault::Read`] where an input failed, did not come to its end, or has too many bytes: a capture more than
+///   [`MAX_CAPTURE_INPUT_BYTES`], a text more than [`MAX_TEXT_INPUT_BYTES`].
 /// - [`RunFault::Write`] where the output did not take the whole line.
 /// - [`RunFault::Memory`] where memory was refused.
 ///
@@ -268,10 +280,10 @@ pub fn run<R: Input, W: Output>(
 
     // When each fault comes.
     ensures read { IsErrOf result RunFault.Read →
-        IsUnread (R.remaining capture.old) (R.has_failed capture.new)
+        IsUnread MAX_CAPTURE_INPUT_BYTES (R.remaining capture.old) (R.has_failed capture.new)
         (R.was_interrupted capture.new)
-        ⊎ IsHandedIn tree.entry tree.exit (λ old new. IsUnread (R.remaining old) (R.has_failed new) (R.was_interrupted new))
-        ⊎ IsUnread (R.remaining order.old) (R.has_failed order.new)
+        ⊎ IsHandedIn tree.entry tree.exit (λ old new. IsUnread MAX_TEXT_INPUT_BYTES (R.remaining old) (R.has_failed new) (R.was_interrupted new))
+        ⊎ IsUnread MAX_TEXT_INPUT_BYTES (R.remaining order.old) (R.has_failed order.new)
         (R.was_interrupted order.new) }
     ensures failed { (R.has_failed capture.new ≡ true) ⊎ IsHandedIn tree.entry tree.exit (λ old new. R.has_failed new ≡ true)
         ⊎ (R.has_failed order.new ≡ true) → IsErrOf result RunFault.Read }

@@ -7,7 +7,7 @@ ghost use Rattle.fa_order.specs.declared.lines.TheConstants.{MAX_TEXT_BYTES};
 ghost use Rattle.fa_audit.specs.Status.{status_number};
 ghost use Rattle.fa_audit_c.specs.Told.{IsAnswered, IsToldInto, text_if};
 
-use fa_audit::{MAX_INPUT_BYTES, RunFault, Status, audit, line_and_status};
+use fa_audit::{MAX_CAPTURE_INPUT_BYTES, RunFault, Status, audit, line_and_status};
 use fa_order::MAX_TEXT_BYTES;
 use std::alloc::Global;
 
@@ -15,7 +15,8 @@ use std::alloc::Global;
 ///
 /// The tree text is `tree` where `has_tree` is true; else the tree is an empty root. The line of the answer, without a line feed, is
 /// written to the front of `line`, as much as there is room for, and `size` is the size of the whole line; 128 bytes have room for each.
-/// The status is 5, the size 0 and `line` as it was, where memory was refused or one of these has more than 268,435,456 bytes.
+/// The status is 5, the size 0 and `line` as it was, where memory was refused, or the capture has more than 402,653,184 bytes or a text
+/// more than 268,435,456.
 ///
 /// # Cost
 ///
@@ -37,7 +38,7 @@ pub extern "C" fn fa_audit_check(
 {
     *size = 0;
     let tree_length = if has_tree { tree.len() } else { 0 };
-    if capture.len() > MAX_INPUT_BYTES
+    if capture.len() > MAX_CAPTURE_INPUT_BYTES
         || tree_length > MAX_TEXT_BYTES
         || order.len() > MAX_TEXT_BYTES
     {

@@ -8,8 +8,9 @@ use Rattle.fa_audit_program.specs.declared.command_line.CheckPaths.{CheckPaths}
 use Rattle.fa_audit_program.specs.declared.command_line.ProposePaths.{ProposePaths}
 use Rattle.fa_audit_program.specs.declared.command_line.CutPaths.{CutPaths}
 use Rattle.fa_audit_program.specs.declared.command_line.FrontPaths.{FrontPaths}
+use Rattle.fa_audit_program.specs.declared.command_line.MigratePaths.{MigratePaths}
 use Rattle.fa_audit_program.specs.declared.command_line.Call.{Call}
-use Rattle.fa_audit_program.specs.declared.command_line.Call.TheVariants.{Check, Propose, Cut, Front}
+use Rattle.fa_audit_program.specs.declared.command_line.Call.TheVariants.{Check, Propose, Cut, Front, Migrate}
 
 -- the value of an option of the command that the words call
 abbrev pub value_of : ArgMatches → List ℕ → Option (List ℕ)
@@ -49,12 +50,18 @@ pub record IsFrontCallOf (matches : ArgMatches) (paths : FrontPaths) : Type 0 wh
   pub capture_is : value_of matches (codes "capture") ≡ Some paths.capture.now
   pub at_is : IsNumberOf matches (codes "at") paths.at
 
+-- the words call `migrate` with this file
+pub record IsMigrateCallOf (matches : ArgMatches) (paths : MigratePaths) : Type 0 where
+  pub command : subcommand_name_of matches ≡ Some (codes "migrate")
+  pub capture_is : value_of matches (codes "capture") ≡ Some paths.capture.now
+
 -- the words are this call
 abbrev pub IsCallOf : ArgMatches → Call → Type 0
 IsCallOf matches (Check paths) = IsCheckOf matches paths
 IsCallOf matches (Propose paths) = IsProposeOf matches paths
 IsCallOf matches (Cut paths) = IsCutOf matches paths
 IsCallOf matches (Front paths) = IsFrontCallOf matches paths
+IsCallOf matches (Migrate paths) = IsMigrateCallOf matches paths
 
 -- the words do not call `check` with all that it needs
 abbrev pub IsNoCheck : ArgMatches → Type 0
@@ -76,3 +83,7 @@ abbrev pub IsNoFrontCall : ArgMatches → Type 0
 IsNoFrontCall matches =
     (subcommand_name_of matches ≢ Some (codes "front")) ⊎ (value_of matches (codes "capture") ≡ None)
     ⊎ ((number : ℕ) → IsNumberOf matches (codes "at") number → ⊥)
+
+-- the words do not call `migrate` with all that it needs
+abbrev pub IsNoMigrateCall : ArgMatches → Type 0
+IsNoMigrateCall matches = (subcommand_name_of matches ≢ Some (codes "migrate")) ⊎ (value_of matches (codes "capture") ≡ None)

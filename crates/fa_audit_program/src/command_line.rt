@@ -1,7 +1,7 @@
 //! The words of the command line.
 
 ghost use Rattle.std.specs.Prelude.{ℕ, IfSome, IsNone};
-ghost use Rattle.fa_audit_program.specs.CommandLine.{IsCheckOf, IsProposeOf, IsCutOf, IsFrontCallOf, IsCallOf, IsNumberText, IsNoCheck, IsNoPropose, IsNoCutCall, IsNoFrontCall};
+ghost use Rattle.fa_audit_program.specs.CommandLine.{IsCheckOf, IsProposeOf, IsCutOf, IsFrontCallOf, IsMigrateCallOf, IsCallOf, IsNumberText, IsNoCheck, IsNoPropose, IsNoCutCall, IsNoFrontCall, IsNoMigrateCall};
 
 use clap::{Arg, ArgAction, ArgMatches, Command, value_parser};
 use fa_capture::limits::MAX_MESSAGES;
@@ -15,6 +15,8 @@ const PROPOSE: &str = "propose";
 const CUT: &str = "cut";
 /// The command that cuts a capture.
 const FRONT: &str = "front";
+/// The command that migrates a capture.
+const MIGRATE: &str = "migrate";
 /// The option that names the capture.
 const CAPTURE: &str = "capture";
 /// The option that names the tree text.
@@ -115,6 +117,25 @@ impl<'a> FrontPaths<'a> {
     }
 }
 
+/// The file of a call of `migrate`.
+#[derive(Clone, Copy, Debug)]
+pub struct MigratePaths<'a> {
+    pub capture: &'a str,
+}
+
+impl<'a> MigratePaths<'a> {
+    /// What a parse by [`command`] found; there is nothing only where the words were no call of `migrate`.
+    pub fn new(matches: &ArgMatches<'a>) -> Option<Self>
+        ensures found { IfSome result (IsMigrateCallOf matches.now) }
+        ensures none { IsNone result → IsNoMigrateCall matches.now }
+    {
+        let options = matches.subcommand_matches(MIGRATE)?;
+        Some(MigratePaths {
+            capture: options.get_str(CAPTURE)?,
+        })
+    }
+}
+
 /// The number that a text is in decimal digits.
 fn number(text: &str) -> Option<u32>
     ensures found { IfSome result (IsNumberText text.now) }
@@ -134,13 +155,16 @@ pub enum Call<'a> {
     Cut(CutPaths<'a>),
     /// A capture is cut at a message.
     Front(FrontPaths<'a>),
+    /// A capture is written anew with times.
+    Migrate(MigratePaths<'a>),
 }
 
 impl<'a> Call<'a> {
     /// The call that a parse by [`command`] found; there is none only where the words were no call.
     pub fn new(matches: &ArgMatches<'a>) -> Option<Self>
         ensures found { IfSome result (IsCallOf matches.now) }
-        ensures none { IsNone result → IsNoCheck matches.now × IsNoPropose matches.now × IsNoCutCall matches.now × IsNoFrontCall matches.now }
+        ensures none { IsNone result →
+            IsNoCheck matches.now × IsNoPropose matches.now × IsNoCutCall matches.now × IsNoFrontCall matches.now × IsNoMigrateCall matches.now }
     {
         if let Some(paths) = CheckPaths::new(matches) {
             return Some(Call::Check(paths));
@@ -151,12 +175,15 @@ impl<'a> Call<'a> {
         if let Some(paths) = CutPaths::new(matches) {
             return Some(Call::Cut(paths));
         }
-        Some(Call::Front(FrontPaths::new(matches)?))
+        if let Some(paths) = FrontPaths::new(matches) {
+            return Some(Call::Front(paths));
+        }
+        Some(Call::Migrate(MigratePaths::new(matches)?))
     }
 }
 
 /// The command line: `fa_audit check --capture FILE [--tree FILE] --order FILE`, `fa_audit propose --capture FILE [--tree FILE]`,
-/// `fa_audit cut --capture FILE --order FILE --at N` or `fa_audit front --capture FILE --at N`.
+/// `fa_audit cut --capture FILE --order FILE --at N`, `fa_audit front --capture FILE --at N` or `fa_audit migrate --capture FILE`.
 pub fn command<'a>(alloc: Global) -> Result<Command<'a>, AllocError> {
     let order = path_option(alloc, ORDER).help("The order text that is to explain it");
     let check = Command::new(alloc, CHECK)
@@ -178,6 +205,9 @@ pub fn command<'a>(alloc: Global) -> Result<Command<'a>, AllocError> {
         .about("Writes the capture of the messages before a message")
         .arg(capture_option(alloc))?
         .arg(at_option(alloc))?;
+    let migrate = Command::new(alloc, MIGRATE)
+        .about("Writes a capture anew in the format that has times")
+        .arg(capture_option(alloc))?;
     Command::new(alloc, "fa_audit")
         .bin_name("fa_audit")?
         .about("Audits recorded /dev/fuse traffic")
@@ -185,7 +215,8 @@ pub fn command<'a>(alloc: Global) -> Result<Command<'a>, AllocError> {
         .subcommand(check)?
         .subcommand(propose)?
         .subcommand(cut)?
-        .subcommand(front)
+        .subcommand(front)?
+        .subcommand(migrate)
 }
 
 /// The option that names the capture.

@@ -4,7 +4,7 @@
 //! capture. `fa_audit propose --capture FILE [--tree FILE]` writes the text of an order that may explain it to standard output, or
 //! the line of the fault where the capture has one or the tree text is not in its grammar. `fa_audit cut --capture FILE --order FILE
 //! --at N` writes what is left of the order for the messages before message N, and `fa_audit front --capture FILE --at N` the capture of
-//! these messages.
+//! these messages. `fa_audit migrate --capture FILE` writes a capture anew in the format that has times.
 //!
 //! Each ends with the status 0 where the verdict is legal or an order or a capture is written, 1 at a fault of the capture, 2 where the
 //! order is not shown to explain the capture, 3 where the tree text or the order text is not in its grammar, 4 where the command line
@@ -17,9 +17,9 @@ ghost use Rattle.fa_capture.specs.Device.{device_failed, device_interrupted};
 mod command_line;
 mod failure;
 
-use crate::command_line::{Call, CheckPaths, CutPaths, FrontPaths, ProposePaths};
+use crate::command_line::{Call, CheckPaths, CutPaths, FrontPaths, MigratePaths, ProposePaths};
 use crate::failure::Failure;
-use fa_audit::{RunFault, run, run_cut, run_front, run_propose};
+use fa_audit::{RunFault, run, run_cut, run_front, run_migrate, run_propose};
 use fa_capture::Device;
 use std::env::Env;
 use std::fs::File;
@@ -48,6 +48,7 @@ fn call<R: AllocGlobal + Env + Files + Print>(rt: &R) -> Result<u8, Failure> {
         Call::Propose(paths) => Ok(propose(rt, &paths)?),
         Call::Cut(paths) => Ok(cut(rt, &paths)?),
         Call::Front(paths) => Ok(front(rt, &paths)?),
+        Call::Migrate(paths) => Ok(migrate(rt, &paths)?),
     }
 }
 
@@ -90,6 +91,16 @@ fn front<R: AllocGlobal + Files + Print>(rt: &R, paths: &FrontPaths<'_>) -> Resu
     let mut capture = open(rt, paths.capture)?;
     let mut out = Device::new(io::writer(rt));
     run_front(rt.alloc(), &mut capture, paths.at, &mut out)
+}
+
+/// Runs a call of `migrate`: its status.
+fn migrate<R: AllocGlobal + Files + Print>(
+    rt: &R,
+    paths: &MigratePaths<'_>,
+) -> Result<u8, RunFault> {
+    let mut capture = open(rt, paths.capture)?;
+    let mut out = Device::new(io::writer(rt));
+    run_migrate(rt.alloc(), &mut capture, &mut out)
 }
 
 /// The words of the command line, with the program's name first.

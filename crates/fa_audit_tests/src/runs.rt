@@ -4,7 +4,7 @@ ghost use Rattle.std.specs.Prelude.{◌≡◌, false, IfSome};
 ghost use Rattle.fa_capture.specs.Device.{device_failed, device_interrupted};
 
 use crate::answers::{NO_ORDER, NO_TREE, NONE, ROOT, SECOND, not_found};
-use fa_audit::{RunFault, run, run_cut, run_front, run_propose};
+use fa_audit::{RunFault, run, run_cut, run_front, run_migrate, run_propose};
 use fa_capture::{Device, Output};
 use std::alloc::Global;
 
@@ -103,6 +103,43 @@ fn holds(alloc: Global, capture: &[u8], row: &Row) -> Option<bool> {
     match answer {
         Ok(answer) => Some(answer == *status && written.as_slice() == *expected),
         Err(_) => None,
+    }
+}
+
+/// A capture, the status of its migration, and what that writes.
+static MIGRATED: [(&[u8], u8, &[u8]); 3] = [
+    (
+        b"FUSECAP1\x01\x01\x00\x00\x00a",
+        0,
+        b"FUSECAP2\x01\x00\x00\x00\x00\x00\x00\x00\x00\x01\x00\x00\x00a",
+    ),
+    (b"FUSECAP2", 0, b"FUSECAP2"),
+    (
+        b"FUSECAP1\x02",
+        1,
+        b"fault: message 0: code 3: direction byte\n",
+    ),
+];
+
+/// What is written where a capture is migrated, with the status. None where memory was refused.
+fn migration(alloc: Global, capture: &[u8]) -> Option<(u8, Vec<u8>)> {
+    let mut written = Vec::new(alloc);
+    let status = run_migrate(
+        alloc,
+        &mut Device::new(capture),
+        &mut Device::new(&mut written),
+    );
+    Some((status.ok()?, written))
+}
+
+#[test]
+fn migrations_over_memory(rt: HostRuntime) {
+    for (capture, status, text) in &MIGRATED {
+        let (answer, written) = migration(rt.alloc(), capture).expect(&rt, "memory");
+        assert!(rt;
+            answer == *status && written.as_slice() == *text,
+            "{capture:?}"
+        );
     }
 }
 

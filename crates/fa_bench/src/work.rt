@@ -2,7 +2,7 @@
 
 use crate::volume::Volume;
 use anyhow::{Result, bail};
-use fa_audit::{MAX_INPUT_BYTES, StartError, audit, proposal, verdict_text};
+use fa_audit::{MAX_TEXT_INPUT_BYTES, StartError, audit, proposal, verdict_text};
 
 /// How far a job goes.
 #[derive(Clone, Copy)]
@@ -52,7 +52,7 @@ fn judge<R: AllocGlobal + Print>(
 ) -> Result<()> {
     let alloc = rt.alloc();
     if let Some(text) = tree {
-        if text.len() > MAX_INPUT_BYTES {
+        if text.len() > MAX_TEXT_INPUT_BYTES {
             bail!("the tree text is too long");
         }
     }
@@ -61,7 +61,7 @@ fn judge<R: AllocGlobal + Print>(
         Err(StartError::Fault { .. }) => Vec::new(alloc),
         Err(_) => bail!("no order"),
     };
-    if order.len() > MAX_INPUT_BYTES {
+    if order.len() > MAX_TEXT_INPUT_BYTES {
         bail!("the order text is too long");
     }
     let Ok(verdict) = audit(alloc, capture, tree, order.as_slice()) else {

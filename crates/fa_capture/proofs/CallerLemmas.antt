@@ -4,6 +4,14 @@
 pub use Rattle.fa_capture.proofs.ChecksLemmas.{no_failure, one_failure, checks_either, fails_first, fails_behind, hold_both, hold_later, hold_front, lifted_failure, lifted_hold, HaveNot, not_told}
 -- two readings of the same bytes agree
 pub use Rattle.fa_capture.proofs.ReadingLemmas.{one_reading_lem as one_reading}
+-- bytes that do not begin as a capture hold no record
+pub use Rattle.fa_capture.proofs.ReadingLemmas.{reads_without}
+-- what a walk over a capture has read is the front of what it holds
+pub use Rattle.fa_capture.proofs.FrontLemmas.{walked_messages}
+-- as many messages as records, and one record more
+pub use Rattle.fa_capture.proofs.ReadingLemmas.{records_length, messages_on}
+-- a migrated capture and the one that it was made of hold the same messages
+pub use Rattle.fa_capture.proofs.MigrateLemmas.{migrated_reads, reads_migrated}
 -- bytes have a reading
 pub use Rattle.fa_capture.proofs.ReadingThereLemmas.{reading_is_there}
 -- packets are as many as their messages

@@ -5,4 +5,6 @@ pub mod ReadingLemmas
 pub mod ReadingThereLemmas
 pub mod PullLemmas
 pub mod FrontLemmas
+pub mod MigrateLemmas
+pub mod TimeLemmas
 pub mod ListLemmas

@@ -6,7 +6,7 @@ use Rattle.std.specs.Map.{lookup}
 -- tied to its number by its text.
 abbrev pub table : List (ℕ × List ℕ)
 table =
-    (1, codes "no FUSECAP1 at the start")
+    (1, codes "no FUSECAP1 or FUSECAP2 at the start")
     ∷ (2, codes "record cut off")
     ∷ (3, codes "direction byte")
     ∷ (4, codes "message too long")

@@ -6,7 +6,7 @@
 ghost use Rattle.std.specs.Prelude.{◌≡◌, option_map};
 ghost use Rattle.fa_capture.specs.Codes.{text_of};
 
-/// no FUSECAP1 at the start
+/// no FUSECAP1 or FUSECAP2 at the start
 pub const NO_MAGIC: u16 = 1;
 /// record cut off
 pub const CUT_OFF: u16 = 2;
@@ -105,7 +105,7 @@ pub fn text(code: u16) -> Option<&'static str>
     ensures { option_map (λ text. text.now) result ≡ text_of code }
 {
     let text = match code {
-        NO_MAGIC => "no FUSECAP1 at the start",
+        NO_MAGIC => "no FUSECAP1 or FUSECAP2 at the start",
         CUT_OFF => "record cut off",
         DIRECTION => "direction byte",
         MESSAGE_TOO_LONG => "message too long",

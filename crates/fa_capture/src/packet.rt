@@ -13,5 +13,7 @@ pub enum Direction {
 #[derive(Clone, Copy, Debug)]
 pub struct Packet<'a> {
     pub direction: Direction,
+    /// The time in its record, in nanoseconds; 0 where that is not known, as in a capture without times. No verdict looks at it.
+    pub time: u64,
     pub bytes: &'a [u8],
 }

@@ -81,6 +81,7 @@ fn asked_in<'a>(bytes: &'a [u8]) -> Request<'a>
 {
     let packet = Packet {
         direction: Direction::ToServer,
+        time: 0,
         bytes,
     };
     request(&packet).unwrap()
@@ -97,6 +98,7 @@ fn answer_in<'a>(asked: &Request<'_>, bytes: &'a [u8]) -> Option<Reply<'a>>
     }
     let packet = Packet {
         direction: Direction::FromServer,
+        time: 0,
         bytes,
     };
     Some(known_reply(asked, &packet))

@@ -12,6 +12,7 @@ pub const MISREAD: u16 = 999;
 pub fn to_server(bytes: &[u8]) -> Packet<'_> {
     Packet {
         direction: Direction::ToServer,
+        time: 0,
         bytes,
     }
 }
@@ -20,6 +21,7 @@ pub fn to_server(bytes: &[u8]) -> Packet<'_> {
 pub fn from_server(bytes: &[u8]) -> Packet<'_> {
     Packet {
         direction: Direction::FromServer,
+        time: 0,
         bytes,
     }
 }

@@ -47,6 +47,7 @@ impl<'a> Waiting<'a> {
     {
         let packet = Packet {
             direction: Direction::ToServer,
+            time: 0,
             bytes: self.bytes,
         };
         RequestMessage {

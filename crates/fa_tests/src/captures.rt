@@ -1,6 +1,6 @@
 //! Captures as bytes, and the codes.
 
-use fa_capture::{codes, read_capture};
+use fa_capture::{MigrateError, codes, migrate, read_capture};
 use std::alloc::Global;
 
 /// INIT, its answer, LOOKUP of `a` on the root, and ENOENT.
@@ -36,10 +36,10 @@ fn ending(alloc: Global, bytes: &[u8]) -> Option<Ending> {
     }
 }
 
-static ENDINGS: [(&[u8], Ending); 15] = [
+static ENDINGS: [(&[u8], Ending); 23] = [
     (b"", (0, 1)),
     (b"FUSECAP", (0, 1)),
-    (b"FUSECAP2", (0, 1)),
+    (b"FUSECAP3", (0, 1)),
     (b"fUSECAP1\x00\x00\x00\x00\x00", (0, 1)),
     (b"\nFUSECAP1", (0, 1)),
     (b"FUSECAP1", (0, 0)),
@@ -54,6 +54,31 @@ static ENDINGS: [(&[u8], Ending); 15] = [
     (b"FUSECAP1\x00\xff\xff\xff\xff", (0, 4)),
     (b"FUSECAP1\x00\x02\x00\x00\x00a", (0, 2)),
     (b"FUSECAP1\x00\x01\x00\x00\x00a\x02", (1, 3)),
+    // The same with times, which may fall: seven of their bytes are too few, and so are three of a length.
+    (b"FUSECAP2", (0, 0)),
+    (
+        b"FUSECAP2\x00\x09\x00\x00\x00\x00\x00\x00\x00\x00\x00\x00\x00\
+\x01\x08\x00\x00\x00\x00\x00\x00\x00\x01\x00\x00\x00a",
+        (2, 0),
+    ),
+    (b"FUSECAP2\x02", (0, 3)),
+    (b"FUSECAP2\x01\x10\x00\x00\x00\x00\x00\x00", (0, 2)),
+    (
+        b"FUSECAP2\x00\x00\x00\x00\x00\x00\x00\x00\x00\x00\x00\x20",
+        (0, 2),
+    ),
+    (
+        b"FUSECAP2\x00\x00\x00\x00\x00\x00\x00\x00\x00\x00\x00\x20\x00",
+        (0, 2),
+    ),
+    (
+        b"FUSECAP2\x00\x00\x00\x00\x00\x00\x00\x00\x00\x01\x00\x20\x00",
+        (0, 4),
+    ),
+    (
+        b"FUSECAP2\x00\xff\xff\xff\xff\xff\xff\xff\xff\x01\x00\x00\x00a\x02",
+        (1, 3),
+    ),
 ];
 
 #[test]
@@ -106,9 +131,78 @@ fn a_record_that_fails_a_check(rt: HostRuntime) {
     }
 }
 
+/// Adds a record of the first capture, with the time 0 behind its direction.
+fn add_timed(bytes: &mut Vec<u8>, record: &[u8]) -> Option<()> {
+    let (direction, behind) = record.split_first()?;
+    bytes.push(*direction).ok()?;
+    bytes.extend_from_slice(&[0; 8]).ok()?;
+    bytes.extend_from_slice(behind).ok()
+}
+
+/// The first capture with times, all of them 0: the magic, and eight bytes more in each of its four records.
+fn first_with_times(alloc: Global) -> Option<Vec<u8>> {
+    let mut bytes = Vec::from_slice(alloc, b"FUSECAP2").ok()?;
+    add_timed(&mut bytes, &FIRST[8..69])?;
+    add_timed(&mut bytes, &FIRST[69..154])?;
+    add_timed(&mut bytes, &FIRST[154..201])?;
+    add_timed(&mut bytes, &FIRST[201..222])?;
+    Some(bytes)
+}
+
+/// What a capture is migrated to: the bytes, or the number and the code of the fault that stands in its way. None where memory was
+/// refused.
+fn migrated(alloc: Global, bytes: &[u8]) -> Option<Result<Vec<u8>, (u32, u16)>> {
+    match migrate(alloc, bytes) {
+        Ok(written) => Some(Ok(written)),
+        Err(MigrateError::Fault(fault)) => Some(Err((fault.whole, fault.code))),
+        Err(MigrateError::Memory) => None,
+    }
+}
+
+#[test]
+fn migrated_captures(rt: HostRuntime) {
+    let alloc = rt.alloc();
+    let timed = first_with_times(alloc).expect(&rt, "memory");
+    assert_eq!(rt; timed.len(), 254);
+    assert!(rt; timed.starts_with(b"FUSECAP2\x00\x00\x00\x00\x00\x00\x00\x00\x00\x38\x00\x00\x00"));
+    let written = migrate(alloc, &FIRST).ok().expect(&rt, "no fault");
+    assert!(rt; written == timed);
+    // One with times comes out as it is, whatever they are.
+    let mut later = timed;
+    if let Some(place) = later.get_mut(9) {
+        *place = 7;
+    }
+    let written = migrate(alloc, &later).ok().expect(&rt, "no fault");
+    assert!(rt; written == later);
+    // The faults are those of the reader.
+    for (bytes, (count, code)) in &ENDINGS {
+        let answer = migrated(alloc, bytes).expect(&rt, "memory");
+        assert_eq!(rt; answer.is_ok(), *code == 0, "{bytes:?}");
+        if let Err((at, told)) = answer {
+            assert_eq!(rt; (at as usize, told), (*count, *code), "{bytes:?}");
+        }
+    }
+}
+
+#[test]
+fn times_are_read(rt: HostRuntime) {
+    let bytes = b"FUSECAP2\x00\x01\x02\x00\x00\x00\x00\x00\x00\x00\x00\x00\x00\
+\x01\x00\x00\x00\x00\x00\x00\x00\x80\x00\x00\x00\x00";
+    let capture = read_capture(rt.alloc(), bytes).expect(&rt, "memory");
+    assert!(rt;
+        capture
+            .packets
+            .iter()
+            .map(|packet| packet.time)
+            .eq([0x201, 0x8000_0000_0000_0000])
+    );
+    let capture = read_capture(rt.alloc(), &FIRST).expect(&rt, "memory");
+    assert!(rt; capture.packets.iter().all(|packet| packet.time == 0));
+}
+
 /// Each code with its text, as the documents have them.
 static TABLE: [(u16, &str); 42] = [
-    (1, "no FUSECAP1 at the start"),
+    (1, "no FUSECAP1 or FUSECAP2 at the start"),
     (2, "record cut off"),
     (3, "direction byte"),
     (4, "message too long"),

@@ -47,5 +47,9 @@ pub const INIT_ANSWER: &[(usize, u8)] = &[(0, 40), (8, 1), (16, 7), (20, 31)];
 
 /// A message in this direction.
 pub fn packet(direction: Direction, bytes: &[u8]) -> Packet<'_> {
-    Packet { direction, bytes }
+    Packet {
+        direction,
+        time: 0,
+        bytes,
+    }
 }

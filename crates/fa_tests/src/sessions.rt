@@ -309,7 +309,11 @@ fn readlinks() -> [[u8; 40]; 100] {
 
 /// A message in this direction.
 fn packet(direction: Direction, bytes: &[u8]) -> Packet<'_> {
-    Packet { direction, bytes }
+    Packet {
+        direction,
+        time: 0,
+        bytes,
+    }
 }
 
 /// The session alone takes memory here. An ordinary run has ample memory, so only a run by

@@ -52,6 +52,7 @@ impl ManyPages {
     }
 
     /// How many near the beginning there are.
+    #[inline(always)]
     pub fn near_len(&self) -> usize
         ensures { result ≡ length self.now.near }
     {
@@ -59,6 +60,7 @@ impl ManyPages {
     }
 
     /// The page at a place, if it is there. Constant time near the beginning, else in the logarithm of the far pages that are there.
+    #[inline(always)]
     pub fn get(&self, place: usize) -> Option<&Page>
         ensures { unwrap_or (option_copied result) [] ≡ page_of self.now place }
     {
@@ -78,6 +80,7 @@ impl ManyPages {
     }
 
     /// Makes the page at a place store so many bytes at least, as `Pages::store` does.
+    #[inline(always)]
     pub fn store(&mut self, alloc: Global, place: usize, size: usize) -> Result<(), AllocError>
         requires there { place < 4096 → place < length self.old.near }
         requires fits { size ≤ 4096 }
@@ -93,6 +96,7 @@ impl ManyPages {
     }
 
     /// Puts these bytes at this place of the page at a place, as `Pages::put` does.
+    #[inline(always)]
     pub fn put(&mut self, place: usize, at: usize, part: &[u8])
         requires { at + length part.now ≤ length (page_of self.old place) }
         ensures { IsSet (page_of self.new) (page_of self.old) place (with_part (page_of self.old place) at part.now) }
@@ -106,6 +110,7 @@ impl ManyPages {
     }
 
     /// Makes the page at a place store so many bytes at most, as `Pages::cut` does.
+    #[inline(always)]
     pub fn cut(&mut self, place: usize, size: usize)
         ensures { IsSet (page_of self.new) (page_of self.old) place (take size (page_of self.old place)) }
     {

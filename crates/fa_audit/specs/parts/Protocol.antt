@@ -8,13 +8,11 @@ use Rattle.fa_session.specs.Plain.{PlainSession}
 use Rattle.fa_session.specs.Shows as sessions
 use Rattle.fa_ledger.specs.declared.error.LedgerError.{LedgerError}
 use Rattle.fa_ledger.specs.declared.error.LedgerError.TheVariants as ledger
-use Rattle.fa_ledger.specs.Passing.{message_checks, IsMessageFault}
+use Rattle.fa_ledger.specs.Passing.{message_checks}
 use Rattle.fa_ledger.specs.Plain.{PlainLedger}
 use Rattle.fa_ledger.specs.Shows as ledgers
 use Rattle.fa_audit.specs.declared.protocol.MessageError.{MessageError}
 use Rattle.fa_audit.specs.declared.protocol.MessageError.TheVariants.{Refused, Memory}
-use Rattle.fa_audit.specs.declared.protocol.Broken.{Broken}
-use Rattle.fa_audit.specs.declared.protocol.Broken.TheVariants as broken
 
 -- the session and the ledger show these messages
 pub record ShowBoth (c : List Message) (s : PlainSession) (l : PlainLedger) : Type 0 where
@@ -35,8 +33,3 @@ ledger_refusal ledger.Memory = Memory
 abbrev pub IsRefusal : List Message → Message → MessageError → Type 0
 IsRefusal before m (Refused code) = FirstFailure (message_checks before m) code
 IsRefusal before m Memory = Unit {0}
-
--- where messages have no calls for a fault, it is their first
-abbrev pub IsBroken : List Message → Broken → Type 0
-IsBroken c (broken.Fault at code) = IsMessageFault c at code
-IsBroken c broken.Memory = Unit {0}

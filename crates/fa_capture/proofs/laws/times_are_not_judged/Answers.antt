@@ -1,0 +1,5 @@
+use Rattle.fa_capture.proofs.TimeLemmas.{times_are_not_judged}
+use Rattle.fa_capture.proofs.laws.times_are_not_judged.Goals as goal
+
+pub returns : goal.returns
+returns c = times_are_not_judged
