@@ -15,6 +15,7 @@ static const char usage[] =
     "usage: fuse-record [options] -o FILE -- SERVER WORDS..\n"
     "Starts SERVER and records its FUSE messages in FILE, and in FILE.log what it changed of them.\n"
     "  -o, --output FILE      the capture; its folder is not to be below the mount\n"
+    "  --plain                leaves out the time of each message: FILE begins with FUSECAP1 and not with FUSECAP2\n"
     "  --force                replaces FILE, FILE.log and FILE.tree of an earlier recording\n"
     "  --lower DIR            writes the tree text of DIR to FILE.tree before the server starts\n"
     "  --refuse NAME[,NAME]   answers these operations with ENOSYS in the server's place\n"
@@ -153,7 +154,8 @@ static void hold(int capture)
 static bool is_empty(int file)
 {
     char magic[sizeof FUSE_RECORD_MAGIC] = "";
-    return pread(file, magic, sizeof magic, 0) == sizeof magic - 1 && memcmp(magic, FUSE_RECORD_MAGIC, sizeof magic - 1) == 0;
+    return pread(file, magic, sizeof magic, 0) == sizeof magic - 1 &&
+           (memcmp(magic, FUSE_RECORD_MAGIC, sizeof magic - 1) == 0 || memcmp(magic, FUSE_RECORD_PLAIN_MAGIC, sizeof magic - 1) == 0);
 }
 
 /* Refuses to write over files of an earlier recording, unless it is forced to or that recorded no message. */
@@ -231,7 +233,8 @@ static void make_outputs(const char *lower, const sigset_t *before)
         keep(&outputs[i]);
     int capture = create(&outputs[CAPTURE]);
     hold(capture);
-    if (write(capture, FUSE_RECORD_MAGIC, sizeof FUSE_RECORD_MAGIC - 1) != sizeof FUSE_RECORD_MAGIC - 1)
+    const char *magic = fuse_record_setup.plain ? FUSE_RECORD_PLAIN_MAGIC : FUSE_RECORD_MAGIC;
+    if (write(capture, magic, strlen(magic)) != (ssize_t)strlen(magic))
         fail(FAILED, "%s: %s", outputs[CAPTURE].path, strerror(errno));
     create(&outputs[LOG]);
     if (lower)
@@ -329,27 +332,25 @@ static void count_answer(struct sum *sum, const struct fuse_out_header *header)
 static struct sum sum_up(void)
 {
     struct sum sum = {0};
-    struct {
-        unsigned char head[FUSE_RECORD_HEAD];
-        unsigned char message[sizeof(struct request)];
-    } record = {{0}, {0}};
+    const size_t head = fuse_record_head_size();
+    unsigned char record[FUSE_RECORD_HEAD + sizeof(struct request)] = {0};
     struct stat found;
     struct request request;
     struct fuse_out_header answer;
     off_t size = fstat(outputs[CAPTURE].file, &found) == 0 ? found.st_size : 0;
     off_t at = sizeof FUSE_RECORD_MAGIC - 1;
-    for (; pread(outputs[CAPTURE].file, &record, sizeof record, at) >= (ssize_t)sizeof record.head; sum.messages++) {
+    for (; pread(outputs[CAPTURE].file, record, head + sizeof request, at) >= (ssize_t)head; sum.messages++) {
         uint32_t stated;
-        memcpy(&stated, record.head + 1, sizeof stated);
+        memcpy(&stated, record + head - sizeof stated, sizeof stated);
         size_t length = le32toh(stated);
-        at += (off_t)(sizeof record.head + length);
+        at += (off_t)(head + length);
         if (at > size)
             break;
-        memcpy(&request, record.message, sizeof request);
-        memcpy(&answer, record.message, sizeof answer);
-        if (record.head[0] == FUSE_RECORD_READ && length >= sizeof request.header)
+        memcpy(&request, record + head, sizeof request);
+        memcpy(&answer, record + head, sizeof answer);
+        if (record[0] == FUSE_RECORD_READ && length >= sizeof request.header)
             count_request(&sum, &request);
-        else if (record.head[0] == FUSE_RECORD_WRITE && length >= sizeof answer)
+        else if (record[0] == FUSE_RECORD_WRITE && length >= sizeof answer)
             count_answer(&sum, &answer);
     }
     return sum;
@@ -576,9 +577,10 @@ static int follow(pid_t watcher, const sigset_t *signals)
 
 int main(int count, char **words)
 {
-    enum { LOWER = 256, REFUSE, FORCE, KEEP_INIT, KEEP_REFUSED, TRACE, PRELOAD };
+    enum { LOWER = 256, REFUSE, FORCE, PLAIN, KEEP_INIT, KEEP_REFUSED, TRACE, PRELOAD };
     static const struct option options[] = {
         {"output", required_argument, NULL, 'o'},
+        {"plain", no_argument, NULL, PLAIN},
         {"force", no_argument, NULL, FORCE},
         {"lower", required_argument, NULL, LOWER},
         {"refuse", required_argument, NULL, REFUSE},
@@ -592,11 +594,16 @@ int main(int count, char **words)
     const char *output = NULL, *lower = NULL, *traced = NULL;
     uint64_t refused = 0;
     bool forced = false, preloaded = false;
+    unsetenv("FUSE_RECORD_PLAIN");
     unsetenv("FUSE_RECORD_KEEP_INIT");
     unsetenv("FUSE_RECORD_KEEP_REFUSED");
     for (int option; (option = getopt_long(count, words, "+o:h", options, NULL)) != -1;) {
         switch (option) {
         case 'o': output = optarg; break;
+        case PLAIN:
+            fuse_record_setup.plain = true;
+            setenv("FUSE_RECORD_PLAIN", "1", 1);
+            break;
         case FORCE: forced = true; break;
         case LOWER: lower = optarg; break;
         case REFUSE: refused |= operations(optarg); break;
@@ -623,7 +630,7 @@ int main(int count, char **words)
     sigprocmask(SIG_BLOCK, &signals, &before);
     make_outputs(lower, &before);
     snprintf(mask, sizeof mask, "%" PRIx64, refused);
-    setenv("FUSE_RECORD", outputs[CAPTURE].path, 1);
+    setenv("FUSE_RECORD_CAPTURE", outputs[CAPTURE].path, 1);
     setenv("FUSE_RECORD_REFUSE", mask, 1);
     if (!traced && !preloaded)
         traced = trace_is_needed(words[optind]);

@@ -34,8 +34,12 @@
 
 enum fuse_record_way { FUSE_RECORD_READ, FUSE_RECORD_WRITE };
 
-/* The section by which fuse-record sees that a program has this text in itself, and records without its help. */
-#define FUSE_RECORD_MARK "fuse_record"
+/*
+ * The section by which fuse-record sees that a program has this text in itself, and records without its help. One that has the text
+ * of before, which writes no times, has the older mark: it is not handed a capture.
+ */
+#define FUSE_RECORD_MARK "fuse_record_timed"
+#define FUSE_RECORD_OLDER_MARK "fuse_record"
 __attribute__((used, section(FUSE_RECORD_MARK))) static const char fuse_record_mark[] = FUSE_RECORD_MARK;
 
 /* How the device is read and written: by system calls, so that a library which is loaded too does not record them again. */
@@ -44,12 +48,19 @@ __attribute__((used, section(FUSE_RECORD_MARK))) static const char fuse_record_m
 #define FUSE_RECORD_WRITEV(device, parts, count) syscall(SYS_writev, device, parts, count)
 #endif
 
-/* The limits of a capture, and what a record has before its message: the direction and the length. */
-#define FUSE_RECORD_MAGIC "FUSECAP1"
+/*
+ * What a capture begins with, and what a record has before its message: the direction, the time (CLOCK_MONOTONIC, in nanoseconds) but
+ * in a plain capture, and the length. Its limits: all bytes but those of times count.
+ */
+#define FUSE_RECORD_MAGIC "FUSECAP2"
+#define FUSE_RECORD_PLAIN_MAGIC "FUSECAP1"
+#define FUSE_RECORD_DIRECTION 1u
+#define FUSE_RECORD_TIME 8u
+#define FUSE_RECORD_LENGTH 4u
+#define FUSE_RECORD_HEAD (FUSE_RECORD_DIRECTION + FUSE_RECORD_TIME + FUSE_RECORD_LENGTH)
 #define FUSE_RECORD_MAX_BYTES 268435456u
 #define FUSE_RECORD_MAX_MESSAGE 2097152u
 #define FUSE_RECORD_MAX_MESSAGES 16777216u
-#define FUSE_RECORD_HEAD 5u
 /* The longest path of a capture, with its zero byte, and the most parts of a message that are written without a copy. */
 #define FUSE_RECORD_PATH 4096
 #define FUSE_RECORD_PARTS 16
@@ -120,6 +131,7 @@ static struct {
     struct fuse_record_file log;
     struct fuse_record_progress *progress; /* NULL: nothing is recorded */
     uint64_t refused;                      /* the operations that are answered in the server's place, a bit each */
+    bool plain;                            /* records have no times */
     bool keeps_init;
     bool keeps_refused;
 } fuse_record_setup;
@@ -260,13 +272,41 @@ static void fuse_record_copy(void *bytes, size_t length, const struct iovec *par
     }
 }
 
+/* The bytes of so many records' times. */
+static uint64_t fuse_record_times(uint64_t messages)
+{
+    return fuse_record_setup.plain ? 0 : FUSE_RECORD_TIME * messages;
+}
+
+/* The bytes of a record before its message. */
+static size_t fuse_record_head_size(void)
+{
+    return FUSE_RECORD_DIRECTION + (size_t)fuse_record_times(1) + FUSE_RECORD_LENGTH;
+}
+
+/* Writes what stands before a message of this length, with the time that it is now. */
+static void fuse_record_put_head(unsigned char head[FUSE_RECORD_HEAD], enum fuse_record_way way, size_t length)
+{
+    struct timespec now = {0};
+    uint32_t stated = htole32((uint32_t)length);
+    head[0] = way == FUSE_RECORD_WRITE;
+    if (!fuse_record_setup.plain) {
+        clock_gettime(CLOCK_MONOTONIC, &now);
+        uint64_t time = htole64((uint64_t)now.tv_sec * 1000000000 + (uint64_t)now.tv_nsec);
+        memcpy(head + FUSE_RECORD_DIRECTION, &time, sizeof time);
+    }
+    memcpy(head + fuse_record_head_size() - sizeof stated, &stated, sizeof stated);
+}
+
 /* Adds a record to the capture by one write, or tells why there is none. What was written of it is then taken off. */
 static const char *fuse_record_add(const struct iovec *record, int count, size_t length)
 {
     struct fuse_record_progress *progress = fuse_record_setup.progress;
-    if (length > FUSE_RECORD_HEAD + FUSE_RECORD_MAX_MESSAGE)
+    uint64_t messages = progress->messages;
+    if (length > fuse_record_head_size() + FUSE_RECORD_MAX_MESSAGE)
         return "a message is longer than a capture may have";
-    if (progress->messages == FUSE_RECORD_MAX_MESSAGES || progress->length + length > FUSE_RECORD_MAX_BYTES)
+    if (messages == FUSE_RECORD_MAX_MESSAGES ||
+        progress->length + length - fuse_record_times(messages + 1) > FUSE_RECORD_MAX_BYTES)
         return "a capture may have no more";
     struct stat found;
     int capture = fuse_record_descriptor(&fuse_record_setup.capture);
@@ -313,10 +353,8 @@ static void fuse_record_follow(enum fuse_record_way way, const struct iovec *par
 /* Records the first bytes of the parts as one message, and answers where. */
 static struct fuse_record_place fuse_record_parts(enum fuse_record_way way, const struct iovec *parts, int count, size_t length)
 {
-    unsigned char head[FUSE_RECORD_HEAD] = {way == FUSE_RECORD_WRITE};
-    uint32_t stated = htole32((uint32_t)length);
-    memcpy(head + 1, &stated, sizeof stated);
-    struct iovec record[1 + FUSE_RECORD_PARTS] = {{head, sizeof head}};
+    unsigned char head[FUSE_RECORD_HEAD];
+    struct iovec record[1 + FUSE_RECORD_PARTS] = {{head, fuse_record_head_size()}};
     size_t left = length;
     for (int i = 0; i < count; i++) {
         size_t taken = parts[i].iov_len < left ? parts[i].iov_len : left;
@@ -326,7 +364,8 @@ static struct fuse_record_place fuse_record_parts(enum fuse_record_way way, cons
     struct fuse_record_progress *progress = fuse_record_setup.progress;
     fuse_record_lock();
     struct fuse_record_place place = {progress->length, progress->messages};
-    const char *cause = progress->ended ? NULL : fuse_record_add(record, 1 + count, sizeof head + length);
+    fuse_record_put_head(head, way, length);
+    const char *cause = progress->ended ? NULL : fuse_record_add(record, 1 + count, record->iov_len + length);
     progress->ended |= cause != NULL;
     if (progress->ended)
         place.offset = 0;
@@ -461,7 +500,7 @@ static void fuse_record_strike(struct fuse_record_place place, const struct fuse
     char what[80] = "an answer";
     fuse_record_lock();
     int capture = fuse_record_descriptor(&fuse_record_setup.capture);
-    bool struck = fuse_record_write(capture, &part, 1, (int64_t)(place.offset + FUSE_RECORD_HEAD)) == sizeof nothing;
+    bool struck = fuse_record_write(capture, &part, 1, (int64_t)(place.offset + fuse_record_head_size())) == sizeof nothing;
     struct fuse_record_asked *kept = fuse_record_asked(header->unique), asked = *kept;
     bool known = header->unique != 0 && asked.unique == (header->unique & ~UINT64_C(1));
     if (known && asked.unique == header->unique && kept->answers > 0)
@@ -629,7 +668,7 @@ static void fuse_record_open(struct fuse_record_file *file, int flags, const cha
 /* Takes what fuse-record handed over before the server begins, and mounts anything above these files. */
 __attribute__((constructor)) static void fuse_record_begin(void)
 {
-    const char *path = getenv("FUSE_RECORD"), *refused = getenv("FUSE_RECORD_REFUSE");
+    const char *path = getenv("FUSE_RECORD_CAPTURE"), *refused = getenv("FUSE_RECORD_REFUSE");
     if (!path)
         return;
     struct fuse_record_progress *progress =
@@ -648,6 +687,7 @@ __attribute__((constructor)) static void fuse_record_begin(void)
     fuse_record_open(&fuse_record_setup.capture, O_WRONLY, path, "");
     fuse_record_open(&fuse_record_setup.log, O_WRONLY | O_APPEND, path, ".log");
     fuse_record_setup.refused = refused ? strtoull(refused, NULL, 16) : 0;
+    fuse_record_setup.plain = getenv("FUSE_RECORD_PLAIN");
     fuse_record_setup.keeps_init = getenv("FUSE_RECORD_KEEP_INIT");
     fuse_record_setup.keeps_refused = getenv("FUSE_RECORD_KEEP_REFUSED");
     fuse_record_setup.progress = progress;

@@ -267,6 +267,7 @@ mkdir "$mnt"
 check "the recorder compiles" make -s -B -C "$work/recorder" CFLAGS="-O2 -Werror ${sanitizer[*]}" &&
     check "the server compiles" "${CC:-cc}" "${flags[@]}" -o "$work/memory" "$here/tests/memory.c" &&
     check "what exchanges names compiles" "${CC:-cc}" "${plain[@]}" -o "$work/exchange" "$here/tests/exchange.c" &&
+    check "what replays messages compiles" "${CC:-cc}" "${flags[@]}" -D_DEFAULT_SOURCE -pthread -o "$work/replay" "$here/tests/replay.c" &&
     check "the server that splices compiles" "${CC:-cc}" "${flags[@]}" -DWITH_SPLICE -o "$work/memory-splicing" "$here/tests/memory.c" &&
     check "the server with the header compiles" \
         "${CC:-cc}" "${plain[@]}" -static -pthread -DWITH_HEADER -o "$work/memory-static" "$here/tests/memory.c" ||
@@ -299,6 +300,33 @@ check "INIT can't be refused" refuses 2 "INIT: no operation" --refuse IOCTL,INIT
 check "a device is no capture" refuses 1 "/dev/null: no regular file" -o /dev/null -- true
 check "a folder that is not there has no tree" refuses 1 "no tree text of" --lower "$work/none" -o "$capture" -- true
 check "a server that is not there" refuses 127 "No such file" -o "$capture" -- "$work/none"
+
+# Made-up messages, which stand in texts as those of the cases do.
+as_bytes() { "$here/../cases/messages.py" read - > "$work/given"; }
+# Records the messages that as_bytes had, and checks the status: replay STATUS [OPTIONS OF fuse-record].
+replay() {
+    local expected="$1"
+    shift
+    rm -f "$work"/a.cap*
+    status=0
+    "${under[@]}" "$work/recorder/fuse-record" -o "$capture" "$@" -- "$work/replay" "$work/given" "$work/shown" 2> "$work/errors" || status=$?
+    [ "$status" -eq "$expected" ]
+}
+# The most bytes that a capture may have, of which times are none, and one more.
+most_messages() {
+    printf '%s\n' '> unique 2 INIT' '< unique 2 init' '< INVAL_INODE zeros 2097136 times 127' "< INVAL_INODE zeros $1" | as_bytes
+}
+has_bytes() { [ "$(stat -c %s "$capture")" -eq "$1" ]; }
+most_messages 2096342
+check "most bytes: are recorded" replay 0
+check "most bytes: and the times" has_bytes "$((268435456 + 130 * 8))"
+check "most bytes: without times" replay 0 --plain
+check "most bytes: are all" has_bytes 268435456
+most_messages 2096343
+check "one more: is recorded up to it" replay 0
+check "one more: is told" grep -q "fuse-record: .*: a capture may have no more: the recording ends with 129 messages" "$work/errors"
+check "one more: is not there" has_bytes "$((268435456 + 129 * 8 - 5 - 2096358))"
+rm -f "$work/given" "$work/shown"
 
 # Servers that others wrote, by the library and by their system calls: libfuse's own example, and bindfs.
 compile_examples() {
@@ -437,6 +465,18 @@ started_again() {
     check "again: is legal" is_legal "memory, started again"
 }
 
+# The time of the clock that the recorder takes, in nanoseconds.
+monotonic() { python3 -c "import time; print(time.clock_gettime_ns(time.CLOCK_MONOTONIC))"; }
+# The times of the capture rise from one between these two: has_times FIRST LAST.
+has_times() {
+    local first
+    first="$(od -A n -t u8 -j 9 -N 8 "$capture")"
+    [ "$(head -c 8 "$capture")" = FUSECAP2 ] && [ "$1" -le "$first" ] && "$work/recorder/fuse-messages" --times "$capture" |
+        awk -v most="$(($2 - first))" '{ falls += $2 < last; last = $2 } END { exit falls || NR < 4 || last <= 0 || last * 1e9 > most + 1000 }'
+}
+prints_no_times() {
+    ! "$work/recorder/fuse-messages" --times "$capture" > "$work/seen" 2> "$work/errors" && grep -q ": a capture without times$" "$work/errors"
+}
 of_own_server() {
     own memory --
     whole_session memory
@@ -445,6 +485,17 @@ of_own_server() {
     check "memory, splicing: mounts" record -- "$work/memory-splicing" "$mnt" && whole_session "memory, splicing"
     own copied --
     copying_session "memory, copied to"
+
+    # The time of each message, by the clock of before and behind; and a capture without times.
+    before="$(monotonic)"
+    own timed --
+    timeout 20 ls "$mnt" > "$work/seen"
+    check "timed: is unmounted" stop
+    check "timed: each message, and none before another" has_times "$before" "$(monotonic)"
+    own plain --plain --
+    whole_session "memory, plain"
+    check "plain: has no times" [ "$(head -c 8 "$capture")" = FUSECAP1 ]
+    check "plain: and none are printed" prints_no_times
 
     # A server that ends in the middle of its work.
     own killed -- --die-after 200
@@ -596,7 +647,8 @@ rmdir "$mnt/deep"
 check "empty: is told" refuses 125 "no message was seen" --force -o "$capture" -- true
 echo 1234567 > "$work/b"
 check "empty: another file of its length does not" refuses 1 "b: is there already" -o "$work/b" -- true
-check "empty: gives way" refuses 125 "no message was seen" -o "$capture" -- true
+check "empty: gives way" refuses 125 "no message was seen" -o "$capture" --plain -- true
+check "empty: so does one without times" refuses 125 "no message was seen" -o "$capture" -- true
 
 # What is left of a capture that was cut is printed, and that it was cut.
 cut_at() {
@@ -610,7 +662,8 @@ stop
 count="$("$work/recorder/fuse-messages" "$capture" | wc -l)"
 check "messages: a whole capture" "$work/recorder/fuse-messages" "$capture" > "$work/seen"
 check "messages: a byte less" cut_at -1 "$((count - 1))"
-check "messages: in the first length" cut_at 11 0
+check "messages: in the first time" cut_at 11 0
+check "messages: in the first length" cut_at 19 0
 
 # A signal that fuse-record gets is the server's.
 own signalled --
@@ -649,6 +702,11 @@ traced_checks() {
     how=()
     check "memory, static: mounts" record -- "$work/memory-unseen" "$mnt" && whole_session "memory, static"
     check "memory, static: is told" logged "is linked statically: its system calls are stopped" 1
+    # So is a server with a header of before, which wrote no times.
+    echo '__attribute__((used, section("fuse_record"))) static const char mark[] = "fuse_record";' > "$work/mark.c"
+    check "the server with an older header compiles" "${CC:-cc}" -O2 -o "$work/memory-older" "$here/tests/memory.c" "$work/mark.c" &&
+        check "memory, older: mounts" record -- "$work/memory-older" "$mnt" && whole_session "memory, older"
+    check "memory, older: is told" logged "has an older recorder in itself, which writes no times: its system calls are stopped" 1
     servers_in_go
 }
 servers_in_go() {

@@ -79,6 +79,8 @@ static const char *why_traced(const struct program *program)
     memcpy(&head, at, sizeof head);
     if (has_section(program, &head, FUSE_RECORD_MARK))
         return NULL;
+    if (has_section(program, &head, FUSE_RECORD_OLDER_MARK))
+        return "has an older recorder in itself, which writes no times";
     /* Go's linker writes the one or the other: what a build can be told by, and a note with its name. */
     if (has_section(program, &head, ".go.buildinfo") || has_section(program, &head, ".note.go.buildid"))
         return "was made by Go, and makes its system calls itself";
@@ -767,8 +769,9 @@ enum trace_start trace_start(char **words, const sigset_t *blocked, pid_t *serve
     int begin[2], runs;
     struct beginning *told = mmap(NULL, sizeof *told, PROT_READ | PROT_WRITE, MAP_SHARED | MAP_ANONYMOUS, -1, 0);
     fuse_record_begin();
-    unsetenv("FUSE_RECORD");
+    unsetenv("FUSE_RECORD_CAPTURE");
     unsetenv("FUSE_RECORD_REFUSE");
+    unsetenv("FUSE_RECORD_PLAIN");
     unsetenv("FUSE_RECORD_KEEP_INIT");
     unsetenv("FUSE_RECORD_KEEP_REFUSED");
     *call = "mmap";

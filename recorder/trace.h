@@ -16,8 +16,8 @@ enum trace_start {
 const char *trace_is_needed(const char *server);
 
 /*
- * Starts a server with these signals blocked. Else errno tells why there is none, and call what was refused. What FUSE_RECORD and
- * its like say in the environment is taken here, and the server does not get it.
+ * Starts a server with these signals blocked. Else errno tells why there is none, and call what was refused. What
+ * FUSE_RECORD_CAPTURE and its like say in the environment is taken here, and the server does not get it.
  */
 enum trace_start trace_start(char **words, const sigset_t *blocked, pid_t *server, const char **call);
 
