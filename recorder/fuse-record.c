@@ -21,6 +21,7 @@ static const char usage[] =
     "  --refuse NAME[,NAME]   answers these operations with ENOSYS in the server's place\n"
     "  --keep-init            leaves INIT and its answer as they are\n"
     "  --keep-refused         leaves in the capture what the kernel refused to take\n"
+    "  --keep-own             leaves in the capture what is asked of go-fuse's own file, " FUSE_RECORD_OWN_NAME "\n"
     "  --trace                records by stopping the system calls of SERVER and all that it starts, which suits any program;\n"
     "                         without this option, so are those recorded that are linked statically or made by Go\n"
     "  --preload              records by a library that SERVER loads, whatever it is\n"
@@ -577,7 +578,7 @@ static int follow(pid_t watcher, const sigset_t *signals)
 
 int main(int count, char **words)
 {
-    enum { LOWER = 256, REFUSE, FORCE, PLAIN, KEEP_INIT, KEEP_REFUSED, TRACE, PRELOAD };
+    enum { LOWER = 256, REFUSE, FORCE, PLAIN, KEEP_INIT, KEEP_REFUSED, KEEP_OWN, TRACE, PRELOAD };
     static const struct option options[] = {
         {"output", required_argument, NULL, 'o'},
         {"plain", no_argument, NULL, PLAIN},
@@ -586,6 +587,7 @@ int main(int count, char **words)
         {"refuse", required_argument, NULL, REFUSE},
         {"keep-init", no_argument, NULL, KEEP_INIT},
         {"keep-refused", no_argument, NULL, KEEP_REFUSED},
+        {"keep-own", no_argument, NULL, KEEP_OWN},
         {"trace", no_argument, NULL, TRACE},
         {"preload", no_argument, NULL, PRELOAD},
         {"help", no_argument, NULL, 'h'},
@@ -597,6 +599,7 @@ int main(int count, char **words)
     unsetenv("FUSE_RECORD_PLAIN");
     unsetenv("FUSE_RECORD_KEEP_INIT");
     unsetenv("FUSE_RECORD_KEEP_REFUSED");
+    unsetenv("FUSE_RECORD_KEEP_OWN");
     for (int option; (option = getopt_long(count, words, "+o:h", options, NULL)) != -1;) {
         switch (option) {
         case 'o': output = optarg; break;
@@ -609,6 +612,7 @@ int main(int count, char **words)
         case REFUSE: refused |= operations(optarg); break;
         case KEEP_INIT: setenv("FUSE_RECORD_KEEP_INIT", "1", 1); break;
         case KEEP_REFUSED: setenv("FUSE_RECORD_KEEP_REFUSED", "1", 1); break;
+        case KEEP_OWN: setenv("FUSE_RECORD_KEEP_OWN", "1", 1); break;
         case TRACE: traced = "is to be traced"; break;
         case PRELOAD: preloaded = true; break;
         case 'h': fputs(usage, stdout); return 0;

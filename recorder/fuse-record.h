@@ -66,6 +66,13 @@ __attribute__((used, section(FUSE_RECORD_MARK))) static const char fuse_record_m
 #define FUSE_RECORD_PARTS 16
 /* How many requests are kept to tell which one an answer was for that the kernel refused. */
 #define FUSE_RECORD_ASKED 4096u
+/*
+ * Servers made with go-fuse look up a name in their root when they have mounted, and find a file of their own there, which no tree has.
+ * What is said of it is left out. How many such nodes may be alive, and how many requests are kept for their answers.
+ */
+#define FUSE_RECORD_OWN_NAME ".go-fuse-epoll-hack"
+#define FUSE_RECORD_OWN_NODES 8u
+#define FUSE_RECORD_OWN_REQUESTS 64u
 
 /* Protocol 7.31, and its flags of INIT without the two that this profile refuses. */
 #define FUSE_RECORD_MINOR 31u
@@ -114,6 +121,17 @@ struct fuse_record_asked {
     uint32_t operation, answers;
 };
 
+/* A node that look-ups gave which were left out, and how many of them the kernel has not forgotten; 0 where it is no node. */
+struct fuse_record_own_node {
+    uint64_t node, lookups;
+};
+
+/* A request that was left out. It is kept when it has its answer, for what comes late. */
+struct fuse_record_own_request {
+    uint64_t unique;
+    bool waits, looks_up;
+};
+
 /* How far the recording is, in memory that a process shares with those that fork from it. All of it is used under the lock. */
 struct fuse_record_progress {
     pthread_mutex_t lock;
@@ -123,6 +141,9 @@ struct fuse_record_progress {
     uint64_t init;     /* the unique of the INIT that waits for its answer */
     uint32_t minor;    /* of the kernel, as its INIT said */
     struct fuse_record_asked asked[FUSE_RECORD_ASKED]; /* the latest requests, each at a place by its unique */
+    struct fuse_record_own_node own_nodes[FUSE_RECORD_OWN_NODES];
+    struct fuse_record_own_request own_requests[FUSE_RECORD_OWN_REQUESTS]; /* in turn */
+    uint32_t own_turn;
 };
 
 /* What fuse-record handed over, by the environment. */
@@ -134,6 +155,7 @@ static struct {
     bool plain;                            /* records have no times */
     bool keeps_init;
     bool keeps_refused;
+    bool keeps_own;
 } fuse_record_setup;
 
 /* Where a record stands; offset 0 says that there is none. */
@@ -393,6 +415,179 @@ static struct fuse_record_place fuse_record_message(enum fuse_record_way way, co
     return place;
 }
 
+/* The node of this number that look-ups gave which were left out, or NULL. The lock is held. */
+static struct fuse_record_own_node *fuse_record_own_node(uint64_t node)
+{
+    struct fuse_record_own_node *nodes = fuse_record_setup.progress->own_nodes;
+    for (size_t i = 0; i < FUSE_RECORD_OWN_NODES; i++)
+        if (nodes[i].lookups > 0 && nodes[i].node == node)
+            return &nodes[i];
+    return NULL;
+}
+
+/* Adds one look-up of a node that was left out. False where there is no room for the node. The lock is held. */
+static bool fuse_record_add_own_node(uint64_t node)
+{
+    struct fuse_record_own_node *nodes = fuse_record_setup.progress->own_nodes, *place = fuse_record_own_node(node);
+    for (size_t i = 0; !place && i < FUSE_RECORD_OWN_NODES; i++)
+        if (nodes[i].lookups == 0)
+            place = &nodes[i];
+    if (place)
+        *place = (struct fuse_record_own_node){node, place->lookups + 1};
+    return place;
+}
+
+/* The request with this unique that was left out, or NULL. The lock is held. */
+static struct fuse_record_own_request *fuse_record_own_request(uint64_t unique)
+{
+    struct fuse_record_own_request *requests = fuse_record_setup.progress->own_requests;
+    for (size_t i = 0; unique != 0 && i < FUSE_RECORD_OWN_REQUESTS; i++)
+        if (requests[i].unique == unique)
+            return &requests[i];
+    return NULL;
+}
+
+/* Keeps a request that is left out, in the place of one that waits no more. False where all wait. The lock is held. */
+static bool fuse_record_add_own_request(uint64_t unique, bool looks_up)
+{
+    struct fuse_record_progress *progress = fuse_record_setup.progress;
+    for (uint32_t tried = 0; tried < FUSE_RECORD_OWN_REQUESTS; tried++) {
+        struct fuse_record_own_request *place = &progress->own_requests[progress->own_turn++ % FUSE_RECORD_OWN_REQUESTS];
+        if (place->waits)
+            continue;
+        *place = (struct fuse_record_own_request){unique, true, looks_up};
+        return true;
+    }
+    return false;
+}
+
+/*
+ * Takes look-ups that the kernel forgets off a node: first those that were left out. Answers the rest, which the recording has. The lock
+ * is held.
+ */
+static uint64_t fuse_record_forget_own(uint64_t node, uint64_t lookups)
+{
+    struct fuse_record_own_node *own = fuse_record_own_node(node);
+    uint64_t taken = !own ? 0 : own->lookups < lookups ? own->lookups : lookups;
+    if (own)
+        own->lookups -= taken;
+    return lookups - taken;
+}
+
+/* What of a request is recorded: all, all but what is said of nodes that were left out, or nothing. */
+enum fuse_record_share { FUSE_RECORD_WHOLE, FUSE_RECORD_PART, FUSE_RECORD_NOTHING };
+
+/* What of a FORGET is recorded. It is in memory, and becomes what is to be recorded. The lock is held. */
+static enum fuse_record_share fuse_record_share_of_forget(struct iovec *message)
+{
+    struct fuse_in_header header;
+    struct fuse_forget_in forget;
+    unsigned char *body = (unsigned char *)message->iov_base + sizeof header;
+    memcpy(&header, message->iov_base, sizeof header);
+    memcpy(&forget, body, sizeof forget);
+    uint64_t rest = fuse_record_forget_own(header.nodeid, forget.nlookup);
+    if (rest == forget.nlookup)
+        return FUSE_RECORD_WHOLE;
+    forget.nlookup = rest;
+    memcpy(body, &forget, sizeof forget);
+    return rest == 0 ? FUSE_RECORD_NOTHING : FUSE_RECORD_PART;
+}
+
+/* The same of a BATCH_FORGET. */
+static enum fuse_record_share fuse_record_share_of_batch(struct iovec *message)
+{
+    struct fuse_in_header header;
+    struct fuse_batch_forget_in batch;
+    struct fuse_forget_one item;
+    unsigned char *start = message->iov_base, *const items = start + sizeof header + sizeof batch, *kept = items;
+    bool changed = false;
+    memcpy(&header, start, sizeof header);
+    memcpy(&batch, start + sizeof header, sizeof batch);
+    for (const unsigned char *at = items; (size_t)(start + message->iov_len - at) >= sizeof item; at += sizeof item) {
+        memcpy(&item, at, sizeof item);
+        uint64_t rest = fuse_record_forget_own(item.nodeid, item.nlookup);
+        changed |= rest != item.nlookup;
+        if (rest == 0 && item.nlookup != 0)
+            continue;
+        item.nlookup = rest;
+        memcpy(kept, &item, sizeof item);
+        kept += sizeof item;
+    }
+    if (!changed)
+        return FUSE_RECORD_WHOLE;
+    message->iov_len = (size_t)(kept - start);
+    header.len = (uint32_t)message->iov_len;
+    batch.count = (uint32_t)((size_t)(kept - items) / sizeof item);
+    memcpy(start, &header, sizeof header);
+    memcpy(start + sizeof header, &batch, sizeof batch);
+    return kept == items ? FUSE_RECORD_NOTHING : FUSE_RECORD_PART;
+}
+
+/* Whether a request that forgets no node is left out. The lock is held. */
+static bool fuse_record_is_own(const struct fuse_in_header *header, const struct iovec *parts, int count, size_t length)
+{
+    unsigned char start[sizeof *header + sizeof FUSE_RECORD_OWN_NAME] = {0};
+    const unsigned char *body = start + sizeof *header;
+    uint64_t interrupted;
+    fuse_record_copy(start, length < sizeof start ? length : sizeof start, parts, count, false);
+    memcpy(&interrupted, body, sizeof interrupted);
+    if (header->opcode == FUSE_INTERRUPT)
+        return fuse_record_own_request(interrupted);
+    bool is_name = length == sizeof start && memcmp(body, FUSE_RECORD_OWN_NAME, sizeof FUSE_RECORD_OWN_NAME) == 0;
+    return (header->opcode == FUSE_LOOKUP && header->nodeid == FUSE_ROOT_ID && is_name) || fuse_record_own_node(header->nodeid);
+}
+
+/* What of a request is recorded. Of a part the copy has what that is, in memory to be freed. */
+static enum fuse_record_share fuse_record_share(const struct fuse_in_header *header, const struct iovec *parts, int count, size_t length,
+                                                struct iovec *copy)
+{
+    enum fuse_record_share share = FUSE_RECORD_WHOLE;
+    bool is_forget = header->opcode == FUSE_FORGET, is_batch = header->opcode == FUSE_BATCH_FORGET;
+    const char *cause = NULL;
+    if (fuse_record_setup.keeps_own)
+        return share;
+    if ((is_forget || is_batch) && length >= sizeof *header + sizeof(struct fuse_forget_in)) {
+        *copy = (struct iovec){malloc(length), length};
+        if (copy->iov_base)
+            fuse_record_copy(copy->iov_base, length, parts, count, false);
+        else
+            cause = strerror(ENOMEM);
+    }
+    fuse_record_lock();
+    if (copy->iov_base) {
+        share = is_batch ? fuse_record_share_of_batch(copy) : fuse_record_share_of_forget(copy);
+    } else if (!is_forget && !is_batch && fuse_record_is_own(header, parts, count, length)) {
+        share = FUSE_RECORD_NOTHING;
+        bool is_answered = header->opcode != FUSE_INTERRUPT && header->opcode != FUSE_NOTIFY_REPLY;
+        if (is_answered && !fuse_record_add_own_request(header->unique, header->opcode == FUSE_LOOKUP))
+            cause = "too many requests for go-fuse's own file wait";
+    }
+    fuse_record_unlock();
+    if (cause)
+        fuse_record_stop(cause);
+    return share;
+}
+
+/* Records a request, or what of it is to be recorded, and answers where. Offset 0 stands for nothing. */
+static struct fuse_record_place fuse_record_asks(const struct fuse_in_header *header, const struct iovec *parts, int count, size_t length)
+{
+    struct iovec copy = {NULL, 0};
+    struct fuse_record_place place = {0, 0};
+    enum fuse_record_share share = fuse_record_share(header, parts, count, length, &copy);
+    if (share == FUSE_RECORD_WHOLE)
+        place = fuse_record_message(FUSE_RECORD_READ, parts, count, length);
+    else if (share == FUSE_RECORD_PART)
+        place = fuse_record_message(FUSE_RECORD_READ, &copy, 1, copy.iov_len);
+    free(copy.iov_base);
+    if (share == FUSE_RECORD_PART)
+        fuse_record_note("message %" PRIu32 ": %s, unique %" PRIu64 ": recorded without what it says of go-fuse's own file",
+                         place.message, fuse_record_name(header->opcode), header->unique);
+    else if (share == FUSE_RECORD_NOTHING)
+        fuse_record_note("%s of node %" PRIu64 ", unique %" PRIu64 ": left out, since it is for go-fuse's own file",
+                         fuse_record_name(header->opcode), header->nodeid, header->unique);
+    return place;
+}
+
 /* Makes an INIT one of 7.31 before the server sees it, and answers its length. */
 static size_t fuse_record_show_init(const struct iovec *parts, int count, size_t length)
 {
@@ -530,13 +725,53 @@ struct fuse_record_sent {
     struct fuse_out_header header;
     size_t length;
     struct fuse_record_place place;
+    bool own_waited;   /* it is what a request waited for that was left out */
+    uint64_t own_node; /* the node that it gives to such a look-up; else 0 */
 };
+
+/* Whether a message answers a request that was left out, or its INTERRUPT, and is left out too. Takes the node that it gives. */
+static bool fuse_record_answers_own(struct fuse_record_sent *sent, const struct iovec *parts, int count)
+{
+    struct {
+        struct fuse_out_header header;
+        uint64_t node;
+    } answer = {.node = 0};
+    bool has_room = true;
+    fuse_record_copy(&answer, sent->length < sizeof answer ? sent->length : sizeof answer, parts, count, false);
+    fuse_record_lock();
+    struct fuse_record_own_request *request = fuse_record_own_request(sent->header.unique & ~UINT64_C(1));
+    if (request && request->waits && request->unique == sent->header.unique) {
+        request->waits = false;
+        sent->own_waited = true;
+        if (request->looks_up && sent->header.error == 0 && answer.node > FUSE_ROOT_ID) {
+            has_room = fuse_record_add_own_node(answer.node);
+            sent->own_node = has_room ? answer.node : 0;
+        }
+    }
+    fuse_record_unlock();
+    if (!has_room)
+        fuse_record_stop("look-ups of go-fuse's own file gave too many nodes");
+    return request;
+}
+
+/* Takes back what is kept of such a message, which the kernel did not take. */
+static void fuse_record_take_own_back(const struct fuse_record_sent *sent)
+{
+    fuse_record_lock();
+    struct fuse_record_own_request *request = fuse_record_own_request(sent->header.unique);
+    if (request)
+        request->waits = true;
+    fuse_record_forget_own(sent->own_node, 1);
+    fuse_record_unlock();
+}
 
 /* Records a message from the server before it is written. */
 static struct fuse_record_sent fuse_record_before(const struct iovec *parts, int count)
 {
     struct fuse_record_sent sent = {.length = fuse_record_total(parts, count)};
     fuse_record_copy(&sent.header, sizeof sent.header, parts, count, false);
+    if (fuse_record_answers_own(&sent, parts, count))
+        return sent;
     /* The kernel refuses what is shorter than a header. */
     if (sent.length >= sizeof sent.header || fuse_record_setup.keeps_refused)
         sent.place = fuse_record_message(FUSE_RECORD_WRITE, parts, count, sent.length);
@@ -546,8 +781,11 @@ static struct fuse_record_sent fuse_record_before(const struct iovec *parts, int
 /* Takes a message out of the capture whose write failed with this error, where the kernel did not take it. */
 static void fuse_record_failed(const struct fuse_record_sent *sent, int error)
 {
-    if (sent->place.offset != 0 && !fuse_record_setup.keeps_refused &&
-        !fuse_record_was_taken(&sent->header, sent->length, error))
+    if (fuse_record_was_taken(&sent->header, sent->length, error))
+        return;
+    if (sent->own_waited)
+        fuse_record_take_own_back(sent);
+    if (sent->place.offset != 0 && !fuse_record_setup.keeps_refused)
         fuse_record_strike(sent->place, &sent->header, sent->length, error);
 }
 
@@ -598,7 +836,7 @@ static const char *fuse_record_list_set(const struct fuse_in_header *header, con
     return NULL;
 }
 
-/* Records a request that was read, and says whether it is answered here, so that the server does not see it. */
+/* Records a request that was read, unless it is left out, and says whether it is answered here, so that the server does not see it. */
 static bool fuse_record_request(int device, const struct iovec *parts, int count, size_t *length)
 {
     struct fuse_in_header header;
@@ -613,16 +851,18 @@ static bool fuse_record_request(int device, const struct iovec *parts, int count
     }
     if (header.opcode == FUSE_INIT)
         *length = fuse_record_show_init(parts, count, *length);
-    struct fuse_record_place place = fuse_record_message(FUSE_RECORD_READ, parts, count, *length);
+    struct fuse_record_place place = fuse_record_asks(&header, parts, count, *length);
     bool refused = fuse_record_setup.refused >> header.opcode & 1;
     const char *list = refused ? NULL : fuse_record_list_set(&header, parts, count, *length);
     if (!refused && !list)
         return false;
     if (list)
         answer.error = -EOPNOTSUPP;
-    fuse_record_note("message %" PRIu32 ": %s%s%s, unique %" PRIu64 ": answered %s in the server's place", place.message,
-                     fuse_record_name(header.opcode), list ? " of " : "", list ? list : "", header.unique,
-                     list ? "EOPNOTSUPP" : "ENOSYS");
+    char where[24] = "";
+    if (place.offset != 0)
+        snprintf(where, sizeof where, "message %" PRIu32 ": ", place.message);
+    fuse_record_note("%s%s%s%s, unique %" PRIu64 ": answered %s in the server's place", where, fuse_record_name(header.opcode),
+                     list ? " of " : "", list ? list : "", header.unique, list ? "EOPNOTSUPP" : "ENOSYS");
     fuse_record_send(device, &part, 1);
     return true;
 }
@@ -690,6 +930,7 @@ __attribute__((constructor)) static void fuse_record_begin(void)
     fuse_record_setup.plain = getenv("FUSE_RECORD_PLAIN");
     fuse_record_setup.keeps_init = getenv("FUSE_RECORD_KEEP_INIT");
     fuse_record_setup.keeps_refused = getenv("FUSE_RECORD_KEEP_REFUSED");
+    fuse_record_setup.keeps_own = getenv("FUSE_RECORD_KEEP_OWN");
     fuse_record_setup.progress = progress;
 }
 

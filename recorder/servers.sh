@@ -140,6 +140,9 @@ if command -v gocryptfs > /dev/null; then
     fill
     echo words > "$work/password"
     gocryptfs -q -init -scryptn 10 -passfile "$work/password" "$work/other" > /dev/null
+    try gocryptfs plainly "${refused[@]}" -- gocryptfs -fg -nosyslog -sharedstorage -passfile "$work/password" "$work/other" "$mnt"
+    fill
+    gocryptfs -q -init -scryptn 10 -passfile "$work/password" "$work/other" > /dev/null
     try gocryptfs everything "${refused[@]}" -- gocryptfs -fg -nosyslog -sharedstorage -passfile "$work/password" "$work/other" "$mnt"
 fi
 fill

@@ -326,6 +326,121 @@ most_messages 2096343
 check "one more: is recorded up to it" replay 0
 check "one more: is told" grep -q "fuse-record: .*: a capture may have no more: the recording ends with 129 messages" "$work/errors"
 check "one more: is not there" has_bytes "$((268435456 + 129 * 8 - 5 - 2096358))"
+
+# What is asked of go-fuse's own file is left out, as long as it is known by look-ups that were. A line with a mark in front is given
+# and not recorded, a line behind => is recorded and not given.
+own_file() {
+    cat << 'LINES'
+> unique 2 INIT
+< unique 2 init
+- > unique 4 LOOKUP node 1 ".go-fuse-epoll-hack"
+- < unique 4 entry node 9 mode 0100644 nlink 1
+- > unique 6 OPEN node 9
+> unique 8 LOOKUP node 1 "a"
+- < unique 6 opened fh 9
+- > unique 10 POLL node 9 zeros 40
+> unique 12 GETATTR node 5
+> unique 13 INTERRUPT bytes 0c00000000000000
+- > unique 11 INTERRUPT bytes 0a00000000000000
+- < unique 11 EAGAIN
+< unique 8 entry node 5 mode 040755 nlink 2
+< unique 12 attr ino 5 mode 040755 nlink 2
+- < unique 10 ENOSYS
+- > unique 11 INTERRUPT bytes 0a00000000000000
+# The name in another folder, and names that are alike.
+> unique 14 LOOKUP node 5 ".go-fuse-epoll-hack"
+< unique 14 ENOENT
+> unique 16 LOOKUP node 1 ".go-fuse-epoll-hack2"
+< unique 16 ENOENT
+> unique 18 LOOKUP node 1 ".go-fuse-epoll-hac"
+< unique 18 ENOENT
+- > unique 20 LOOKUP node 1 ".go-fuse-epoll-hack"
+- > unique 22 FLUSH node 9 fh 9
+- < unique 22 ok
+- < unique 20 entry node 9 mode 0100644 nlink 1
+# One of two look-ups is forgotten, and then the other one among nodes of the mount.
+- > unique 24 FORGET node 9 nlookup 1
+- > unique 26 GETATTR node 9
+- < unique 26 attr ino 9 mode 0100644 nlink 1
+- > unique 28 RELEASE node 9 fh 9
+- < unique 28 ok
+> unique 30 LOOKUP node 1 "a"
+< unique 30 entry node 5 mode 040755 nlink 2
+- > unique 32 BATCH_FORGET [node 5 nlookup 1] [node 9 nlookup 1] [node 6]
+=> > unique 32 BATCH_FORGET [node 5 nlookup 1] [node 6]
+# The number is another file's.
+> unique 34 LOOKUP node 1 "b"
+< unique 34 entry node 9 mode 0100644 nlink 1
+> unique 36 GETATTR node 9
+< unique 36 attr ino 9 mode 0100644 nlink 1
+- > unique 38 LOOKUP node 1 ".go-fuse-epoll-hack"
+- < unique 38 ENOENT
+- > unique 40 LOOKUP node 1 ".go-fuse-epoll-hack"
+- < unique 40 entry entry_valid 1
+> unique 42 GETATTR node 9
+< unique 42 attr ino 9 mode 0100644 nlink 1
+# The name is that file's second one.
+- > unique 44 LOOKUP node 1 ".go-fuse-epoll-hack"
+- < unique 44 entry node 9 mode 0100644 nlink 2
+- > unique 46 FORGET node 9 nlookup 2
+=> > unique 46 FORGET node 9 nlookup 1
+> unique 48 LOOKUP node 1 "b"
+< unique 48 entry node 9 mode 0100644 nlink 2
+> unique 50 READLINK node 9
+< unique 50 EINVAL
+# Of two nodes one stays.
+- > unique 52 LOOKUP node 1 ".go-fuse-epoll-hack"
+- < unique 52 entry node 18446744073709551615 mode 0100644 nlink 1
+- > unique 54 LOOKUP node 1 ".go-fuse-epoll-hack"
+- < unique 54 entry node 11 mode 0100644 nlink 1
+- > unique 56 BATCH_FORGET [node 11 nlookup 1]
+> unique 58 GETATTR node 11
+< unique 58 ENOENT
+- > unique 60 GETATTR node 18446744073709551615
+- < unique 60 ENOENT
+> unique 62 BATCH_FORGET [node 9 nlookup 1] [node 5 nlookup 1]
+LINES
+    # More requests than are kept for their answers.
+    for unique in $(seq 100 2 238); do
+        printf '%s\n' "- > unique $unique GETATTR node 18446744073709551615" "- < unique $unique ERANGE"
+    done
+    printf '%s\n' "> unique 240 LOOKUP node 1 \"a\"" "< unique 240 ENOENT" "< INVAL_INODE zeros 40"
+}
+left_out_of() { sed -n 's/^=> //; /^[<>]/p' "$work/own"; }
+given_of() { sed '/^#/d; /^=> /d; s/^- //' "$work/own"; }
+# The capture, which has no times, is that of this text.
+has_messages() { "$here/../cases/messages.py" write "$capture" | diff - "$1" >&2; }
+own_file > "$work/own"
+left_out_of > "$work/expected"
+given_of > "$work/everything"
+as_bytes < "$work/everything"
+check "own file: is recorded" replay 0 --plain
+check "own file: is left out" has_messages "$work/expected"
+check "own file: the server sees it, and the device its answers" cmp "$work/given" "$work/shown"
+check "own file: each request is told" logged "[A-Z]* of node [0-9]*, unique [0-9]*: left out, since it is for go-fuse's own file" 87
+check "own file: so is what was taken out of others" logged "_FORGET, unique 32: recorded without what it says of go-fuse's own file" 1
+check "own file, kept: is recorded" replay 0 --plain --keep-own
+check "own file, kept: with all" has_messages "$work/everything"
+check "own file, kept: nothing is told of it" [ "$(grep -c go-fuse "$capture.log")" -eq 0 ]
+# A request that is answered in the server's place, and an answer that the kernel refuses.
+cat > "$work/own" << 'LINES'
+> unique 2 INIT
+< unique 2 init
+- > unique 4 LOOKUP node 1 ".go-fuse-epoll-hack"
+- < unique 4 entry node 9 mode 0100644 nlink 1
+- < unique 4 entry node 9 mode 0100644 nlink 1
+- > unique 6 POLL node 9 zeros 40
+> unique 8 POLL node 1 zeros 40
+=> < unique 8 ENOSYS
+- > unique 10 FORGET node 9 nlookup 1
+> unique 12 GETATTR node 9
+< unique 12 ENOENT
+LINES
+left_out_of > "$work/expected"
+given_of | as_bytes
+check "own file, refused: is recorded" replay 0 --plain --refuse POLL
+check "own file, refused: is left out" has_messages "$work/expected"
+check "own file, refused: is told" logged "^POLL, unique 6: answered ENOSYS in the server's place" 1
 rm -f "$work/given" "$work/shown"
 
 # Servers that others wrote, by the library and by their system calls: libfuse's own example, and bindfs.
@@ -714,16 +829,28 @@ servers_in_go() {
         mkdir -m 755 "$work/secret"
         echo words > "$work/password"
         check "gocryptfs: makes its folder" gocryptfs -q -init -scryptn 10 -passfile "$work/password" "$work/secret"
-        check "gocryptfs: mounts" record --refuse FALLOCATE,COPY_FILE_RANGE,IOCTL -- \
-            gocryptfs -fg -nosyslog -sharedstorage -passfile "$work/password" "$work/secret" "$mnt" && {
-            check "gocryptfs: serves several processes" work_in_mount
+        check "gocryptfs: mounts" record "${refused[@]}" -- "${gocryptfs_words[@]}" && {
+            check "gocryptfs: serves" work_without_links
             check "gocryptfs: is unmounted" stop
             check "gocryptfs: ends well" ends 0 "$unanswered\$"
-            # All messages keep the protocol. The first name that is looked up is one of go-fuse's own, which no tree has.
-            check "gocryptfs: is not shown at go-fuse's own name" judged gocryptfs "not shown: entry 0: message 2: code 73: *"
-            check "gocryptfs: looks that name up" names_of_go_fuse
+            check "gocryptfs: is legal" is_legal gocryptfs
+            check "gocryptfs: has no name of go-fuse's own" [ "$(names_of_go_fuse)" -eq 0 ]
+            check "gocryptfs: which is told" logged "^LOOKUP of node 1, unique 4: left out, since it is for go-fuse's own file" 1
         }
         check "gocryptfs: is told" logged "gocryptfs was made by Go, .*: its system calls are stopped" 1
+        check "gocryptfs, with all: mounts" record --keep-own "${refused[@]}" -- "${gocryptfs_words[@]}" && {
+            check "gocryptfs, with all: serves" work_without_links
+            check "gocryptfs, with all: is unmounted" stop
+            # All messages keep the protocol. The first name that is looked up is one that no tree has.
+            check "gocryptfs, with all: is not shown" judged "gocryptfs, with all" "not shown: entry 0: message 2: code 73: *"
+            check "gocryptfs, with all: at go-fuse's own name" [ "$(names_of_go_fuse)" -eq 1 ]
+        }
+        # What it tells of a file that got a second name is the size of the encrypted one.
+        check "gocryptfs, LINK: mounts" record "${refused[@]}" -- "${gocryptfs_words[@]}" && {
+            check "gocryptfs, LINK: serves" timeout 20 sh -ec "cd '$mnt'; echo text > text; ln text linked"
+            check "gocryptfs, LINK: is unmounted" stop
+            check "gocryptfs, LINK: is not shown there" judged "gocryptfs, LINK" "not shown: entry * message $(first_link): code 73: *"
+        }
     else
         echo "recorder: skipped: gocryptfs is not installed"
     fi
@@ -745,8 +872,18 @@ servers_in_go() {
         echo "recorder: skipped: rclone is not installed"
     fi
 }
-names_of_go_fuse() {
-    "$work/recorder/fuse-messages" "$capture" > "$work/seen" && grep -q "^2 to server: LOOKUP, .*, name \.go-fuse-epoll-hack$" "$work/seen"
+refused=(--refuse "FALLOCATE,COPY_FILE_RANGE,IOCTL")
+gocryptfs_words=(gocryptfs -fg -nosyslog -sharedstorage -passfile "$work/password" "$work/secret" "$mnt")
+names_of_go_fuse() { "$work/recorder/fuse-messages" "$capture" | grep -c "to server: LOOKUP, .*, name \.go-fuse-epoll-hack$"; }
+first_link() { "$work/recorder/fuse-messages" "$capture" | sed -n 's/^\([0-9]*\) to server: LINK, .*/\1/p' | head -n 1; }
+work_without_links() {
+    is_mounted && timeout 60 sh -ec "cd '$mnt'; rm -rf *
+        for i in 1 2 3 4; do mkdir new\$i; echo \$i > new\$i/file; echo more >> new\$i/file; ln -s file new\$i/symbolic; done
+        [ \"\$(cat new1/symbolic new2/file new3/file | wc -l)\" -eq 6 ]
+        mv new1/file moved; rm new1/symbolic; rmdir new1; mv moved new2/file; rm -r new3; truncate -s 3 new2/file
+        [ ! -e moved ]
+        [ \"\$(cat new2/file)\" = \"\$(printf '1\nm')\" ]
+        ls -lR > '$work/seen'"
 }
 # rclone has one mode for all files, and one for all folders, and neither links nor pipes.
 rclone_words=(rclone mount --config /dev/null --vfs-cache-mode writes --cache-dir "$work/cache" --file-perms 0644 --dir-perms 0755)

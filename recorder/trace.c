@@ -774,6 +774,7 @@ enum trace_start trace_start(char **words, const sigset_t *blocked, pid_t *serve
     unsetenv("FUSE_RECORD_PLAIN");
     unsetenv("FUSE_RECORD_KEEP_INIT");
     unsetenv("FUSE_RECORD_KEEP_REFUSED");
+    unsetenv("FUSE_RECORD_KEEP_OWN");
     *call = "mmap";
     if (told == MAP_FAILED || !fuse_record_setup.progress)
         return TRACE_REFUSED;
