@@ -705,6 +705,18 @@ of_own_server() {
 }
 of_own_server
 started_again "another process has written to it"
+
+# A file that takes most of a capture: its bytes are written to the server, and read from it.
+large_file() {
+    head -c 100000000 /dev/urandom > "$work/large" && timeout 60 cp "$work/large" "$mnt/large" && timeout 60 cmp "$work/large" "$mnt/large"
+}
+own large --
+check "large: is copied in and read back" large_file
+check "large: is unmounted" stop
+check "large: ends well" ends 0 "$unanswered\$"
+check "large: its bytes are there twice" [ "$(stat -c %s "$capture")" -gt 200000000 ]
+check "large: is legal" is_legal "memory, a file of 100 MB"
+rm -f "$work/large"
 check "memory, linked statically: mounts" record -- "$work/memory-static" "$mnt" && whole_session "memory, linked statically"
 check "memory, linked statically: records itself" [ "$(grep -c "system calls are stopped" "$capture.log")" -eq 0 ]
 

@@ -28,6 +28,7 @@
 #include <stdio.h>
 #include <stdlib.h>
 #include <string.h>
+#include <sys/mman.h>
 #include <sys/mount.h>
 #include <sys/stat.h>
 #include <sys/uio.h>
@@ -37,8 +38,10 @@
 #include "../fuse-record.h"
 #endif
 
+#define MOST_BYTES (UINT64_C(1) << 40) /* of a file: the limit of the model */
+
 enum {
-    MOST_BYTES = 16777216,         /* of a file: the limit of the model */
+    MOST_ALLOCATED = 16777216,     /* more bytes of a file are mapped, so that those that nobody writes take no memory */
     MOST_WRITTEN = 131072,         /* by one WRITE, and listed by one READDIR */
     MESSAGE_ROOM = 1048576 + 4096, /* more than the kernel ever sends at once */
     MODE_BITS = 07777,
@@ -264,30 +267,70 @@ static void make_root(void)
     root->parent = root->number;
 }
 
+static bool is_mapped(const struct file *file)
+{
+    return file->room > MOST_ALLOCATED;
+}
+
 static void free_if_unused(struct file *file)
 {
     if (file->names != 0 || file->lookups != 0 || file->opens != 0)
         return;
     server.files[file->number] = NULL;
-    free(file->bytes);
+    if (is_mapped(file))
+        munmap(file->bytes, file->room);
+    else
+        free(file->bytes);
     free(file->entries);
     free(file);
 }
 
-/* New bytes are zero, also where the file was longer once. */
+/* Makes room for so many bytes. Those that are new are zero. */
+static void make_room(struct file *file, uint64_t size)
+{
+    size_t room = file->room == 0 ? 4096 : file->room;
+    while (room < size)
+        room *= 2;
+    if (room <= MOST_ALLOCATED) {
+        file->bytes = resized(file->bytes, room);
+        memset(file->bytes + file->room, 0, room - file->room);
+    } else if (is_mapped(file)) {
+        file->bytes = mremap(file->bytes, file->room, room, MREMAP_MAYMOVE);
+    } else {
+        char *before = file->bytes;
+        file->bytes = mmap(NULL, room, PROT_READ | PROT_WRITE, MAP_PRIVATE | MAP_ANONYMOUS | MAP_NORESERVE, -1, 0);
+        if (file->bytes != MAP_FAILED && file->size > 0)
+            memcpy(file->bytes, before, file->size);
+        free(before);
+    }
+    if (file->bytes == MAP_FAILED)
+        fail("no memory");
+    file->room = room;
+}
+
+/* Makes the bytes of a file zero from this one on. Of those that are mapped whole pages are given back. */
+static void clear(struct file *file, uint64_t from)
+{
+    const size_t page = (size_t)sysconf(_SC_PAGESIZE);
+    size_t whole = (from + page - 1) / page * page;
+    if (!is_mapped(file) || whole >= file->size) {
+        memset(file->bytes + from, 0, file->size - from);
+        return;
+    }
+    memset(file->bytes + from, 0, whole - from);
+    if (madvise(file->bytes + whole, file->room - whole, MADV_DONTNEED) != 0)
+        fail("pages can't be given back");
+}
+
+/* Bytes behind the size are zero, so new ones are, also where the file was longer once. */
 static int resize(struct file *file, uint64_t size)
 {
     if (size > MOST_BYTES)
         return EFBIG;
-    if (size > file->room) {
-        size_t room = file->room == 0 ? 4096 : file->room;
-        while (room < size)
-            room *= 2;
-        file->bytes = resized(file->bytes, room);
-        file->room = room;
-    }
-    if (size > file->size)
-        memset(file->bytes + file->size, 0, size - file->size);
+    if (size > file->room)
+        make_room(file, size);
+    if (size < file->size)
+        clear(file, size);
     file->size = size;
     mark_modified(file);
     return 0;
