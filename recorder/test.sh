@@ -592,6 +592,23 @@ has_times() {
 prints_no_times() {
     ! "$work/recorder/fuse-messages" --times "$capture" > "$work/seen" 2> "$work/errors" && grep -q ": a capture without times$" "$work/errors"
 }
+# A file of 300 GiB with bytes at both ends, cut and made longer again.
+work_on_sparse() {
+    timeout 20 bash -ec 'cd "$0"; size=$((300 << 30))
+        ends_in() { tail -c 4 file | od -A n -t x1 | grep -qx " $1"; }
+        truncate -s $size file
+        printf begin | dd of=file conv=notrunc status=none
+        printf last | dd of=file bs=4 seek=$(((size - 4) / 4)) conv=notrunc status=none
+        [ "$(stat -c %s file)" -eq $size ]
+        [ "$(head -c 5 file)" = begin ]; ends_in "6c 61 73 74"
+        truncate -s $((size - 2)) file; ends_in "00 00 6c 61"
+        truncate -s $size file; ends_in "6c 61 00 00"
+        truncate -s $((size / 2)) file; ends_in "00 00 00 00"
+        truncate -s 3 file; [ "$(cat file)" = beg ]
+        truncate -s $size file; ends_in "00 00 00 00"
+        [ "$(head -c 5 file | od -A n -t x1)" = " 62 65 67 00 00" ]
+        echo more >> file; [ "$(tail -c 5 file)" = more ]' "$mnt"
+}
 of_own_server() {
     own memory --
     whole_session memory
@@ -611,6 +628,13 @@ of_own_server() {
     whole_session "memory, plain"
     check "plain: has no times" [ "$(head -c 8 "$capture")" = FUSECAP1 ]
     check "plain: and none are printed" prints_no_times
+
+    # A file of which the first and the last bytes are written alone.
+    own sparse --
+    check "sparse: serves" work_on_sparse
+    check "sparse: is unmounted" stop
+    check "sparse: ends well" ends 0 "$unanswered\$"
+    check "sparse: is legal" is_legal "memory, a file of 300 GiB"
 
     # A server that ends in the middle of its work.
     own killed -- --die-after 200
