@@ -33,6 +33,11 @@ printed() {
     diff -a expected found | head -c 4000 >&2 && diff -a /dev/null errors >&2 && [ "$status" -eq 0 ]
 }
 
+# The last run printed so many bytes, nothing on standard error, and ended with 0.
+printed_bytes() {
+    [ "$(stat -c %s found)" -eq "$1" ] && diff -a /dev/null errors >&2 && [ "$status" -eq 0 ]
+}
+
 # The last run ended with this status and this line on standard error. What it printed is no tree text.
 refused() {
     printf '%s\n' "$2" | diff -a - errors >&2 && [ "$status" -eq "$1" ] && [ "$(tail -c 5 found)" != $'\nend' ]
@@ -188,25 +193,19 @@ status=0
 (ulimit -Sn 16 && exec ./fuse-tree deep > found 2> errors) || status=$?
 check "a long path" printed
 
-# The most bytes that a file may have, and one more.
+# The most bytes that a text may have, and more: a file of so many bytes has two digits for each, and 34 bytes stand beside them.
 mkdir -m 755 large
-truncate -s 16777216 large/f
+truncate -s $(((268435456 - 34) / 2)) large/f
 chmod 644 large/f
-{
-    printf 'fuse-tree 1\nroot 755\nf 644 f '
-    head -c 33554432 /dev/zero | tr '\0' 0
-    printf '\nend\n'
-} > expected
 run large
-check "a file of 16777216 bytes" printed
-truncate -s 16777217 large/f
+check "a text of 268435456 bytes" printed_bytes 268435456
+echo more >> large/f
 run large
-check "a file of 16777217 bytes" refused 1 "fuse-tree: large/f: more than 16777216 bytes"
+check "a longer text" refused 1 "fuse-tree: large: the tree text of this folder would have more than 268435456 bytes: take files out of it, or begin with a folder without them"
 check "nothing is printed of it" [ ! -s found ]
-mkdir -m 755 large/a
-echo before > large/a/a
+truncate -s 300G large/f
 run large
-check "nor of what stands before it" [ ! -s found ]
+check "a file of 300 GiB" refused 1 "fuse-tree: large: the tree text of this folder would have more than 268435456 bytes: take files out of it, or begin with a folder without them"
 
 # What cannot be read. No file is closed to root.
 run missing

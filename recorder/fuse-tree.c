@@ -17,11 +17,12 @@
 #include <sys/stat.h>
 #include <unistd.h>
 
-#define MOST_FILE_BYTES 16777216
+#define MOST_TEXT_BYTES 268435456
 #define MOST_OPEN_FILES 4096
 
 static const char usage[] = "usage: fuse-tree DIR\n";
-static const char too_long[] = "more than 16777216 bytes";
+static const char too_long[] = "the tree text of this folder would have more than 268435456 bytes: take files out of it, "
+                               "or begin with a folder without them";
 
 /* A file that has several names, and the path below the root at which it was met first. */
 struct first_name {
@@ -30,10 +31,13 @@ struct first_name {
     char path[];
 };
 
-/* What a walk keeps. The path of each file begins with that of the root, and goes on below it from root_length. */
+/* What a walk keeps. The path of each file begins with that of the root, and goes on below it from root_length. A walk that only counts
+ * prints nothing and opens no file: it goes by the sizes that the files tell. */
 struct walk {
     size_t root_length;
     void *first_names;
+    bool counts;
+    unsigned long long text_bytes;
     unsigned char bytes[65536];
 };
 
@@ -61,32 +65,56 @@ static void *resize(const char *path, void *block, size_t size)
     return block;
 }
 
-/* Ends a line, and the program too where standard output did not take what was written so far. */
-static void end_line(void)
+static void put_byte(struct walk *walk, unsigned char byte)
 {
-    putchar('\n');
+    walk->text_bytes++;
+    if (!walk->counts)
+        putchar(byte);
+}
+
+static void put_text(struct walk *walk, const char *text)
+{
+    for (; *text != '\0'; text++)
+        put_byte(walk, (unsigned char)*text);
+}
+
+/* Three octal digits. */
+static void put_bits(struct walk *walk, mode_t mode)
+{
+    for (int place = 6; place >= 0; place -= 3)
+        put_byte(walk, '0' + ((mode >> place) & 7));
+}
+
+/* Ends a line, and the program too where standard output did not take what was written so far. */
+static void end_line(struct walk *walk)
+{
+    put_byte(walk, '\n');
     if (ferror(stdout))
         refuse("standard output", strerror(errno));
 }
 
 /* Writes a path below the root, each byte of its names as itself or percent-encoded. */
-static void write_path(const char *path)
+static void write_path(struct walk *walk, const char *path)
 {
+    static const char digits[] = "0123456789ABCDEF";
     for (; *path != '\0'; path++) {
         unsigned char byte = (unsigned char)*path;
-        if (byte >= 0x21 && byte <= 0x7E && byte != '%')
-            putchar(byte);
-        else
-            printf("%%%02X", byte);
+        if (byte >= 0x21 && byte <= 0x7E && byte != '%') {
+            put_byte(walk, byte);
+        } else {
+            put_byte(walk, '%');
+            put_byte(walk, digits[byte >> 4]);
+            put_byte(walk, digits[byte & 15]);
+        }
     }
 }
 
-static void write_hex(const unsigned char *bytes, size_t count)
+static void write_hex(struct walk *walk, const unsigned char *bytes, size_t count)
 {
     static const char digits[] = "0123456789abcdef";
     for (size_t i = 0; i < count; i++) {
-        putchar(digits[bytes[i] >> 4]);
-        putchar(digits[bytes[i] & 15]);
+        put_byte(walk, digits[bytes[i] >> 4]);
+        put_byte(walk, digits[bytes[i] & 15]);
     }
 }
 
@@ -103,20 +131,26 @@ static void write_content(struct walk *walk, int directory, const char *path)
     size_t count, total = 0;
     while ((count = checked(path, read(file, walk->bytes, sizeof walk->bytes))) > 0) {
         total += count;
-        if (total > MOST_FILE_BYTES)
+        write_hex(walk, walk->bytes, count);
+        if (walk->text_bytes > MOST_TEXT_BYTES)
             refuse(path, too_long);
-        write_hex(walk->bytes, count);
     }
     if (total == 0)
-        putchar('-');
+        put_byte(walk, '-');
     close(file);
+}
+
+/* Counts them, by the size that the file tells. */
+static void count_content(struct walk *walk, const struct stat *status)
+{
+    walk->text_bytes += status->st_size == 0 ? 1 : 2 * (unsigned long long)status->st_size;
 }
 
 /* Writes the target of a symbolic link. Linux has none that fills the bytes of a walk. */
 static void write_target(struct walk *walk, int directory, const char *path)
 {
     char *target = (char *)walk->bytes;
-    write_hex(walk->bytes, checked(path, readlinkat(directory, name_of(path), target, sizeof walk->bytes)));
+    write_hex(walk, walk->bytes, checked(path, readlinkat(directory, name_of(path), target, sizeof walk->bytes)));
 }
 
 static int compare_files(const void *left, const void *right)
@@ -164,22 +198,27 @@ static bool write_line(struct walk *walk, int directory, const char *path)
     checked(path, fstatat(directory, name_of(path), &status, AT_SYMLINK_NOFOLLOW));
     bool is_directory = S_ISDIR(status.st_mode);
     const char *earlier = status.st_nlink > 1 && !is_directory ? earlier_path(walk, path, &status) : NULL;
-    if (earlier)
-        fputs("h ", stdout);
-    else
-        printf("%c %03o ", letter_of(status.st_mode), (unsigned)status.st_mode & 0777);
-    write_path(path + walk->root_length);
+    put_byte(walk, earlier ? 'h' : letter_of(status.st_mode));
+    put_byte(walk, ' ');
+    if (!earlier) {
+        put_bits(walk, status.st_mode);
+        put_byte(walk, ' ');
+    }
+    write_path(walk, path + walk->root_length);
     if (earlier) {
-        putchar(' ');
-        write_path(earlier);
+        put_byte(walk, ' ');
+        write_path(walk, earlier);
     } else if (S_ISREG(status.st_mode)) {
-        putchar(' ');
-        write_content(walk, directory, path);
+        put_byte(walk, ' ');
+        if (walk->counts)
+            count_content(walk, &status);
+        else
+            write_content(walk, directory, path);
     } else if (S_ISLNK(status.st_mode)) {
-        putchar(' ');
+        put_byte(walk, ' ');
         write_target(walk, directory, path);
     }
-    end_line();
+    end_line(walk);
     return is_directory;
 }
 
@@ -230,23 +269,6 @@ static DIR *open_directory(int above, const char *name, const char *path, int fl
     return directory;
 }
 
-/* Refuses a file above the limit in a directory or below it. Closes it. */
-static void check_sizes(DIR *directory, const char *path)
-{
-    struct stat status;
-    char **paths = read_paths(directory, path);
-    for (char **below = paths; *below; below++) {
-        checked(*below, fstatat(dirfd(directory), name_of(*below), &status, AT_SYMLINK_NOFOLLOW));
-        if (S_ISREG(status.st_mode) && status.st_size > MOST_FILE_BYTES)
-            refuse(*below, too_long);
-        if (S_ISDIR(status.st_mode))
-            check_sizes(open_directory(dirfd(directory), name_of(*below), *below, O_NOFOLLOW), *below);
-        free(*below);
-    }
-    free(paths);
-    closedir(directory);
-}
-
 /* Writes a line for each name in a directory, and behind that of a directory those of what is in it. Closes it. */
 static void write_names(struct walk *walk, DIR *directory, const char *path)
 {
@@ -260,20 +282,33 @@ static void write_names(struct walk *walk, DIR *directory, const char *path)
     closedir(directory);
 }
 
-/* Writes the tree text of a folder, where it has no file above the limit. */
-static void write_tree(struct walk *walk, const char *folder)
+/* Walks over a folder: counts the bytes of its tree text, or writes it. */
+static void walk_tree(struct walk *walk, const char *folder)
 {
     struct stat status;
-    check_sizes(open_directory(AT_FDCWD, folder, folder, 0), folder);
     DIR *root = open_directory(AT_FDCWD, folder, folder, 0);
     checked(folder, fstat(dirfd(root), &status));
     walk->root_length = strlen(folder) + (folder[strlen(folder) - 1] != '/');
-    printf("fuse-tree 1\nroot %03o", (unsigned)status.st_mode & 0777);
-    end_line();
+    put_text(walk, "fuse-tree 1\nroot ");
+    put_bits(walk, status.st_mode);
+    end_line(walk);
     write_names(walk, root, folder);
-    fputs("end", stdout);
-    end_line();
+    put_text(walk, "end");
+    end_line(walk);
     tdestroy(walk->first_names, free);
+    walk->first_names = NULL;
+}
+
+/* Writes the tree text of a folder. One that would be too long is refused before anything is printed. */
+static void write_tree(struct walk *walk, const char *folder)
+{
+    walk->counts = true;
+    walk_tree(walk, folder);
+    if (walk->text_bytes > MOST_TEXT_BYTES)
+        refuse(folder, too_long);
+    walk->counts = false;
+    walk->text_bytes = 0;
+    walk_tree(walk, folder);
 }
 
 /* Lets a walk go deep, since it holds each directory open that it is in, but no deeper than the stack bears. */
@@ -291,7 +326,7 @@ int main(int count, char **words)
     struct walk walk = {0};
     if (count == 2 && strcmp(words[1], "--help") == 0) {
         fputs(usage, stdout);
-        puts("Prints the tree text of a folder, or of a mount. Files may have 16777216 bytes.");
+        puts("Prints the tree text of a folder, or of a mount. The text may have 268435456 bytes.");
         return 0;
     }
     if (count != 2) {
