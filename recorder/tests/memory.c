@@ -12,6 +12,7 @@
  *   --answer-forget       a bug: FORGET and BATCH_FORGET are answered
  *   --die-at N            ends by SIGKILL when a request with this opcode was read, before it is answered
  *   --die-after N         ends by SIGKILL when the N-th request was read, before it is answered
+ *   --hang-after N        stands still from when the N-th request was read
  *
  * It serves until it is unmounted, or SIGTERM or SIGINT comes, and then ends with status 0.
  */
@@ -127,6 +128,7 @@ static struct {
     bool answers_forget;
     uint64_t deadly_operation; /* the opcode to die at, 0 for none */
     uint64_t deadly; /* the request to die at, 0 for none */
+    uint64_t last;   /* the request to stand still at, 0 for none */
 } options;
 
 static struct {
@@ -1021,6 +1023,8 @@ static void serve(void)
         if (size >= 0) {
             if (++requests == options.deadly)
                 raise(SIGKILL);
+            while (requests == options.last)
+                pause();
             handle(message, (size_t)size);
         } else if (errno == ENODEV) {
             server.mounted = false;
@@ -1064,7 +1068,7 @@ static void mount_device(void)
 __attribute__((noreturn)) static void refuse_words(void)
 {
     fputs("usage: memory [--timeout SECONDS] [--deny NAME] [--answer-twice NAME] [--answer-short NAME] [--answer-forget] "
-          "[--die-at N] [--die-after N] MOUNTPOINT\n", stderr);
+          "[--die-at N] [--die-after N] [--hang-after N] MOUNTPOINT\n", stderr);
     exit(EXIT_FAILURE);
 }
 
@@ -1087,6 +1091,7 @@ static void read_words(int count, char **words)
         {"answer-forget", no_argument, NULL, 'f'},
         {"die-at", required_argument, NULL, 'o'},
         {"die-after", required_argument, NULL, 'k'},
+        {"hang-after", required_argument, NULL, 'h'},
         {0},
     };
     int option;
@@ -1105,6 +1110,8 @@ static void read_words(int count, char **words)
             options.deadly_operation = number_of(optarg);
         else if (option == 'k')
             options.deadly = number_of(optarg);
+        else if (option == 'h')
+            options.last = number_of(optarg);
         else
             refuse_words();
     }
