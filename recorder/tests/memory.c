@@ -10,6 +10,7 @@
  *   --answer-twice NAME   a bug: the answer to a LOOKUP of NAME is written twice
  *   --answer-short NAME   a bug: the success of a LOOKUP of NAME lacks its last bytes
  *   --answer-forget       a bug: FORGET and BATCH_FORGET are answered
+ *   --bug NAME            one of the bugs below
  *   --die-at N            ends by SIGKILL when a request with this opcode was read, before it is answered
  *   --die-after N         ends by SIGKILL when the N-th request was read, before it is answered
  *   --hang-after N        stands still from when the N-th request was read
@@ -72,6 +73,15 @@ struct file {
     char *bytes;
     size_t size, room;
 
+    /* of a regular file, for planted bugs */
+    struct overwritten {
+        uint64_t handle, offset;
+        size_t size;
+        char *bytes;
+    } overwritten;         /* what its last WRITE took the place of */
+    uint64_t size_before;  /* its last truncation */
+    bool is_to_be_emptied; /* by an OPEN that was answered */
+
     /* of a directory: its entries by rising cookies */
     struct entry *entries;
     size_t entry_count, entry_room;
@@ -119,9 +129,45 @@ struct request {
     } body;
 };
 
+enum bug {
+    NO_BUG,
+    LOST_WRITE, CUT_WRITE, SHORT_READ, READ_PAST_END, OLD_HOLE,
+    STALE_SIZE, LATE_TRUNCATION, LOST_MODE, LINK_COUNT,
+    DENIED_NAME, OLD_NAME_STAYS, RENAME_OVER_OPEN, EXCHANGE_LEAVES_PARENTS, RMDIR_OF_FULL,
+    SKIPPED_NAME, NAME_TWICE,
+    LOOKUP_COUNT, NODE_AGAIN,
+    ANSWERED_TWICE, OTHER_UNIQUE,
+};
+
+static const struct {
+    const char *name, *meaning;
+} bugs[] = {
+    [LOST_WRITE] = {"lost-write", "a WRITE puts back the bytes that the last WRITE, by another handle, took the place of"},
+    [CUT_WRITE] = {"cut-write", "a WRITE across the edge of a page ends there, and is answered as whole"},
+    [SHORT_READ] = {"short-read", "a READ gives no more than a page"},
+    [READ_PAST_END] = {"read-past-end", "a READ across the end of the file gives as many bytes as were asked for"},
+    [OLD_HOLE] = {"old-hole", "a file that is cut and made longer has its old bytes again"},
+    [STALE_SIZE] = {"stale-size", "the first LOOKUP after a truncation tells the size from before"},
+    [LATE_TRUNCATION] = {"late-truncation", "O_TRUNC of an OPEN empties the file at its next WRITE or RELEASE"},
+    [LOST_MODE] = {"lost-mode", "SETATTR answers the new permission bits, and does not keep them"},
+    [LINK_COUNT] = {"link-count", "the answer to LINK tells one name too few"},
+    [DENIED_NAME] = {"denied-name", "each 40th LOOKUP of a name that is there says ENOENT"},
+    [OLD_NAME_STAYS] = {"old-name-stays", "a file that is moved to another directory keeps its old name too"},
+    [RENAME_OVER_OPEN] = {"rename-over-open", "an open file whose name goes to another one is emptied"},
+    [EXCHANGE_LEAVES_PARENTS] = {"exchange-leaves-parents", "an exchange over two directories swaps the names, and each file stays in its own"},
+    [RMDIR_OF_FULL] = {"rmdir-of-full", "RMDIR of a directory that is not empty succeeds"},
+    [SKIPPED_NAME] = {"skipped-name", "offsets of listings are places, so one that goes takes another along"},
+    [NAME_TWICE] = {"name-twice", "the same, and new names come first, so one is listed again"},
+    [LOOKUP_COUNT] = {"lookup-count", "an answer to CREATE does not count as a lookup, and a number is used again when its count is 0"},
+    [NODE_AGAIN] = {"node-again", "a number is used again when its file has no name and no handle, whatever the kernel knows"},
+    [ANSWERED_TWICE] = {"answered-twice", "each 100th answer is written twice"},
+    [OTHER_UNIQUE] = {"other-unique", "each 100th answer is written with the unique of the request before, too"},
+};
+
 static struct {
     const char *mountpoint;
     uint64_t timeout;
+    enum bug bug;
     const char *denied;
     const char *answered_twice;
     const char *answered_short;
@@ -140,6 +186,9 @@ static struct {
     struct file **files;  /* by their numbers; NULL where a file is gone */
     size_t file_room;
     uint64_t last_number;
+    uint64_t free_number;  /* that a planted bug uses again, 0 for none */
+    uint64_t answer_count; /* of a planted bug */
+    uint64_t last_unique;
 } server = {.device = -1};
 
 static volatile sig_atomic_t stopped;
@@ -242,6 +291,12 @@ static void mark_modified(struct file *file)
     file->modified = file->changed = now();
 }
 
+/* Whether this is the planted bug. */
+static bool has(enum bug bug)
+{
+    return options.bug == bug;
+}
+
 static struct file *file_of(uint64_t number)
 {
     return number <= server.last_number ? server.files[number] : NULL;
@@ -252,7 +307,8 @@ static struct file *new_file(uint32_t mode, uint32_t uid, uint32_t gid)
     struct file *file = resized(NULL, sizeof *file);
     *file = (struct file){ .mode = mode, .uid = uid, .gid = gid, .last_cookie = COOKIE_OF_PARENT };
     file->accessed = file->modified = file->changed = now();
-    file->number = ++server.last_number;
+    file->number = server.free_number != 0 ? server.free_number : ++server.last_number;
+    server.free_number = 0;
     if (file->number >= server.file_room) {
         server.file_room = 2 * server.file_room + 64;
         server.files = resized(server.files, server.file_room * sizeof *server.files);
@@ -276,13 +332,16 @@ static bool is_mapped(const struct file *file)
 
 static void free_if_unused(struct file *file)
 {
-    if (file->names != 0 || file->lookups != 0 || file->opens != 0)
+    if (file->names != 0 || (file->lookups != 0 && !has(NODE_AGAIN)) || file->opens != 0)
         return;
     server.files[file->number] = NULL;
+    if (has(NODE_AGAIN) || has(LOOKUP_COUNT))
+        server.free_number = file->number;
     if (is_mapped(file))
         munmap(file->bytes, file->room);
     else
         free(file->bytes);
+    free(file->overwritten.bytes);
     free(file->entries);
     free(file);
 }
@@ -331,8 +390,11 @@ static int resize(struct file *file, uint64_t size)
         return EFBIG;
     if (size > file->room)
         make_room(file, size);
-    if (size < file->size)
-        clear(file, size);
+    if (size < file->size) {
+        file->size_before = file->size;
+        if (!has(OLD_HOLE))
+            clear(file, size);
+    }
     file->size = size;
     mark_modified(file);
     return 0;
@@ -355,7 +417,12 @@ static void add_entry(struct file *directory, const char *name, struct file *fil
         directory->entry_room = 2 * directory->entry_room + 8;
         directory->entries = resized(directory->entries, directory->entry_room * sizeof *directory->entries);
     }
-    directory->entries[directory->entry_count++] = (struct entry){++directory->last_cookie, file, copy_of(name)};
+    struct entry *place = directory->entries + directory->entry_count++;
+    if (has(NAME_TWICE)) {
+        memmove(directory->entries + 1, directory->entries, (size_t)(place - directory->entries) * sizeof *place);
+        place = directory->entries;
+    }
+    *place = (struct entry){++directory->last_cookie, file, copy_of(name)};
     mark_modified(directory);
     file->names++;
     file->changed = now();
@@ -422,7 +489,10 @@ static void reply(const struct request *request, int error)
         .unique = request->header.unique,
     };
     struct iovec parts[] = {{&header, sizeof header}, {request->answer, body_size}};
-    for (int time = 0; time < request->times; time++) {
+    bool is_hundredth = ++server.answer_count % 100 == 0;
+    int times = request->times + (is_hundredth && has(ANSWERED_TWICE)) + (is_hundredth && has(OTHER_UNIQUE));
+    for (int time = 0; time < times; time++) {
+        header.unique = is_hundredth && has(OTHER_UNIQUE) && time == 0 ? server.last_unique : request->header.unique;
         /*
          * ENOENT: nobody waits for it, or no longer. ENODEV: the mount is gone, which the next read tells too. EINVAL: a
          * planted bug.
@@ -431,6 +501,7 @@ static void reply(const struct request *request, int error)
             (errno != EINVAL || !options.answered_short))
             fail("writing an answer");
     }
+    server.last_unique = request->header.unique;
 }
 
 static struct fuse_attr attributes_of(const struct file *file)
@@ -507,9 +578,15 @@ static int do_lookup(struct request *request)
         request->times = 2;
     if (!entry)
         return strlen(request->name) > NAME_MAX ? ENAMETOOLONG : ENOENT;
-    if (is_named(options.denied, request->name) && server.times_found++ > 0)
+    bool is_denied = is_named(options.denied, request->name) || (has(DENIED_NAME) && server.times_found % 40 == 39);
+    if (is_denied && server.times_found++ > 0)
         return ENOENT;
+    server.times_found += has(DENIED_NAME);
     answer_entry(request, entry->file);
+    if (has(STALE_SIZE) && entry->file->size_before != 0) {
+        request->body.entry.attr.size = entry->file->size_before;
+        entry->file->size_before = 0;
+    }
     if (is_named(options.answered_short, request->name))
         request->answer_size -= sizeof(uint32_t);
     return 0;
@@ -560,6 +637,7 @@ static int do_setattr(struct request *request)
 {
     const struct fuse_setattr_in *asked = &request->asked.setattr;
     struct file *file = request->file;
+    uint32_t mode = file->mode;
     if (asked->valid & FATTR_SIZE) {
         if (!S_ISREG(file->mode))
             return S_ISDIR(file->mode) ? EISDIR : EINVAL;
@@ -567,7 +645,9 @@ static int do_setattr(struct request *request)
             return EFBIG;
     }
     if ((asked->valid & FATTR_MODE) && !S_ISLNK(file->mode))
-        file->mode = (file->mode & S_IFMT) | (asked->mode & MODE_BITS);
+        mode = (file->mode & S_IFMT) | (asked->mode & MODE_BITS);
+    if (!has(LOST_MODE))
+        file->mode = mode;
     if (asked->valid & FATTR_UID)
         file->uid = asked->uid;
     if (asked->valid & FATTR_GID)
@@ -577,7 +657,9 @@ static int do_setattr(struct request *request)
     if (asked->valid & FATTR_MTIME)
         file->modified = time_asked(asked->valid & FATTR_MTIME_NOW, asked->mtime, asked->mtimensec);
     file->changed = now();
-    return do_getattr(request);
+    do_getattr(request);
+    request->body.attributes.attr.mode = mode;
+    return 0;
 }
 
 static int do_readlink(struct request *request)
@@ -645,7 +727,7 @@ static int do_rmdir(struct request *request)
         return ENOENT;
     if (!S_ISDIR(entry->file->mode))
         return ENOTDIR;
-    if (entry->file->entry_count != 0)
+    if (entry->file->entry_count != 0 && !has(RMDIR_OF_FULL))
         return ENOTEMPTY;
     remove_entry(request->file, entry);
     return 0;
@@ -694,10 +776,14 @@ static int move(struct request *request, struct file *directory)
     if (error != 0)
         return error;
     /* Each of these changes moves entries. The new name comes before the old one goes, so that the file is kept. */
-    if (replaced)
+    if (replaced) {
+        if (has(RENAME_OVER_OPEN) && S_ISREG(replaced->file->mode) && replaced->file->opens > 0)
+            resize(replaced->file, 0);
         remove_entry(directory, replaced);
+    }
     add_entry(directory, request->second_text, moved);
-    remove_entry(request->file, find_entry(request->file, request->name));
+    if (!has(OLD_NAME_STAYS) || directory == request->file || S_ISDIR(moved->mode))
+        remove_entry(request->file, find_entry(request->file, request->name));
     return 0;
 }
 
@@ -724,6 +810,12 @@ static int exchange(struct request *request, struct file *directory)
         return 0;
     if (comes_below_itself(directory, moved) || comes_below_itself(request->file, other->file))
         return EINVAL;
+    if (has(EXCHANGE_LEAVES_PARENTS) && directory != request->file) {
+        char *name = old->name;
+        old->name = other->name;
+        other->name = name;
+        return 0;
+    }
     replace_in_entry(request->file, old, other->file);
     replace_in_entry(directory, other, moved);
     return 0;
@@ -767,14 +859,27 @@ static int do_link(struct request *request)
     if (error != 0)
         return error;
     add_entry(request->file, request->name, file);
-    return answer_entry(request, file);
+    answer_entry(request, file);
+    request->body.entry.attr.nlink -= has(LINK_COUNT);
+    return 0;
+}
+
+/* Carries out the truncation that a planted bug has put off. */
+static void empty_late(struct file *file)
+{
+    if (file->is_to_be_emptied)
+        resize(file, 0);
+    file->is_to_be_emptied = false;
 }
 
 /* OPEN and OPENDIR */
 static int do_open(struct request *request)
 {
-    if (S_ISREG(request->file->mode) && (request->asked.open.flags & O_TRUNC) && server.truncates)
-        resize(request->file, 0);
+    if (S_ISREG(request->file->mode) && (request->asked.open.flags & O_TRUNC) && server.truncates) {
+        request->file->is_to_be_emptied = true;
+        if (!has(LATE_TRUNCATION))
+            empty_late(request->file);
+    }
     request->body.opened = opened(request->file);
     return answer(request, &request->body.opened, sizeof request->body.opened);
 }
@@ -797,6 +902,7 @@ static int do_create(struct request *request)
         resize(file, 0);
     }
     request->body.created.entry = looked_up(file);
+    file->lookups -= has(LOOKUP_COUNT);
     request->body.created.opened = opened(file);
     return answer(request, &request->body.created, sizeof request->body.created);
 }
@@ -808,7 +914,30 @@ static int do_read(struct request *request)
     if (asked->offset >= file->size)
         return 0;
     size_t left = file->size - asked->offset;
-    return answer(request, file->bytes + asked->offset, asked->size < left ? asked->size : left);
+    size_t size = asked->size < left ? asked->size : left;
+    if (has(SHORT_READ) && size > 4096)
+        size = 4096;
+    if (has(READ_PAST_END) && asked->size > left) {
+        static char bytes[MESSAGE_ROOM];
+        size = asked->size < sizeof bytes ? asked->size : sizeof bytes;
+        memset(bytes, 0, size);
+        return answer(request, memcpy(bytes, file->bytes + asked->offset, left < size ? left : size), size);
+    }
+    return answer(request, file->bytes + asked->offset, size);
+}
+
+/* What a WRITE by another handle put in the place of bytes goes for these again. Keeps those that this WRITE is to replace. */
+static void lose_last_write(struct file *file, const struct fuse_write_in *asked)
+{
+    struct overwritten *last = &file->overwritten;
+    if (last->bytes && last->handle != asked->fh && last->offset + last->size <= file->size)
+        memcpy(file->bytes + last->offset, last->bytes, last->size);
+    *last = (struct overwritten){asked->fh, asked->offset, asked->size, resized(last->bytes, asked->size)};
+    memset(last->bytes, 0, last->size);
+    if (asked->offset < file->size) {
+        size_t left = file->size - asked->offset;
+        memcpy(last->bytes, file->bytes + asked->offset, left < last->size ? left : last->size);
+    }
 }
 
 static int do_write(struct request *request)
@@ -819,10 +948,14 @@ static int do_write(struct request *request)
         return EPROTO;
     if (asked->offset > MOST_BYTES || asked->size > MOST_BYTES - asked->offset)
         return EFBIG;
+    empty_late(file);
     if (asked->size > 0) {
+        if (has(LOST_WRITE))
+            lose_last_write(file, asked);
         if (asked->offset + asked->size > file->size)
             resize(file, asked->offset + asked->size);
-        memcpy(file->bytes + asked->offset, request->rest, asked->size);
+        size_t to_edge = 4096 - asked->offset % 4096;
+        memcpy(file->bytes + asked->offset, request->rest, has(CUT_WRITE) && to_edge < asked->size ? to_edge : asked->size);
         mark_modified(file);
     }
     request->body.written = (struct fuse_write_out){.size = asked->size};
@@ -878,7 +1011,8 @@ static int do_readdir(struct request *request)
                 list(&listing, COOKIE_OF_PARENT, "..", directory->parent, S_IFDIR);
     for (size_t place = 0; fits && place < directory->entry_count; place++) {
         const struct entry *entry = &directory->entries[place];
-        fits = list(&listing, entry->cookie, entry->name, entry->file->number, entry->file->mode);
+        uint64_t cookie = has(SKIPPED_NAME) || has(NAME_TWICE) ? COOKIE_OF_PARENT + 1 + place : entry->cookie;
+        fits = list(&listing, cookie, entry->name, entry->file->number, entry->file->mode);
     }
     return answer(request, bytes, listing.size);
 }
@@ -886,6 +1020,7 @@ static int do_readdir(struct request *request)
 /* RELEASE and RELEASEDIR. Which handle it is makes no difference. */
 static int do_release(struct request *request)
 {
+    empty_late(request->file);
     if (request->file->opens > 0)
         request->file->opens--;
     free_if_unused(request->file);
@@ -1067,9 +1202,19 @@ static void mount_device(void)
 
 __attribute__((noreturn)) static void refuse_words(void)
 {
-    fputs("usage: memory [--timeout SECONDS] [--deny NAME] [--answer-twice NAME] [--answer-short NAME] [--answer-forget] "
-          "[--die-at N] [--die-after N] [--hang-after N] MOUNTPOINT\n", stderr);
+    fputs("usage: memory [--timeout SECONDS] [--deny NAME] [--answer-twice NAME] [--answer-short NAME] [--answer-forget] [--bug NAME] "
+          "[--die-at N] [--die-after N] [--hang-after N] MOUNTPOINT\nbugs:\n", stderr);
+    for (size_t bug = 1; bug < sizeof bugs / sizeof *bugs; bug++)
+        fprintf(stderr, "  %-24s %s\n", bugs[bug].name, bugs[bug].meaning);
     exit(EXIT_FAILURE);
+}
+
+static enum bug bug_of(const char *name)
+{
+    for (size_t bug = 1; bug < sizeof bugs / sizeof *bugs; bug++)
+        if (strcmp(bugs[bug].name, name) == 0)
+            return (enum bug)bug;
+    refuse_words();
 }
 
 static uint64_t number_of(const char *text)
@@ -1089,6 +1234,7 @@ static void read_words(int count, char **words)
         {"answer-twice", required_argument, NULL, 'a'},
         {"answer-short", required_argument, NULL, 's'},
         {"answer-forget", no_argument, NULL, 'f'},
+        {"bug", required_argument, NULL, 'b'},
         {"die-at", required_argument, NULL, 'o'},
         {"die-after", required_argument, NULL, 'k'},
         {"hang-after", required_argument, NULL, 'h'},
@@ -1106,6 +1252,8 @@ static void read_words(int count, char **words)
             options.answered_short = optarg;
         else if (option == 'f')
             options.answers_forget = true;
+        else if (option == 'b')
+            options.bug = bug_of(optarg);
         else if (option == 'o')
             options.deadly_operation = number_of(optarg);
         else if (option == 'k')
