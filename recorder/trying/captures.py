@@ -1,6 +1,7 @@
 """Captures, as far as fuse-try reads them: docs/formats.md has the format."""
 
 import collections
+import os
 import struct
 
 REQUEST, REPLY = 0, 1
@@ -11,6 +12,16 @@ FORGET, INTERRUPT, BATCH_FORGET, RENAME2 = 2, 36, 42, 45
 WITHOUT_ANSWER = {FORGET, INTERRUPT, BATCH_FORGET, 41}
 # Those that act on the tree: an order names each that was answered.
 TREE_OPERATIONS = {1, 3, 4, 5, 6, 8, 9, 10, 11, 12, 13, 14, 15, 16, 27, 28, 35, 44, RENAME2}
+
+# Those that change nothing, whatever is answered. OPEN may have O_TRUNC.
+READING = {1, 3, 5, 15, 27, 28, 44}
+OPEN = 14
+
+# Where the names of a request stand in its message: behind its header and a struct.
+NAMES_AT = {1: 40, 6: 40, 8: 56, 9: 48, 10: 40, 11: 40, 12: 48, 13: 48, 35: 56, RENAME2: 56}
+SYMLINK, RENAME, LINK, READDIRPLUS = 6, 12, 13, 44
+GIVES_NODE = {1, SYMLINK, 8, 9, LINK, 35}
+ENTRY_SIZE, DIRENT_SIZE = 128, 24
 
 Message = collections.namedtuple("Message", "head direction bytes")
 
@@ -53,6 +64,11 @@ def unique_of(message):
     return IN_HEADER.unpack_from(message.bytes)[2] if message.direction == REQUEST else OUT_HEADER.unpack_from(message.bytes)[2]
 
 
+def time_of(message):
+    """In seconds of CLOCK_MONOTONIC."""
+    return HEADS[b"FUSECAP2"].unpack(message.head)[1] / 1e9
+
+
 def acts_on_tree(message):
     return opcode_of(message) in TREE_OPERATIONS
 
@@ -85,3 +101,115 @@ def answers(capture):
         elif unique_of(message) in waiting:
             found[waiting.pop(unique_of(message))] = place
     return found
+
+
+def pair_at(capture, place):
+    """The places of the request and of the answer, of which one is at this place; None for one that is not there."""
+    if capture.messages[place].direction == REQUEST:
+        return place, answers(capture).get(place)
+    unique = unique_of(capture.messages[place])
+    asked = [at for at in range(place) if capture.messages[at].direction == REQUEST and unique_of(capture.messages[at]) == unique]
+    return asked[-1] if asked else None, place
+
+
+def operation_at(capture, place):
+    """The operation of the request at a place, or of the one that is answered there; 0 where none is."""
+    request = pair_at(capture, place)[0] if place < len(capture.messages) else None
+    return opcode_of(capture.messages[request]) if request is not None else 0
+
+
+def names_of(message):
+    """The names that a request has, with their directories."""
+    opcode, at = opcode_of(message), NAMES_AT.get(opcode_of(message))
+    if at is None or len(message.bytes) <= at:
+        return []
+    texts, node = message.bytes[at:].split(b"\0"), node_of(message)
+    if opcode in (RENAME, RENAME2):
+        return [(node, texts[0]), (number_at(message, 40), texts[1] if len(texts) > 1 else b"")]
+    return [(node, texts[0])]
+
+
+def node_of(message):
+    return IN_HEADER.unpack_from(message.bytes)[3] if len(message.bytes) >= IN_HEADER.size else 0
+
+
+def number_at(message, place):
+    return int.from_bytes(message.bytes[place : place + 8], "little")
+
+
+def nodes_given(request, answer):
+    """The nodes that an answer gives."""
+    if not answer or OUT_HEADER.unpack_from(answer.bytes)[1] != 0:
+        return []
+    if opcode_of(request) in GIVES_NODE:
+        return [number_at(answer, OUT_HEADER.size)]
+    found, at = [], OUT_HEADER.size
+    while opcode_of(request) == READDIRPLUS and at + ENTRY_SIZE + DIRENT_SIZE <= len(answer.bytes):
+        found.append(number_at(answer, at))
+        length = int.from_bytes(answer.bytes[at + ENTRY_SIZE + 16 : at + ENTRY_SIZE + 20], "little")
+        at += ENTRY_SIZE + (DIRENT_SIZE + length + 7) // 8 * 8
+    return found
+
+
+def subjects_of(request, answer):
+    """What a request touches: names, each with its directory; nodes, but for directories that only have these names; and listings."""
+    names = names_of(request)
+    nodes = set(nodes_given(request, answer))
+    if not names:
+        nodes.add(node_of(request))
+    elif opcode_of(request) == LINK:
+        nodes.add(number_at(request, 40))
+    return set(names) | nodes - {0}
+
+
+def related(capture, place):
+    """The places of the requests that touch what the request at a place touches, also by way of one another."""
+    answered = answers(capture)
+    requests = [at for at, message in enumerate(capture.messages) if message.direction == REQUEST]
+    subjects = {}
+    for at in requests:
+        answer = capture.messages[answered[at]] if at in answered else None
+        subjects[at] = subjects_of(capture.messages[at], answer)
+    touched, grown = set(subjects[place]), True
+    directories = {subject for subject in touched if not isinstance(subject, tuple)}
+    while grown:
+        grown = False
+        for at in requests:
+            mine = subjects[at]
+            lists = any(isinstance(subject, tuple) and subject[0] in directories for subject in mine)
+            if (mine & touched or lists) and not mine <= touched:
+                touched |= mine
+                grown = True
+    return {at for at in requests if subjects[at] & touched}
+
+
+def may_change(request, answer):
+    """Whether a request may have changed the tree: one that was refused has not."""
+    if not acts_on_tree(request) or opcode_of(request) in READING:
+        return False
+    if opcode_of(request) == OPEN and not int.from_bytes(request.bytes[40:44], "little") & os.O_TRUNC:
+        return False
+    return answer is None or OUT_HEADER.unpack_from(answer.bytes)[1] == 0
+
+
+def may_go(capture, place):
+    """
+    The places of the requests that may be left out of what is said of one: those that changed nothing, since then nothing is said
+    that they make true, and those that touch nothing of it.
+    """
+    answered, near = answers(capture), related(capture, place)
+    found = []
+    for at, message in enumerate(capture.messages):
+        if message.direction == REQUEST and at not in (0, place):
+            answer = capture.messages[answered[at]] if at in answered else None
+            if at not in near or not may_change(message, answer):
+                found.append(at)
+    return found
+
+
+def without(capture, places):
+    """The capture without these requests and their answers, and the new places of those that stay."""
+    answered = answers(capture)
+    gone = set(places) | {answered[place] for place in places if place in answered}
+    stays = [at for at in range(len(capture.messages)) if at not in gone]
+    return Capture(capture.magic, [capture.messages[at] for at in stays]), {at: new for new, at in enumerate(stays)}

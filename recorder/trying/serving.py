@@ -111,8 +111,8 @@ def clean_up_below(folder):
     shutil.rmtree(folder, ignore_errors=True)
 
 
-def fill(lower):
-    """The folder that a server passes on: it has names that the work uses."""
+def fill(lower, has_links):
+    """The folder that a server passes on: it has names that the work uses, and a file with two names where links are asked for."""
     os.umask(0o022)
     for folder in ("", "d0", "d1"):
         os.mkdir(os.path.join(lower, folder))
@@ -120,13 +120,14 @@ def fill(lower):
             with open(os.path.join(lower, folder, name), "w", encoding="ascii") as file:
                 file.write(f"{name} of {folder or 'the root'}\n" * 50)
     os.symlink("a", os.path.join(lower, "c"))
-    os.link(os.path.join(lower, "d0/a"), os.path.join(lower, "d1/d"))
+    if has_links:
+        os.link(os.path.join(lower, "d0/a"), os.path.join(lower, "d1/d"))
 
 
 class Server:
     """One start of a server, with a folder, a mount and a capture of its own."""
 
-    def __init__(self, folder, words, has_lower, options):
+    def __init__(self, folder, words, options, has_lower, has_links):
         self.folder = folder
         self.mount, self.lower, self.capture = (os.path.join(folder, name) for name in ("mnt", "lower", "a.cap"))
         self.tree = self.capture + ".tree" if has_lower else None
@@ -134,7 +135,7 @@ class Server:
         self.options = ["-o", self.capture, "--keep-refused", "--refuse", REFUSED, *options]
         os.mkdir(self.mount)
         if has_lower:
-            fill(self.lower)
+            fill(self.lower, has_links)
             self.options += ["--lower", self.lower]
         named = [word.replace("{mnt}", self.mount).replace("{lower}", self.lower) for word in words]
         self.words = named if any("{mnt}" in word for word in words) else [*named, self.mount]

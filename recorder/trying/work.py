@@ -453,12 +453,10 @@ class Clients:
                 done, until = self.done(), time.monotonic() + patience
             elif time.monotonic() > until:
                 return False
-            time.sleep(0.01)
+            time.sleep(0.002)
         return True
 
     def in_turn(self):
-        """All calls that were begun, in the order in which they were."""
-        begun = [
-            (moment, call) for calls, times in zip(self.lists, self.times) for moment, call in zip(times, calls) if moment
-        ]
-        return [call for _, call in sorted(begun, key=lambda pair: pair[0])]
+        """All calls that were begun, in the order in which they were, each with its time."""
+        begun = [pair for calls, times in zip(self.lists, self.times) for pair in zip(times, calls) if pair[0]]
+        return sorted(begun, key=lambda pair: pair[0])

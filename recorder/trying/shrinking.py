@@ -1,0 +1,113 @@
+"""Makes a finding small: fewer calls that show it, and a capture of what has to do with it alone."""
+
+import time
+
+from trying import captures, judging
+
+TRIES = 20  # for calls that show the finding no more, where several clients make them
+TRIES_OF_ONE = 3
+
+
+def without_parts(items, still):
+    """
+    Leaves items out as long as it is still so: halves of them, quarters, and at last each one, from the end. `still` tells for a list
+    of items whether it is, and None where no time is left.
+    """
+    size = (len(items) + 1) // 2
+    while size and items:
+        end = len(items)
+        while end > 0:
+            fewer = items[: max(0, end - size)] + items[end:]
+            shown = still(fewer)
+            if shown is None:
+                return items
+            if shown:
+                items = fewer
+            end -= size
+        size = size // 2 if size > 1 else 0
+    return items
+
+
+def what_is_shown(found):
+    """The same finding has the same code, and it is at the same operation."""
+    verdict, messages = found.verdict, found.capture.messages
+    return verdict.status, verdict.code, verdict.cause, captures.operation_at(found.capture, verdict.message) if messages else 0
+
+
+class Shrinker:
+    """Tries calls as long as there is time. `attempt` starts the server for them, and answers what came of it."""
+
+    def __init__(self, attempt, found, seconds, progress):
+        self.attempt, self.found, self.progress = attempt, found, progress
+        self.until = time.monotonic() + seconds
+        self.wanted = what_is_shown(found)
+        self.count = 0
+
+    def still(self, calls):
+        """Whether the finding is seen once in so many tries."""
+        tries = TRIES if len({call.client for call in calls}) > 1 else TRIES_OF_ONE
+        for _ in range(tries if calls else 0):
+            if time.monotonic() > self.until:
+                return None
+            self.count += 1
+            found = self.attempt(calls)
+            if found and found.is_finding() and what_is_shown(found) == self.wanted:
+                self.found = found
+                return True
+        return False
+
+    def shrink(self):
+        """The smallest calls that showed the finding, and what they showed."""
+        calls = self.found.calls_before_finding()
+        one = [call._replace(client=0) for call in calls]
+        for fewer in (calls, one):
+            if self.still(fewer):
+                calls = fewer
+        for client in sorted({call.client for call in calls}):
+            calls = self.smaller(calls, [call for call in calls if call.client != client])
+        for name in sorted({call.name for call in calls}):
+            calls = self.smaller(calls, [call for call in calls if call.name != name])
+        before = None
+        while before != calls and time.monotonic() < self.until:
+            before, calls = calls, without_parts(calls, self.still)
+            self.progress(f"{len(calls)} calls are left after {self.count} tries")
+        return calls
+
+    def smaller(self, calls, fewer):
+        return fewer if len(fewer) < len(calls) and self.still(fewer) else calls
+
+
+def place_at_fault(capture, verdict):
+    """The places of the request at fault and of its answer, and the last message that has to be there."""
+    request, answer = captures.pair_at(capture, verdict.message)
+    return request, max(place for place in (request, answer, verdict.message) if place is not None)
+
+
+def shrink_capture(found, program, path, tree, seconds):
+    """
+    Writes the shortest capture that the auditor still says the same of: it ends with the reply at fault, and lacks requests that touch
+    nothing of it, and those that changed nothing. Answers its verdict.
+    """
+    until, verdict = time.monotonic() + seconds, found.verdict
+    request, last = place_at_fault(found.capture, verdict)
+    whole = captures.Capture(found.capture.magic, found.capture.messages[: last + 1])
+    others = captures.may_go(whole, request) if request is not None else []
+    gone = set()
+
+    def verdict_without(places):
+        fewer, new = captures.without(whole, places)
+        fewer.write(path)
+        answer = judging.judge(program, path, tree)
+        same = (answer.status, answer.code, answer.cause) == (verdict.status, verdict.code, verdict.cause)
+        return answer if same and answer.message == new.get(verdict.message) else None
+
+    def still(places_left):
+        if time.monotonic() > until:
+            return None
+        leaving = gone | set(others) - set(places_left)
+        return verdict_without(leaving) is not None
+
+    if verdict_without(gone) is None:
+        return None
+    left = without_parts(others, still)
+    return verdict_without(set(others) - set(left))
