@@ -823,6 +823,50 @@ check "signalled: ends" ended_server
 check "signalled: as the server ends" ends 0 "$unanswered\$"
 ! is_mounted || timeout 20 umount -l "$mnt"
 
+# Servers that are tried: what is told, by which status it ends, and that nothing is left of it.
+trying() {
+    status=0
+    TMPDIR="$work" timeout 60 "$work/recorder/fuse-try" --audit "$program" "$@" > "$work/seen" 2> "$work/errors" || status=$?
+}
+tries() { [ "$status" -eq "$1" ] && grep -q -- "$2" "$work/seen"; }
+leaves_nothing() { ! grep -qs " $work/fuse-try" /proc/self/mounts && [ -z "$(ls "$work" | grep fuse-try)" ]; }
+tried_checks() {
+    trying --rounds 1 --calls 200 -- "$work/memory"
+    check "tried: is legal" tries 0 "^seed 1: 800 calls, [0-9]* messages, [0-9]* in flight: legal: "
+    trying --rounds 20 --calls 200 --keep "$work/kept" --shrink 5 -- "$work/memory" --bug lost-mode
+    check "tried, a bug: is found" tries 2 "code 83: attributes); no request overlapped another: there is no order$"
+    check "tried, a bug: the shortest capture shows it" grep -q "^not shown: .*code 83: attributes)$" "$work/kept/verdict"
+    check "tried, a bug: has few messages" [ "$("$work/recorder/fuse-messages" "$work/kept/shortest.cap" | wc -l)" -lt 60 ]
+    trying --rounds 5 --script "$work/kept/script" -- "$work/memory" --bug lost-mode
+    check "tried, a bug: its script shows it" tries 2 "^script: .*code 83: attributes)"
+    trying --rounds 5 --script "$work/kept/script" -- "$work/memory"
+    check "tried, a bug: and nothing without it" tries 0 "^script: .*: legal: "
+    trying --rounds 1 -- "$work/memory" --bug answered-twice
+    check "tried, a fault: is found" tries 1 "fault: message [0-9]*: code 31: "
+    trying -- "$work/memory" --die-after 100
+    check "tried, killed: is told" tries 125 "not tried: the server was ended by signal 9 (Killed) with requests unanswered"
+    trying --patience 1 -- "$work/memory" --hang-after 100
+    check "tried, hanging: is told" tries 125 "not tried: requests were never answered: no client got on for 1 seconds"
+    trying -- false
+    check "tried, no mount: is told" tries 125 "not tried: no mount: "
+    check "tried: nothing is left" leaves_nothing
+    TMPDIR="$work" "$work/recorder/fuse-try" --audit "$program" --seconds 60 -- "$work/memory" > "$work/seen" 2> "$work/errors" &
+    servers+=($!)
+    for _ in $(seq 100); do
+        ! grep -qs " $work/fuse-try" /proc/self/mounts || break
+        sleep 0.05
+    done
+    kill -TERM "${servers[-1]}"
+    check "tried, by a signal: ends" ended_server
+    check "tried, by a signal: is told" [ "$status" -eq 143 ]
+    check "tried, by a signal: nothing is left" leaves_nothing
+}
+if [ ${#sanitizer[@]} -gt 0 ]; then
+    echo "recorder: skipped: servers that are tried, by a recorder with ThreadSanitizer"
+else
+    tried_checks
+fi
+
 # By their system calls, where these may be stopped.
 how=(--trace)
 by=", traced"

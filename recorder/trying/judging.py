@@ -11,7 +11,9 @@ LEFT_OUT = 73  # the code of an answered request that no entry of the order name
 
 # The status and the line of the auditor, and the message and the code that the line tells. The cause is what the auditor says where
 # the request at fault is put behind the proposed order: its code and text, or nothing.
-Verdict = collections.namedtuple("Verdict", "status line message code cause")
+class Verdict(collections.namedtuple("Verdict", "status line message code cause")):
+    def whole_line(self):
+        return f"{self.line} ({self.cause})" if self.cause else self.line
 
 
 class AuditFailed(Exception):

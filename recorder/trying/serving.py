@@ -99,16 +99,20 @@ def unmount(folder, flags=0):
     return bool(helper) and subprocess.run(words, stderr=subprocess.DEVNULL, check=False).returncode == 0
 
 
-def clean_up_below(folder):
-    """Nothing is left of what was started, of what was mounted below a folder, and of the folder."""
+def take_down(folder):
+    """Nothing is left of what was started, nor of what was mounted below a folder. Whether that is so."""
     end_all()
-    for place in os.listdir(folder) if os.path.isdir(folder) else []:
-        mount = os.path.join(folder, place, "mnt")
+    mounts = [os.path.join(folder, place, "mnt") for place in os.listdir(folder)]
+    for mount in mounts:
         while is_mounted(mount) and unmount(mount, MNT_DETACH):
             pass
-        if is_mounted(mount):
-            return
-    shutil.rmtree(folder, ignore_errors=True)
+    return not any(map(is_mounted, mounts))
+
+
+def clean_up(folder):
+    """Takes the folder away too."""
+    if os.path.isdir(folder) and take_down(folder):
+        shutil.rmtree(folder, ignore_errors=True)
 
 
 def fill(lower, has_links):

@@ -2,7 +2,7 @@
 
 import time
 
-from trying import captures, judging
+from trying import captures
 
 TRIES = 20  # for calls that show the finding no more, where several clients make them
 TRIES_OF_ONE = 3
@@ -83,31 +83,27 @@ def place_at_fault(capture, verdict):
     return request, max(place for place in (request, answer, verdict.message) if place is not None)
 
 
-def shrink_capture(found, program, path, tree, seconds):
+def shrink_capture(found, judge, path, seconds):
     """
     Writes the shortest capture that the auditor still says the same of: it ends with the reply at fault, and lacks requests that touch
-    nothing of it, and those that changed nothing. Answers its verdict.
+    nothing of it, and those that changed nothing. `judge` has the capture at the path judged. Answers the verdict.
     """
     until, verdict = time.monotonic() + seconds, found.verdict
     request, last = place_at_fault(found.capture, verdict)
     whole = captures.Capture(found.capture.magic, found.capture.messages[: last + 1])
     others = captures.may_go(whole, request) if request is not None else []
-    gone = set()
 
-    def verdict_without(places):
-        fewer, new = captures.without(whole, places)
+    def verdict_with(kept):
+        fewer, places = captures.without(whole, set(others) - set(kept))
         fewer.write(path)
-        answer = judging.judge(program, path, tree)
-        same = (answer.status, answer.code, answer.cause) == (verdict.status, verdict.code, verdict.cause)
-        return answer if same and answer.message == new.get(verdict.message) else None
+        now = judge()
+        is_same = (now.status, now.code, now.cause, now.message) == (verdict.status, verdict.code, verdict.cause, places.get(verdict.message))
+        return now if is_same else None
 
-    def still(places_left):
-        if time.monotonic() > until:
-            return None
-        leaving = gone | set(others) - set(places_left)
-        return verdict_without(leaving) is not None
+    def still(kept):
+        return None if time.monotonic() > until else verdict_with(kept) is not None
 
-    if verdict_without(gone) is None:
-        return None
-    left = without_parts(others, still)
-    return verdict_without(set(others) - set(left))
+    if verdict_with(others):
+        return verdict_with(without_parts(others, still))
+    whole.write(path)
+    return judge()

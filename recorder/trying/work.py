@@ -2,7 +2,6 @@
 
 import collections
 import ctypes
-import errno
 import mmap
 import os
 import random
@@ -16,7 +15,8 @@ SLOTS = FILE_SLOTS + 2  # with those of folders
 
 # What a kind does, and how often: of the sum of the weights.
 KINDS = {
-    "open": (12, "open and close a file: to read, to write or both, with O_CREAT, O_EXCL, O_TRUNC and O_APPEND"),
+    "open": (12, "open and close a file: to read, to write or both, with O_CREAT, O_EXCL and O_TRUNC"),
+    "append": (2, "open a file with O_APPEND"),
     "direct": (2, "open a file with O_DIRECT"),
     "path": (2, "open with O_PATH, which keeps the file without an OPEN"),
     "read": (12, "pread at odd offsets, across pages"),
@@ -102,11 +102,8 @@ class Generator:
             flags += "|O_CREAT"
             if self.random.random() < 0.15:
                 flags += "|O_EXCL"
-        if not flags.startswith("O_RDONLY"):
-            if self.random.random() < 0.3:
-                flags += "|O_TRUNC"
-            if self.random.random() < 0.2:
-                flags += "|O_APPEND"
+        if not flags.startswith("O_RDONLY") and self.random.random() < 0.3:
+            flags += "|O_TRUNC"
         return flags
 
     def make_open(self):
@@ -119,6 +116,9 @@ class Generator:
 
     def make_direct(self):
         self.open_as("direct", self.slot(), self.path(), self.flags() + "|O_DIRECT")
+
+    def make_append(self):
+        self.open_as("append", self.slot(), self.path(), self.flags().replace("O_RDONLY", "O_RDWR") + "|O_APPEND")
 
     def make_path(self):
         self.open_as("path", self.slot(), self.path(), "O_PATH|O_NOFOLLOW")
@@ -442,10 +442,13 @@ class Clients:
         """How many calls were begun."""
         return sum(sum(1 for moment in times if moment) for times in self.times)
 
-    def wait(self, patience):
-        """Whether all ended, where they never stood still for so many seconds."""
-        done, until = -1, 0
+    def wait(self, patience, progress):
+        """Whether all ended, where they never stood still for so many seconds. Each second it is told how many calls were begun."""
+        done, until, told = -1, 0, time.monotonic()
         while self.processes:
+            if time.monotonic() > told + 1:
+                told = time.monotonic()
+                progress(f"{self.done()} calls")
             for process in list(self.processes):
                 if os.waitpid(process, os.WNOHANG)[0]:
                     del self.processes[process]

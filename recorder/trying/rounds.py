@@ -1,0 +1,173 @@
+"""Rounds: a server is started, clients work in its mount, and what was recorded is judged."""
+
+import functools
+import os
+import shutil
+import sys
+import tempfile
+import time
+
+from trying import captures, judging, serving, shrinking, work
+
+NOT_TRIED = 125
+
+
+class Round:
+    """What came of one: the calls in the order in which they were begun, the capture with its flight, and its verdict."""
+
+    def __init__(self, server, clients, verdict):
+        self.verdict = verdict
+        self.begun = clients.in_turn()
+        self.capture = captures.Capture.read(server.capture)
+        self.flight = captures.flight_of(self.capture)
+        self.tree = read(server.tree) if server.tree else None
+
+    def is_finding(self):
+        """A fault is one. Where no request waited beside another there is one order alone, and what it does not show is one too."""
+        return self.verdict.status == judging.FAULT or self.verdict.status == judging.NOT_SHOWN and not self.flight.overlapped
+
+    def calls_before_finding(self):
+        """Those that were begun before the reply at fault."""
+        _, last = captures.pair_at(self.capture, self.verdict.message)
+        until = captures.time_of(self.capture.messages[self.verdict.message if last is None else last])
+        return [call for moment, call in self.begun if moment <= until]
+
+    def told(self):
+        if self.verdict.status != judging.NOT_SHOWN:
+            return self.verdict.line
+        if self.flight.overlapped:
+            return f"{self.verdict.whole_line()}; requests overlapped, so there may be another order"
+        return f"{self.verdict.whole_line()}; no request overlapped another: there is no order"
+
+
+class Rounds:
+    """
+    What is asked for (of `words`: server, lower, trace, patience, kinds, clients, calls, seed, seconds, rounds, lists, keep, shrink),
+    the folder that all takes place in, and the auditor.
+    """
+
+    def __init__(self, words, folder):
+        self.words, self.folder = words, folder
+        self.program = judging.find_program(words.audit)
+        self.progress = told_on_error if words.progress else lambda said: None
+
+    def run(self):
+        """The worst status of the rounds, up to the first with a finding."""
+        until, worst, seed = time.monotonic() + self.words.seconds, judging.LEGAL, self.words.seed
+        while True:
+            name = "script" if self.words.lists else f"seed {seed}"
+            try:
+                found = self.try_round(name, seed)
+            except (serving.NotTried, judging.AuditFailed) as error:
+                print(f"{name}: not tried: {error}", flush=True)
+                return NOT_TRIED
+            if found.is_finding():
+                if self.words.keep:
+                    self.keep_finding(found)
+                return found.verdict.status
+            worst, seed = max(worst, found.verdict.status), seed + 1
+            if time.monotonic() >= until or seed - self.words.seed == self.words.rounds:
+                return worst
+
+    def try_round(self, name, seed):
+        words = self.words
+        lists = words.lists or work.seeded_calls(seed, words.clients, words.calls, words.kinds)
+        self.progress(f"{name}: {len(lists)} clients")
+        found = self.try_lists(lists)
+        tell(name, found)
+        if found.verdict.status != judging.NOT_SHOWN or found.is_finding():
+            return found
+        self.keep_overlapping(found)
+        return self.by_one_client(name, found) or found
+
+    def by_one_client(self, name, found):
+        """
+        Where requests overlapped an order may have been missed. So one client makes the calls, in the order in which they were begun:
+        what came of it, where that is a finding.
+        """
+        again = self.try_calls([call._replace(client=0) for call in found.calls_before_finding()])
+        if not again or not again.is_finding():
+            return None
+        tell(f"{name}, by one client", again)
+        return again
+
+    def try_calls(self, calls):
+        """What came of these calls, or None where they could not be tried."""
+        try:
+            return self.try_lists(work.by_client(calls))
+        except (serving.NotTried, judging.AuditFailed):
+            return None
+
+    def try_lists(self, lists):
+        """Starts the server in a new folder, has the lists of calls carried out, a client for each, and has what was recorded judged."""
+        place = tempfile.mkdtemp(dir=self.folder)
+        try:
+            return self.try_in(place, lists)
+        finally:
+            serving.take_down(self.folder)
+            shutil.rmtree(place, ignore_errors=True)
+
+    def try_in(self, place, lists):
+        words = self.words
+        server = serving.Server(place, words.server, ["--trace"] if words.trace else [], words.lower, "link" in words.kinds)
+        server.start(words.patience)
+        clients = work.Clients(server.mount, lists)
+        if clients.wait(words.patience, self.progress):
+            unanswered = server.end()
+        else:
+            serving.end_all()
+            unanswered = f"requests were never answered: no client got on for {words.patience} seconds"
+        found = Round(server, clients, judging.judge(self.program, server.capture, server.tree))
+        if unanswered and not found.is_finding():
+            raise serving.NotTried(f"{unanswered} ({found.told()})")
+        return found
+
+    def keep_overlapping(self, found):
+        """Keeps the first capture in which requests overlapped and that is not shown: another order may explain it."""
+        if self.words.keep and not os.path.exists(self.path_kept("overlapping.cap")):
+            self.keep_capture("overlapping.cap", found)
+
+    def keep_finding(self, found):
+        """Keeps the capture of a finding, and the smallest calls and the shortest capture that show it."""
+        self.keep_capture("first.cap", found)
+        shrinker = shrinking.Shrinker(self.try_calls, found, self.words.shrink, self.progress)
+        calls = shrinker.shrink()
+        write(self.path_kept("script"), work.write_script(calls))
+        path = self.keep_capture("shortest.cap", shrinker.found)
+        tree = path + ".tree" if found.tree else None
+        judge = functools.partial(judging.judge, self.program, path, tree)
+        verdict = shrinking.shrink_capture(shrinker.found, judge, path, self.words.shrink)
+        write(self.path_kept("verdict"), verdict.whole_line() + "\n")
+        acting = sum(map(captures.acts_on_tree, captures.Capture.read(path).messages))
+        told_on_error(f"kept in {self.words.keep}: {len(calls)} calls, and a capture of {acting} requests that act on the tree: "
+                      f"{verdict.whole_line()}")
+
+    def path_kept(self, name):
+        return os.path.join(self.words.keep, name)
+
+    def keep_capture(self, name, found):
+        os.makedirs(self.words.keep, exist_ok=True)
+        found.capture.write(self.path_kept(name))
+        if found.tree:
+            write(self.path_kept(name + ".tree"), found.tree)
+        return self.path_kept(name)
+
+
+def tell(name, found):
+    """The line of a round."""
+    print(f"{name}: {len(found.begun)} calls, {len(found.capture.messages)} messages, {found.flight.most} in flight: {found.told()}",
+          flush=True)
+
+
+def told_on_error(said):
+    print(f"fuse-try: {said}", file=sys.stderr, flush=True)
+
+
+def read(path):
+    with open(path, encoding="ascii") as file:
+        return file.read()
+
+
+def write(path, text):
+    with open(path, "w", encoding="ascii") as file:
+        file.write(text)
