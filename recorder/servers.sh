@@ -1,6 +1,6 @@
 #!/usr/bin/env bash
-# Records servers that are installed, has each capture judged, and prints a table of what came of it:
-# recorder/servers.sh [PROGRAM]. It needs root and /dev/fuse, and is no part of the gate. A server that is not installed has no row.
+# Records servers that are installed, has each capture judged, tries those that need no other files by fuse-try, and prints a table
+# of what came of it: recorder/servers.sh [PROGRAM]. It needs root and /dev/fuse, and is no part of the gate. A server that is not installed has no row.
 set -uo pipefail
 here="$(cd "$(dirname "$0")" && pwd)"
 program="$(realpath "${1:-$here/../crates/fa_audit_program/out/fa_audit_program}")"
@@ -68,6 +68,27 @@ own_tree() {
     unmounted
 }
 
+# What fuse-try says of a server in ten seconds, where it begins with an empty root or passes a folder on: tried SERVER WORDS..
+tried() {
+    local words=() options=() word lines status=0
+    for word in "$@"; do
+        word="${word//$lower/{lower\}}"
+        word="${word//$mnt/{mnt\}}"
+        # A file or a folder beside these would be another one in each round.
+        [[ "$word" != *"$work/"* ]] || [ ${#words[@]} -eq 0 ] || return 0
+        words+=("$word")
+    done
+    [[ "${words[*]}" != *"{lower}"* ]] || options=(--lower)
+    lines="$(TMPDIR="$work" timeout -k 5 200 "$here/fuse-try" --audit "$program" --seconds 10 "${options[@]}" -- "${words[@]}" 2>&1)" || status=$?
+    if [ "$status" -eq 0 ]; then
+        echo "legal, $(wc -l <<< "$lines") rounds"
+    elif tail -n 1 <<< "$lines" | grep -q "not tried\|fault:\|there is no order$"; then
+        tail -n 1 <<< "$lines"
+    else
+        echo "$(grep -c ": legal: " <<< "$lines") rounds legal, $(grep -c "another order$" <<< "$lines") not shown, in which requests overlapped"
+    fi
+}
+
 # One row: row NAME VERSION WORK [OPTIONS OF fuse-record] -- SERVER WORDS.. It stays in the foreground.
 row() {
     local name="$1" version="$2" labour="$3" options=() found worked="done" shown status=0
@@ -101,7 +122,8 @@ row() {
     local way=library
     ! grep -q "system calls are stopped" "$capture.log" || way=trace
     # shellcheck disable=SC2016
-    printf '| %s | %s | `%s` | %s | %s | %s | %s |\n' "$name" "$version" "${shown//$here\//}" "$way" "$labour" "${worked//$work\//}" "$found"
+    printf '| %s | %s | `%s` | %s | %s | %s | %s | %s |\n' "$name" "$version" "${shown//$here\//}" "$way" "$labour" "${worked//$work\//}" "$found" \
+        "$(tried "$@")"
 }
 
 version_of() { dpkg-query -W -f '${Version}' "$1" 2> /dev/null; }
@@ -116,8 +138,8 @@ try() {
 
 refused=(--refuse "FALLOCATE,COPY_FILE_RANGE,IOCTL")
 make -s -C "$here" || exit
-echo "| server | version | started by | by | work | it was | verdict |"
-echo "|---|---|---|---|---|---|---|"
+echo "| server | version | started by | by | work | it was | verdict | tried |"
+echo "|---|---|---|---|---|---|---|---|"
 fill
 try bindfs everything "${refused[@]}" --lower "$lower" -- bindfs -f -o hard_remove,attr_timeout=0,entry_timeout=0 "$lower" "$mnt"
 fill

@@ -261,7 +261,7 @@ left_out() {
 compile_example() { "${CC:-cc}" -O2 -w -DHAVE_POSIX_FALLOCATE -DHAVE_COPY_FILE_RANGE "${sanitizer[@]}" -I/usr/include/fuse3 -I"$examples" -o "$@" -lfuse3 -pthread; }
 
 cp -r "$here" "$work/recorder"
-plain=(-std=c11 -Wall -Wextra -Werror -O2)
+plain=(-std=c11 -Wall -Wextra -Werror -O2 -pthread)
 flags=("${plain[@]}" "${sanitizer[@]}")
 mkdir "$mnt"
 check "the recorder compiles" make -s -B -C "$work/recorder" CFLAGS="-O2 -Werror ${sanitizer[*]}" &&
@@ -832,7 +832,7 @@ tries() { [ "$status" -eq "$1" ] && grep -q -- "$2" "$work/seen"; }
 leaves_nothing() { ! grep -qs " $work/fuse-try" /proc/self/mounts && [ -z "$(ls "$work" | grep fuse-try)" ]; }
 tried_checks() {
     trying --rounds 1 --calls 200 -- "$work/memory"
-    check "tried: is legal" tries 0 "^seed 1: 800 calls, [0-9]* messages, [0-9]* in flight: legal: "
+    check "tried: is legal" tries 0 "^seed 1: [0-9]* calls, [0-9]* messages, [0-9]* in flight: legal: "
     trying --rounds 20 --calls 200 --keep "$work/kept" --shrink 5 -- "$work/memory" --bug lost-mode
     check "tried, a bug: is found" tries 2 "code 83: attributes); no request overlapped another: there is no order$"
     check "tried, a bug: the shortest capture shows it" grep -q "^not shown: .*code 83: attributes)$" "$work/kept/verdict"
@@ -841,6 +841,8 @@ tried_checks() {
     check "tried, a bug: its script shows it" tries 2 "^script: .*code 83: attributes)"
     trying --rounds 5 --script "$work/kept/script" -- "$work/memory"
     check "tried, a bug: and nothing without it" tries 0 "^script: .*: legal: "
+    trying --rounds 5 -- "$work/memory" --threads 4
+    check "tried, threads: are legal" tries 0 "^seed 5: .*: legal: "
     trying --rounds 1 -- "$work/memory" --bug answered-twice
     check "tried, a fault: is found" tries 1 "fault: message [0-9]*: code 31: "
     trying -- "$work/memory" --die-after 100

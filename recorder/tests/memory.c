@@ -1,11 +1,12 @@
 /*
  * A file system in memory, for tests. It talks to /dev/fuse itself, with the C library alone, and answers each request
- * before it reads the next. Each of its replies is one that the model of docs/model.md allows, unless an option plants
+ * before it reads the next, unless several threads read. Each of its replies is one that the model of docs/model.md allows, unless an option plants
  * a bug. Compiled with WITH_HEADER it hands its messages to fuse-record.h, and with WITH_SPLICE it splices them.
  *
  * usage: memory [options] MOUNTPOINT
  *
  *   --timeout SECONDS     how long the kernel may keep names and attributes; without it, it asks each time
+ *   --threads N           so many threads read requests; what one of them asks takes effect and is answered at once
  *   --deny NAME           a bug: a LOOKUP that would find NAME does so once, and from then on says ENOENT
  *   --answer-twice NAME   a bug: the answer to a LOOKUP of NAME is written twice
  *   --answer-short NAME   a bug: the success of a LOOKUP of NAME lacks its last bytes
@@ -23,6 +24,7 @@
 #include <getopt.h>
 #include <limits.h>
 #include <linux/fuse.h>
+#include <pthread.h>
 #include <signal.h>
 #include <stdbool.h>
 #include <stddef.h>
@@ -167,6 +169,7 @@ static const struct {
 static struct {
     const char *mountpoint;
     uint64_t timeout;
+    uint64_t threads;
     enum bug bug;
     const char *denied;
     const char *answered_twice;
@@ -175,11 +178,13 @@ static struct {
     uint64_t deadly_operation; /* the opcode to die at, 0 for none */
     uint64_t deadly; /* the request to die at, 0 for none */
     uint64_t last;   /* the request to stand still at, 0 for none */
-} options;
+} options = {.threads = 1};
 
 static struct {
     int device;
     bool mounted;
+    pthread_mutex_t lock; /* is held from when a request has effect to when it is answered */
+    uint64_t requests;
     bool truncates; /* ATOMIC_O_TRUNC was negotiated */
     uint64_t last_handle;
     uint64_t times_found; /* the name that is to be denied */
@@ -189,7 +194,7 @@ static struct {
     uint64_t free_number;  /* that a planted bug uses again, 0 for none */
     uint64_t answer_count; /* of a planted bug */
     uint64_t last_unique;
-} server = {.device = -1};
+} server = {.device = -1, .lock = PTHREAD_MUTEX_INITIALIZER};
 
 static volatile sig_atomic_t stopped;
 
@@ -231,7 +236,7 @@ static ssize_t send_parts(int device, const struct iovec *parts, int count)
 /* A pipe with room for the longest message, which is empty between two. */
 static int *pipe_between(void)
 {
-    static int ends[2] = {-1, -1};
+    static _Thread_local int ends[2] = {-1, -1};
     if (ends[0] < 0 && (pipe2(ends, O_CLOEXEC) != 0 || fcntl(ends[1], F_SETPIPE_SZ, 4 * MOST_WRITTEN) < 0))
         fail("a pipe");
     return ends;
@@ -1141,33 +1146,54 @@ static void handle(const char *message, size_t size)
     struct request request = {.rest = message, .left = size, .times = 1};
     if (!take(&request, &request.header, sizeof request.header))
         return;
-    if (request.header.opcode == options.deadly_operation)
+    pthread_mutex_lock(&server.lock);
+    if (request.header.opcode == options.deadly_operation || ++server.requests == options.deadly)
         raise(SIGKILL);
+    while (server.requests == options.last)
+        pause();
     int error = carry_out(&request);
     if (error != NO_ANSWER)
         reply(&request, error);
+    pthread_mutex_unlock(&server.lock);
 }
 
 /* Returns when the mount is gone or a signal came. */
 static void serve(void)
 {
-    static char message[MESSAGE_ROOM];
-    uint64_t requests = 0;
+    char *message = resized(NULL, MESSAGE_ROOM);
     while (!stopped) {
-        ssize_t size = receive(server.device, message, sizeof message);
-        if (size >= 0) {
-            if (++requests == options.deadly)
-                raise(SIGKILL);
-            while (requests == options.last)
-                pause();
+        ssize_t size = receive(server.device, message, MESSAGE_ROOM);
+        if (size >= 0)
             handle(message, (size_t)size);
-        } else if (errno == ENODEV) {
-            server.mounted = false;
-            return;
-        } else if (errno != EINTR && errno != EAGAIN && errno != ENOENT) { /* ENOENT: it was taken back meanwhile */
+        else if (errno == ENODEV)
+            break;
+        else if (errno != EINTR && errno != EAGAIN && errno != ENOENT) /* ENOENT: it was taken back meanwhile */
             fail("reading a request");
-        }
     }
+    free(message);
+}
+
+static void *serve_too(void *nothing)
+{
+    serve();
+    return nothing;
+}
+
+/* The signals are this thread's. It ends all. */
+static void serve_by_threads(void)
+{
+    sigset_t all, before;
+    sigfillset(&all);
+    pthread_sigmask(SIG_SETMASK, &all, &before);
+    for (uint64_t thread = 1; thread < options.threads; thread++) {
+        pthread_t started;
+        if (pthread_create(&started, NULL, serve_too, NULL) != 0)
+            fail("a thread");
+    }
+    pthread_sigmask(SIG_SETMASK, &before, NULL);
+    serve();
+    if (!stopped)
+        server.mounted = false;
 }
 
 /* The alarm comes again each second, so that a signal just before a read does not leave that waiting. */
@@ -1202,7 +1228,7 @@ static void mount_device(void)
 
 __attribute__((noreturn)) static void refuse_words(void)
 {
-    fputs("usage: memory [--timeout SECONDS] [--deny NAME] [--answer-twice NAME] [--answer-short NAME] [--answer-forget] [--bug NAME] "
+    fputs("usage: memory [--timeout SECONDS] [--threads N] [--deny NAME] [--answer-twice NAME] [--answer-short NAME] [--answer-forget] [--bug NAME] "
           "[--die-at N] [--die-after N] [--hang-after N] MOUNTPOINT\nbugs:\n", stderr);
     for (size_t bug = 1; bug < sizeof bugs / sizeof *bugs; bug++)
         fprintf(stderr, "  %-24s %s\n", bugs[bug].name, bugs[bug].meaning);
@@ -1230,6 +1256,7 @@ static void read_words(int count, char **words)
 {
     static const struct option known[] = {
         {"timeout", required_argument, NULL, 't'},
+        {"threads", required_argument, NULL, 'n'},
         {"deny", required_argument, NULL, 'd'},
         {"answer-twice", required_argument, NULL, 'a'},
         {"answer-short", required_argument, NULL, 's'},
@@ -1244,6 +1271,8 @@ static void read_words(int count, char **words)
     while ((option = getopt_long(count, words, "", known, NULL)) != -1) {
         if (option == 't')
             options.timeout = number_of(optarg);
+        else if (option == 'n')
+            options.threads = number_of(optarg);
         else if (option == 'd')
             options.denied = optarg;
         else if (option == 'a')
@@ -1275,6 +1304,6 @@ int main(int argc, char **argv)
     stop_at_signals();
     make_root();
     mount_device();
-    serve();
+    serve_by_threads();
     leave(EXIT_SUCCESS);
 }

@@ -88,6 +88,8 @@ class Folder:
         self.unlink(parent, name, context)
 
     def rename(self, parent, name, other, new, *context):
+        if AWAITS and context[0] != 0:  # RENAME_NOREPLACE or RENAME_EXCHANGE
+            raise fuse.FUSEError(errno.EINVAL)
         number, there = self.found(parent, name), self.nodes[other].names.get(new)
         if there == number:
             return

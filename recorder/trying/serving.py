@@ -117,7 +117,6 @@ def clean_up(folder):
 
 def fill(lower, has_links):
     """The folder that a server passes on: it has names that the work uses, and a file with two names where links are asked for."""
-    os.umask(0o022)
     for folder in ("", "d0", "d1"):
         os.mkdir(os.path.join(lower, folder))
         for name in ("a", "b"):
@@ -137,6 +136,7 @@ class Server:
         self.tree = self.capture + ".tree" if has_lower else None
         self.said = os.path.join(folder, "said")
         self.options = ["-o", self.capture, "--keep-refused", "--refuse", REFUSED, *options]
+        os.umask(0o022)
         os.mkdir(self.mount)
         if has_lower:
             fill(self.lower, has_links)

@@ -295,14 +295,14 @@ class Client:
         self.between = os.memfd_create("between", os.MFD_CLOEXEC)
 
     def carry_out(self, call):
-        """A call that fails is done: the server may refuse anything. A slot without a descriptor has nothing to do."""
+        """Whether there was something to do, as there is nothing for a slot without a descriptor. The server may refuse anything."""
         try:
             getattr(self, call.name)(*call.words)
         except KeyError:
+            return False
+        except OSError:
             pass
-        except OSError as error:
-            return error.errno
-        return 0
+        return True
 
     def open(self, slot, path, flags):
         self.opened[slot] = os.open(path, flags_of(flags), 0o644)
@@ -402,15 +402,15 @@ CALLS = {name for name, member in vars(Client).items() if callable(member) and n
 
 
 def serve_client(folder, calls, begin, times):
-    """What the process of a client does: it waits until all are there, and notes when it began each call."""
+    """What the process of a client does: it waits until all are there, and notes when it began each call that had something to do."""
     os.chdir(folder)
     os.umask(0o022)
     client = Client()
     os.read(begin, 1)
     for place, call in enumerate(calls):
         times[place] = time.monotonic()
-        client.carry_out(call)
-    times[len(calls)] = time.monotonic()
+        if not client.carry_out(call):
+            times[place] = 0
 
 
 class Clients:
@@ -418,7 +418,7 @@ class Clients:
 
     def __init__(self, folder, lists):
         self.lists, self.processes = lists, {}
-        self.times = [memoryview(mmap.mmap(-1, 8 * (len(calls) + 1))).cast("d") for calls in lists]
+        self.times = [memoryview(mmap.mmap(-1, 8 * len(calls))).cast("d") for calls in lists]
         begin, ready = os.pipe()
         for calls, times in zip(lists, self.times):
             process = os.fork()
@@ -439,11 +439,11 @@ class Clients:
             os._exit(status)
 
     def done(self):
-        """How many calls were begun."""
+        """How many calls were made."""
         return sum(sum(1 for moment in times if moment) for times in self.times)
 
     def wait(self, patience, progress):
-        """Whether all ended, where they never stood still for so many seconds. Each second it is told how many calls were begun."""
+        """Whether all ended, where they never stood still for so many seconds. Each second it is told how many calls were made."""
         done, until, told = -1, 0, time.monotonic()
         while self.processes:
             if time.monotonic() > told + 1:
@@ -460,6 +460,6 @@ class Clients:
         return True
 
     def in_turn(self):
-        """All calls that were begun, in the order in which they were, each with its time."""
+        """All calls that were made, in the order in which they were begun, each with its time."""
         begun = [pair for calls, times in zip(self.lists, self.times) for pair in zip(times, calls) if pair[0]]
         return sorted(begun, key=lambda pair: pair[0])
