@@ -641,7 +641,7 @@ of_own_server() {
     ! work_in_mount 2> /dev/null
     stop
     check "killed: is told" ends 125 "[1-9]$unanswered: the server was ended by signal 9 (Killed) with requests unanswered\$"
-    check "killed: the request is told" logged "message [0-9]*: [A-Z]* of node .*: never answered" 1
+    check "killed: the request is told" logged "message [0-9]*: [A-Z0-9]* of node .*: never answered" 1
     check "killed: is legal" is_legal "memory, killed"
 
     # A crash in an operation that is not judged: the verdict is legal, with nothing left out, so the end has to tell it.

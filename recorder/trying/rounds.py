@@ -133,14 +133,15 @@ class Rounds:
         shrinker = shrinking.Shrinker(self.try_calls, found, self.words.shrink, self.progress)
         calls = shrinker.shrink()
         write(self.path_kept("script"), work.write_script(calls))
+        again = shrinker.times_shown(calls)
         path = self.keep_capture("shortest.cap", shrinker.found)
         tree = path + ".tree" if found.tree else None
         judge = functools.partial(judging.judge, self.program, path, tree)
         verdict = shrinking.shrink_capture(shrinker.found, judge, path, self.words.shrink)
         write(self.path_kept("verdict"), verdict.whole_line() + "\n")
         acting = sum(map(captures.acts_on_tree, captures.Capture.read(path).messages))
-        told_on_error(f"kept in {self.words.keep}: {len(calls)} calls, and a capture of {acting} requests that act on the tree: "
-                      f"{verdict.whole_line()}")
+        told_on_error(f"kept in {self.words.keep}: {len(calls)} calls, which showed it in {again} of {shrinking.TRIES_AT_LAST} tries, "
+                      f"and a capture of {acting} requests that act on the tree: {verdict.whole_line()}")
 
     def path_kept(self, name):
         return os.path.join(self.words.keep, name)

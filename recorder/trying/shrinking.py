@@ -6,6 +6,7 @@ from trying import captures
 
 TRIES = 20  # for calls that show the finding no more, where several clients make them
 TRIES_OF_ONE = 3
+TRIES_AT_LAST = 10
 
 
 def without_parts(items, still):
@@ -49,12 +50,22 @@ class Shrinker:
         for _ in range(tries if calls else 0):
             if time.monotonic() > self.until:
                 return None
-            self.count += 1
-            found = self.attempt(calls)
-            if found and found.is_finding() and what_is_shown(found) == self.wanted:
-                self.found = found
+            if self.shows(calls):
                 return True
         return False
+
+    def shows(self, calls):
+        """Whether the finding is seen now."""
+        self.count += 1
+        found = self.attempt(calls)
+        if not found or not found.is_finding() or what_is_shown(found) != self.wanted:
+            return False
+        self.found = found
+        return True
+
+    def times_shown(self, calls):
+        """In how many of the last tries the finding is seen."""
+        return sum(self.shows(calls) for _ in range(TRIES_AT_LAST))
 
     def shrink(self):
         """The smallest calls that showed the finding, and what they showed."""
