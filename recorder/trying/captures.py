@@ -1,6 +1,7 @@
 """Captures, as far as fuse-try reads them: docs/formats.md has the format."""
 
 import collections
+import enum
 import os
 import struct
 
@@ -8,19 +9,50 @@ REQUEST, REPLY = 0, 1
 HEADS = {b"FUSECAP1": struct.Struct("<BI"), b"FUSECAP2": struct.Struct("<BQI")}
 IN_HEADER = struct.Struct("<IIQQ")  # len, opcode, unique, nodeid
 OUT_HEADER = struct.Struct("<IiQ")  # len, error, unique
-FORGET, INTERRUPT, BATCH_FORGET, RENAME2 = 2, 36, 42, 45
-WITHOUT_ANSWER = {FORGET, INTERRUPT, BATCH_FORGET, 41}
+
+
+class Operation(enum.IntEnum):
+    """As in fuse.h."""
+
+    LOOKUP = 1
+    FORGET = 2
+    GETATTR = 3
+    SETATTR = 4
+    READLINK = 5
+    SYMLINK = 6
+    MKNOD = 8
+    MKDIR = 9
+    UNLINK = 10
+    RMDIR = 11
+    RENAME = 12
+    LINK = 13
+    OPEN = 14
+    READ = 15
+    WRITE = 16
+    OPENDIR = 27
+    READDIR = 28
+    CREATE = 35
+    INTERRUPT = 36
+    NOTIFY_REPLY = 41
+    BATCH_FORGET = 42
+    READDIRPLUS = 44
+    RENAME2 = 45
+
+
+WITHOUT_ANSWER = {Operation.FORGET, Operation.INTERRUPT, Operation.NOTIFY_REPLY, Operation.BATCH_FORGET}
 # Those that act on the tree: an order names each that was answered.
-TREE_OPERATIONS = {1, 3, 4, 5, 6, 8, 9, 10, 11, 12, 13, 14, 15, 16, 27, 28, 35, 44, RENAME2}
-
-# Those that change nothing, whatever is answered. OPEN may have O_TRUNC.
-READING = {1, 3, 5, 15, 27, 28, 44}
-OPEN = 14
-
+TREE_OPERATIONS = set(Operation) - WITHOUT_ANSWER
+# Those that change nothing, whatever is answered.
+READING = {
+    Operation.LOOKUP, Operation.GETATTR, Operation.READLINK, Operation.READ, Operation.OPENDIR, Operation.READDIR, Operation.READDIRPLUS
+}
 # Where the names of a request stand in its message: behind its header and a struct.
-NAMES_AT = {1: 40, 6: 40, 8: 56, 9: 48, 10: 40, 11: 40, 12: 48, 13: 48, 35: 56, RENAME2: 56}
-SYMLINK, RENAME, LINK, READDIRPLUS = 6, 12, 13, 44
-GIVES_NODE = {1, SYMLINK, 8, 9, LINK, 35}
+NAMES_AT = {
+    Operation.LOOKUP: 40, Operation.SYMLINK: 40, Operation.MKNOD: 56, Operation.MKDIR: 48, Operation.UNLINK: 40, Operation.RMDIR: 40,
+    Operation.RENAME: 48, Operation.LINK: 48, Operation.CREATE: 56, Operation.RENAME2: 56,
+}
+STRUCT_AT = 40
+GIVES_NODE = {Operation.LOOKUP, Operation.SYMLINK, Operation.MKNOD, Operation.MKDIR, Operation.LINK, Operation.CREATE}
 ENTRY_SIZE, DIRENT_SIZE = 128, 24
 
 Message = collections.namedtuple("Message", "head direction bytes")
@@ -105,6 +137,8 @@ def answers(capture):
 
 def pair_at(capture, place):
     """The places of the request and of the answer, of which one is at this place; None for one that is not there."""
+    if place >= len(capture.messages):
+        return None, None
     if capture.messages[place].direction == REQUEST:
         return place, answers(capture).get(place)
     unique = unique_of(capture.messages[place])
@@ -114,7 +148,7 @@ def pair_at(capture, place):
 
 def operation_at(capture, place):
     """The operation of the request at a place, or of the one that is answered there; 0 where none is."""
-    request = pair_at(capture, place)[0] if place < len(capture.messages) else None
+    request, _ = pair_at(capture, place)
     return opcode_of(capture.messages[request]) if request is not None else 0
 
 
@@ -124,8 +158,8 @@ def names_of(message):
     if at is None or len(message.bytes) <= at:
         return []
     texts, node = message.bytes[at:].split(b"\0"), node_of(message)
-    if opcode in (RENAME, RENAME2):
-        return [(node, texts[0]), (number_at(message, 40), texts[1] if len(texts) > 1 else b"")]
+    if opcode in (Operation.RENAME, Operation.RENAME2):
+        return [(node, texts[0]), (number_at(message, STRUCT_AT), texts[1] if len(texts) > 1 else b"")]
     return [(node, texts[0])]
 
 
@@ -144,7 +178,7 @@ def nodes_given(request, answer):
     if opcode_of(request) in GIVES_NODE:
         return [number_at(answer, OUT_HEADER.size)]
     found, at = [], OUT_HEADER.size
-    while opcode_of(request) == READDIRPLUS and at + ENTRY_SIZE + DIRENT_SIZE <= len(answer.bytes):
+    while opcode_of(request) == Operation.READDIRPLUS and at + ENTRY_SIZE + DIRENT_SIZE <= len(answer.bytes):
         found.append(number_at(answer, at))
         length = int.from_bytes(answer.bytes[at + ENTRY_SIZE + 16 : at + ENTRY_SIZE + 20], "little")
         at += ENTRY_SIZE + (DIRENT_SIZE + length + 7) // 8 * 8
@@ -157,8 +191,8 @@ def subjects_of(request, answer):
     nodes = set(nodes_given(request, answer))
     if not names:
         nodes.add(node_of(request))
-    elif opcode_of(request) == LINK:
-        nodes.add(number_at(request, 40))
+    elif opcode_of(request) == Operation.LINK:
+        nodes.add(number_at(request, STRUCT_AT))
     return set(names) | nodes - {0}
 
 
@@ -187,7 +221,7 @@ def may_change(request, answer):
     """Whether a request may have changed the tree: one that was refused has not."""
     if not acts_on_tree(request) or opcode_of(request) in READING:
         return False
-    if opcode_of(request) == OPEN and not int.from_bytes(request.bytes[40:44], "little") & os.O_TRUNC:
+    if opcode_of(request) == Operation.OPEN and not number_at(request, STRUCT_AT) & os.O_TRUNC:
         return False
     return answer is None or OUT_HEADER.unpack_from(answer.bytes)[1] == 0
 

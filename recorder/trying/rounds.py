@@ -2,7 +2,6 @@
 
 import functools
 import os
-import shutil
 import sys
 import tempfile
 import time
@@ -29,7 +28,7 @@ class Round:
     def calls_before_finding(self):
         """Those that were begun before the reply at fault."""
         _, last = captures.pair_at(self.capture, self.verdict.message)
-        until = captures.time_of(self.capture.messages[self.verdict.message if last is None else last])
+        until = captures.time_of(self.capture.messages[last]) if last is not None else time.monotonic()
         return [call for moment, call in self.begun if moment <= until]
 
     def told(self):
@@ -104,8 +103,8 @@ class Rounds:
         try:
             return self.try_in(place, lists)
         finally:
-            serving.take_down(self.folder)
-            shutil.rmtree(place, ignore_errors=True)
+            if serving.take_down(self.folder):
+                serving.remove(place)
 
     def try_in(self, place, lists):
         words = self.words
@@ -133,14 +132,14 @@ class Rounds:
         shrinker = shrinking.Shrinker(self.try_calls, found, self.words.shrink, self.progress)
         calls = shrinker.shrink()
         write(self.path_kept("script"), work.write_script(calls))
-        again = shrinker.times_shown(calls)
+        shown, tries = shrinker.times_shown(calls)
         path = self.keep_capture("shortest.cap", shrinker.found)
         tree = path + ".tree" if found.tree else None
         judge = functools.partial(judging.judge, self.program, path, tree)
         verdict = shrinking.shrink_capture(shrinker.found, judge, path, self.words.shrink)
         write(self.path_kept("verdict"), verdict.whole_line() + "\n")
         acting = sum(map(captures.acts_on_tree, captures.Capture.read(path).messages))
-        told_on_error(f"kept in {self.words.keep}: {len(calls)} calls, which showed it in {again} of {shrinking.TRIES_AT_LAST} tries, "
+        told_on_error(f"kept in {self.words.keep}: {len(calls)} calls, which showed it in {shown} of {tries} tries, "
                       f"and a capture of {acting} requests that act on the tree: {verdict.whole_line()}")
 
     def path_kept(self, name):

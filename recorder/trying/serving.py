@@ -99,6 +99,19 @@ def unmount(folder, flags=0):
     return bool(helper) and subprocess.run(words, stderr=subprocess.DEVNULL, check=False).returncode == 0
 
 
+def remove(folder):
+    """Takes a folder away, with folders in it that the work has closed to their owner. Nothing is mounted there."""
+    left = [folder]
+    while left:
+        place = left.pop()
+        try:
+            os.chmod(place, 0o700)
+            left += [entry.path for entry in os.scandir(place) if entry.is_dir(follow_symlinks=False)]
+        except OSError:
+            pass
+    shutil.rmtree(folder, ignore_errors=True)
+
+
 def take_down(folder):
     """Nothing is left of what was started, nor of what was mounted below a folder. Whether that is so."""
     end_all()
@@ -112,7 +125,7 @@ def take_down(folder):
 def clean_up(folder):
     """Takes the folder away too."""
     if os.path.isdir(folder) and take_down(folder):
-        shutil.rmtree(folder, ignore_errors=True)
+        remove(folder)
 
 
 def fill(lower, has_links):

@@ -6,7 +6,7 @@ from trying import captures
 
 TRIES = 20  # for calls that show the finding no more, where several clients make them
 TRIES_OF_ONE = 3
-TRIES_AT_LAST = 10
+TRIES_AT_LAST, SECONDS_AT_LAST = 10, 10
 
 
 def without_parts(items, still):
@@ -31,8 +31,8 @@ def without_parts(items, still):
 
 def what_is_shown(found):
     """The same finding has the same code, and it is at the same operation."""
-    verdict, messages = found.verdict, found.capture.messages
-    return verdict.status, verdict.code, verdict.cause, captures.operation_at(found.capture, verdict.message) if messages else 0
+    verdict = found.verdict
+    return verdict.status, verdict.code, verdict.cause, captures.operation_at(found.capture, verdict.message)
 
 
 class Shrinker:
@@ -64,8 +64,11 @@ class Shrinker:
         return True
 
     def times_shown(self, calls):
-        """In how many of the last tries the finding is seen."""
-        return sum(self.shows(calls) for _ in range(TRIES_AT_LAST))
+        """In how many tries the finding is seen, and how many there were time for."""
+        until, shown = time.monotonic() + SECONDS_AT_LAST, []
+        while len(shown) < TRIES_AT_LAST and time.monotonic() < until:
+            shown.append(self.shows(calls))
+        return sum(shown), len(shown)
 
     def shrink(self):
         """The smallest calls that showed the finding, and what they showed."""

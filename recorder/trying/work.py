@@ -10,8 +10,10 @@ import time
 
 FOLDERS = ("", "d0", "d1", "d0/e")
 NAMES = ("a", "b", "c", "d", "e", "f", "g", "long-" + "n" * 180)
-FILE_SLOTS = 4  # descriptors of files that a client keeps
-SLOTS = FILE_SLOTS + 2  # with those of folders
+# The descriptors of a client: of files, of folders, and one for copies.
+FILE_SLOTS, FOLDER_SLOTS = 4, 2
+COPY_SLOT = FILE_SLOTS + FOLDER_SLOTS
+SLOTS = COPY_SLOT + 1
 
 # What a kind does, and how often: of the sum of the weights.
 KINDS = {
@@ -56,6 +58,7 @@ class Generator:
         self.random = random.Random(f"{seed} {client}")
         self.client, self.kinds, self.weights = client, list(weights), list(weights.values())
         self.opened = set()
+        self.made = {"symlink": ["a"], "mkdir": list(FOLDERS[1:])}  # the paths at which this client has tried to make one
         self.calls = []
 
     def calls_made(self, count):
@@ -80,11 +83,19 @@ class Generator:
         """Of a file mostly, and of a folder now and then."""
         return self.random.choice(FOLDERS[1:]) if self.random.random() < 0.1 else self.path()
 
+    def own_slot(self, number):
+        return self.client * SLOTS + number
+
     def slot(self):
-        return self.client * SLOTS + self.random.randrange(FILE_SLOTS)
+        return self.own_slot(self.random.randrange(FILE_SLOTS))
+
+    def opened_slot(self):
+        """One whose file is open, unless that was refused; any where none is."""
+        opened = [slot for slot in map(self.own_slot, range(FILE_SLOTS)) if slot in self.opened]
+        return self.random.choice(opened) if opened else self.slot()
 
     def folder_slot(self):
-        return self.client * SLOTS + self.random.randrange(FILE_SLOTS, SLOTS)
+        return self.own_slot(self.random.randrange(FILE_SLOTS, COPY_SLOT))
 
     def tag(self):
         """What tells the bytes of one write from those of another."""
@@ -97,8 +108,8 @@ class Generator:
         self.add(kind, "open", slot, path, flags)
 
     def flags(self):
-        flags = self.random.choice(("O_RDONLY", "O_WRONLY", "O_RDWR", "O_RDWR"))
-        if self.random.random() < 0.7:
+        flags = self.random.choice(("O_RDONLY", "O_WRONLY", "O_RDWR", "O_RDWR", "O_RDWR"))
+        if self.random.random() < 0.8:
             flags += "|O_CREAT"
             if self.random.random() < 0.15:
                 flags += "|O_EXCL"
@@ -108,7 +119,7 @@ class Generator:
 
     def make_open(self):
         if self.random.random() < 0.2:
-            slot = self.slot()
+            slot = self.opened_slot()
             self.opened.discard(slot)
             self.add("open", "close", slot)
         else:
@@ -124,23 +135,23 @@ class Generator:
         self.open_as("path", self.slot(), self.path(), "O_PATH|O_NOFOLLOW")
 
     def make_read(self):
-        self.add("read", "pread", self.slot(), self.random.choice(SIZES), self.random.choice(OFFSETS))
+        self.add("read", "pread", self.opened_slot(), self.random.choice(SIZES), self.random.choice(OFFSETS))
 
     def make_write(self):
         if self.random.random() < 0.2:
-            self.add("write", "write", self.slot(), self.random.choice(SIZES), self.tag())
+            self.add("write", "write", self.opened_slot(), self.random.choice(SIZES), self.tag())
         else:
-            self.add("write", "pwrite", self.slot(), self.random.choice(SIZES), self.random.choice(OFFSETS), self.tag())
+            self.add("write", "pwrite", self.opened_slot(), self.random.choice(SIZES), self.random.choice(OFFSETS), self.tag())
 
     def make_truncate(self):
         if self.random.random() < 0.5:
-            self.add("truncate", "ftruncate", self.slot(), self.random.choice(LENGTHS))
+            self.add("truncate", "ftruncate", self.opened_slot(), self.random.choice(LENGTHS))
         else:
             self.add("truncate", "truncate", self.path(), self.random.choice(LENGTHS))
 
     def make_stat(self):
         if self.random.random() < 0.5:
-            self.add("stat", "fstat", self.slot())
+            self.add("stat", "fstat", self.opened_slot())
         else:
             self.add("stat", "lstat", self.any_path())
 
@@ -158,18 +169,20 @@ class Generator:
 
     def make_symlink(self):
         if self.random.random() < 0.5:
-            self.add("symlink", "symlink", self.random.choice(NAMES), self.path())
+            self.made["symlink"].append(self.path())
+            self.add("symlink", "symlink", self.random.choice(NAMES), self.made["symlink"][-1])
         else:
-            self.add("symlink", "readlink", self.path())
+            self.add("symlink", "readlink", self.made["symlink"][-1])
 
     def make_unlink(self):
         self.add("unlink", "unlink", self.path())
 
     def make_mkdir(self):
-        self.add("mkdir", "mkdir", self.random.choice((*FOLDERS[1:], self.path())))
+        self.made["mkdir"].append(self.random.choice((*FOLDERS[1:], self.path())))
+        self.add("mkdir", "mkdir", self.made["mkdir"][-1])
 
     def make_rmdir(self):
-        self.add("rmdir", "rmdir", self.random.choice((*FOLDERS[1:], self.path())))
+        self.add("rmdir", "rmdir", self.random.choice((*self.made["mkdir"][-3:], self.path())))
 
     def make_node(self):
         self.add("node", "mknod", self.path(), self.random.choice(("S_IFREG", "S_IFREG", "S_IFIFO")))
@@ -185,11 +198,11 @@ class Generator:
 
     def make_mmap(self):
         name = self.random.choice(("mapread", "mapwrite"))
-        words = [self.slot(), self.random.choice(SIZES), self.random.choice(OFFSETS)]
+        words = [self.opened_slot(), self.random.choice(SIZES), self.random.choice(OFFSETS)]
         self.add("mmap", name, *words, *([self.tag()] if name == "mapwrite" else []))
 
     def make_copy(self):
-        slot = self.slot()
+        slot = self.own_slot(COPY_SLOT)
         if self.random.random() < 0.5:
             self.open_as("copy", slot, self.path(), "O_WRONLY|O_CREAT|O_TRUNC")
             for size in self.random.choices(SIZES, k=3):
@@ -205,13 +218,13 @@ class Generator:
         if self.random.random() < 0.5:
             self.add("chmod", "chmod", self.path(), mode)
         else:
-            self.add("chmod", "fchmod", self.slot(), mode)
+            self.add("chmod", "fchmod", self.opened_slot(), mode)
 
     def make_times(self):
         self.add("times", "utimens", self.path(), self.random.randrange(2_000_000_000))
 
     def make_sync(self):
-        self.add("sync", "fsync", self.slot())
+        self.add("sync", "fsync", self.opened_slot())
 
 
 def seeded_calls(seed, clients, count, weights):
