@@ -831,6 +831,8 @@ trying() {
 tries() { [ "$status" -eq "$1" ] && grep -q -- "$2" "$work/seen"; }
 leaves_nothing() { ! grep -qs " $work/fuse-try" /proc/self/mounts && [ -z "$(ls "$work" | grep fuse-try)" ]; }
 tried_checks() {
+    trying --script "$work/none" -- "$work/memory"
+    check "tried: no script is a fault of the command line" [ "$status" -eq 4 ]
     trying --rounds 1 --calls 200 -- "$work/memory"
     check "tried: is legal" tries 0 "^seed 1: [0-9]* calls, [0-9]* messages, [0-9]* in flight: legal: "
     trying --rounds 20 --calls 200 --keep "$work/kept" --shrink 5 -- "$work/memory" --bug lost-mode
@@ -839,6 +841,9 @@ tried_checks() {
     check "tried, a bug: has few messages" [ "$("$work/recorder/fuse-messages" "$work/kept/shortest.cap" | wc -l)" -lt 60 ]
     trying --rounds 5 --script "$work/kept/script" -- "$work/memory" --bug lost-mode
     check "tried, a bug: its script shows it" tries 2 "^script: .*code 83: attributes)"
+    mkdir "$work/plain"
+    trying --script "$work/kept/script" --in "$work/plain"
+    check "tried, a bug: its script's calls are told" tries 0 "^0 [a-z]* .*: ok$"
     trying --rounds 5 --script "$work/kept/script" -- "$work/memory"
     check "tried, a bug: and nothing without it" tries 0 "^script: .*: legal: "
     trying --rounds 5 -- "$work/memory" --threads 4

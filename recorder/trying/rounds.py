@@ -12,11 +12,11 @@ NOT_TRIED = 125
 
 
 class Round:
-    """What came of one: the calls in the order in which they were begun, the capture with its flight, and its verdict."""
+    """What came of one: the calls that were made, with their times, the capture with its flight, and its verdict."""
 
     def __init__(self, server, clients, verdict):
         self.verdict = verdict
-        self.begun = clients.in_turn()
+        self.made = clients.made()
         self.capture = captures.Capture.read(server.capture)
         self.flight = captures.flight_of(self.capture)
         self.tree = read(server.tree) if server.tree else None
@@ -25,11 +25,17 @@ class Round:
         """A fault is one. Where no request waited beside another there is one order alone, and what it does not show is one too."""
         return self.verdict.status == judging.FAULT or self.verdict.status == judging.NOT_SHOWN and not self.flight.overlapped
 
-    def calls_before_finding(self):
-        """Those that were begun before the reply at fault."""
+    def calls_before_finding(self, by_end=False):
+        """Those that were begun before the reply at fault, in the order in which they were begun, or ended."""
         _, last = captures.pair_at(self.capture, self.verdict.message)
         until = captures.time_of(self.capture.messages[last]) if last is not None else time.monotonic()
-        return [call for moment, call in self.begun if moment <= until]
+        before = [(ended or until if by_end else begun, call) for begun, ended, call in self.made if begun <= until]
+        return [call for _, call in sorted(before, key=lambda pair: pair[0])]
+
+    def orders_for_one(self):
+        """The same calls made by one client."""
+        for by_end in (False, True):
+            yield [call._replace(client=0) for call in self.calls_before_finding(by_end)]
 
     def told(self):
         if self.verdict.status != judging.NOT_SHOWN:
@@ -81,14 +87,15 @@ class Rounds:
 
     def by_one_client(self, name, found):
         """
-        Where requests overlapped an order may have been missed. So one client makes the calls, in the order in which they were begun:
-        what came of it, where that is a finding.
+        Where requests overlapped an order may have been missed. So one client makes the calls, in the order in which they were begun,
+        or ended: what came of it, where that is a finding.
         """
-        again = self.try_calls([call._replace(client=0) for call in found.calls_before_finding()])
-        if not again or not again.is_finding():
-            return None
-        tell(f"{name}, by one client", again)
-        return again
+        for calls in found.orders_for_one():
+            again = self.try_calls(calls)
+            if again and again.is_finding():
+                tell(f"{name}, by one client", again)
+                return again
+        return None
 
     def try_calls(self, calls):
         """What came of these calls, or None where they could not be tried."""
@@ -155,7 +162,7 @@ class Rounds:
 
 def tell(name, found):
     """The line of a round."""
-    print(f"{name}: {len(found.begun)} calls, {len(found.capture.messages)} messages, {found.flight.most} in flight: {found.told()}",
+    print(f"{name}: {len(found.made)} calls, {len(found.capture.messages)} messages, {found.flight.most} in flight: {found.told()}",
           flush=True)
 
 

@@ -6,6 +6,7 @@ from trying import captures
 
 TRIES = 20  # for calls that show the finding no more, where several clients make them
 TRIES_OF_ONE = 3
+ORDERS = 5  # that are looked for one client in, each by a round of several
 TRIES_AT_LAST, SECONDS_AT_LAST = 10, 10
 
 
@@ -70,13 +71,21 @@ class Shrinker:
             shown.append(self.shows(calls))
         return sum(shown), len(shown)
 
+    def by_one_client(self):
+        """The calls by one client, where it shows the finding too. When requests meet differs, and so does the order of the calls."""
+        several = self.found.calls_before_finding()
+        for _ in range(ORDERS):
+            for calls in self.found.orders_for_one():
+                if self.still(calls):
+                    return calls
+            if not self.still(several):
+                return None
+        return None
+
     def shrink(self):
-        """The smallest calls that showed the finding, and what they showed."""
+        """The smallest calls that showed the finding."""
         calls = self.found.calls_before_finding()
-        one = [call._replace(client=0) for call in calls]
-        for fewer in (calls, one):
-            if self.still(fewer):
-                calls = fewer
+        calls = self.by_one_client() or calls
         for client in sorted({call.client for call in calls}):
             calls = self.smaller(calls, [call for call in calls if call.client != client])
         for name in sorted({call.name for call in calls}):

@@ -2,6 +2,7 @@
 
 import collections
 import ctypes
+import errno
 import mmap
 import os
 import random
@@ -308,14 +309,14 @@ class Client:
         self.between = os.memfd_create("between", os.MFD_CLOEXEC)
 
     def carry_out(self, call):
-        """Whether there was something to do, as there is nothing for a slot without a descriptor. The server may refuse anything."""
+        """What came of it: `ok` or an error, as the server may refuse anything. None where a slot without a descriptor has nothing to do."""
         try:
             getattr(self, call.name)(*call.words)
         except KeyError:
-            return False
-        except OSError:
-            pass
-        return True
+            return None
+        except OSError as error:
+            return errno.errorcode[error.errno]
+        return "ok"
 
     def open(self, slot, path, flags):
         self.opened[slot] = os.open(path, flags_of(flags), 0o644)
@@ -414,46 +415,61 @@ class Client:
 CALLS = {name for name, member in vars(Client).items() if callable(member) and not name.startswith("_")} - {"carry_out", "mapped"}
 
 
-def serve_client(folder, calls, begin, times):
-    """What the process of a client does: it waits until all are there, and notes when it began each call that had something to do."""
+def be_client(folder, calls, begin, times, tell):
+    """
+    What the process of a client does: it waits until all are there, and notes when it began and ended each call that had something to
+    do.
+    """
     os.chdir(folder)
     os.umask(0o022)
     client = Client()
     os.read(begin, 1)
     for place, call in enumerate(calls):
-        times[place] = time.monotonic()
-        if not client.carry_out(call):
-            times[place] = 0
+        times[2 * place] = time.monotonic()
+        result = client.carry_out(call)
+        times[2 * place + 1] = time.monotonic()
+        if result is None:
+            times[2 * place] = 0
+        tell(call, result)
+
+
+def tell_nothing(call, result):
+    pass
+
+
+def tell_call(call, result):
+    """A line on standard output, by one write."""
+    os.write(1, f"{write_script([call]).strip()}: {result or 'nothing to do'}\n".encode())
 
 
 class Clients:
     """A process for each list of calls."""
 
-    def __init__(self, folder, lists):
+    def __init__(self, folder, lists, tell=tell_nothing):
         self.lists, self.processes = lists, {}
-        self.times = [memoryview(mmap.mmap(-1, 8 * len(calls))).cast("d") for calls in lists]
+        self.times = [memoryview(mmap.mmap(-1, 16 * len(calls))).cast("d") for calls in lists]
         begin, ready = os.pipe()
         for calls, times in zip(lists, self.times):
             process = os.fork()
             if process == 0:
-                self.be_client(folder, calls, begin, ready, times)
+                self.run(folder, calls, begin, ready, times, tell)
             self.processes[process] = calls
         os.close(begin)
         os.close(ready)
 
     @staticmethod
-    def be_client(folder, calls, begin, ready, times):
+    def run(folder, calls, begin, ready, times, tell):
         status = 1
         try:
             os.close(ready)
-            serve_client(folder, calls, begin, times)
+            be_client(folder, calls, begin, times, tell)
             status = 0
         finally:
             os._exit(status)
 
     def done(self):
         """How many calls were made."""
-        return sum(sum(1 for moment in times if moment) for times in self.times)
+        return sum(sum(1 for moment in times[::2] if moment) for times in self.times)
 
     def wait(self, patience, progress):
         """Whether all ended, where they never stood still for so many seconds. Each second it is told how many calls were made."""
@@ -472,7 +488,11 @@ class Clients:
             time.sleep(0.002)
         return True
 
-    def in_turn(self):
-        """All calls that were made, in the order in which they were begun, each with its time."""
-        begun = [pair for calls, times in zip(self.lists, self.times) for pair in zip(times, calls) if pair[0]]
-        return sorted(begun, key=lambda pair: pair[0])
+    def made(self):
+        """All calls that were made, each with when it was begun and ended; an end is 0 where the call did not."""
+        return [
+            (begun, ended, call)
+            for calls, times in zip(self.lists, self.times)
+            for begun, ended, call in zip(times[::2], times[1::2], calls)
+            if begun
+        ]
