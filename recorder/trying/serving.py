@@ -28,7 +28,19 @@ class Stopped(Exception):
 
 
 def stop(number, _):
+    """The first signal counts: what is to be cleaned up then is."""
+    ignore_signals()
     raise Stopped(number)
+
+
+def stop_at_signals():
+    for number in STOPPED:
+        signal.signal(number, stop)
+
+
+def ignore_signals():
+    for number in STOPPED:
+        signal.signal(number, signal.SIG_IGN)
 
 
 def keep_orphans():

@@ -86,6 +86,7 @@ class Shrinker:
         """The smallest calls that showed the finding."""
         calls = self.found.calls_before_finding()
         calls = self.by_one_client() or calls
+        calls = self.smaller(calls, self.found.calls_before_finding())
         for client in sorted({call.client for call in calls}):
             calls = self.smaller(calls, [call for call in calls if call.client != client])
         for name in sorted({call.name for call in calls}):
@@ -93,6 +94,7 @@ class Shrinker:
         before = None
         while before != calls and time.monotonic() < self.until:
             before, calls = calls, without_parts(calls, self.still)
+            calls = self.smaller(calls, self.found.calls_before_finding())
             self.progress(f"{len(calls)} calls are left after {self.count} tries")
         return calls
 
