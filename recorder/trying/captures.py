@@ -197,15 +197,19 @@ def subjects_of(request, answer):
 
 
 def related(capture, place):
-    """The places of the requests that touch what the request at a place touches, also by way of one another."""
+    """
+    The places of the requests that touch what the request at a place touches, its directories too, also by way of one another. What
+    names are in a directory that it reads touches it.
+    """
     answered = answers(capture)
     requests = [at for at, message in enumerate(capture.messages) if message.direction == REQUEST]
     subjects = {}
     for at in requests:
         answer = capture.messages[answered[at]] if at in answered else None
         subjects[at] = subjects_of(capture.messages[at], answer)
-    touched, grown = set(subjects[place]), True
-    directories = {subject for subject in touched if not isinstance(subject, tuple)}
+    names = names_of(capture.messages[place])
+    touched, grown = subjects[place] | {directory for directory, _ in names}, True
+    directories = set() if names else {node_of(capture.messages[place])}
     while grown:
         grown = False
         for at in requests:

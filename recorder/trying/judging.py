@@ -33,7 +33,8 @@ def run(program, *words):
     ended = subprocess.run([program, *words], stdout=subprocess.PIPE, stderr=subprocess.PIPE, check=False)
     if ended.returncode not in (LEGAL, FAULT, NOT_SHOWN):
         said = (ended.stdout + ended.stderr).decode(errors="replace").strip().splitlines()
-        raise AuditFailed(f"{os.path.basename(program)} {words[0]} ended with status {ended.returncode}: {said[0] if said else 'it said nothing'}")
+        how = f"{os.path.basename(program)} {words[0]} ended with status {ended.returncode}"
+        raise AuditFailed(f"{how}: {said[0] if said else 'it said nothing'}")
     return ended.returncode, ended.stdout.decode()
 
 

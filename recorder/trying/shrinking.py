@@ -122,8 +122,8 @@ def shrink_capture(found, judge, path, seconds):
         fewer, places = captures.without(whole, set(others) - set(kept))
         fewer.write(path)
         now = judge()
-        is_same = (now.status, now.code, now.cause, now.message) == (verdict.status, verdict.code, verdict.cause, places.get(verdict.message))
-        return now if is_same else None
+        same = verdict._replace(line=now.line, message=places.get(verdict.message))
+        return now if now == same else None
 
     def still(kept):
         return None if time.monotonic() > until else verdict_with(kept) is not None

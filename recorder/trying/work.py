@@ -309,7 +309,7 @@ class Client:
         self.between = os.memfd_create("between", os.MFD_CLOEXEC)
 
     def carry_out(self, call):
-        """What came of it: `ok` or an error, as the server may refuse anything. None where a slot without a descriptor has nothing to do."""
+        """What came of it: `ok` or an error, as the server may refuse anything. None where there is nothing to do in an empty slot."""
         try:
             getattr(self, call.name)(*call.words)
         except KeyError:
@@ -401,7 +401,7 @@ class Client:
         self.mapped(slot, size, offset, mmap.PROT_READ | mmap.PROT_WRITE, libc.pread)
 
     def mapped(self, slot, size, offset, protection, copy):
-        """The kernel copies the bytes between the mapping and a file in memory: where the file has no such page that is EFAULT, no SIGBUS."""
+        """The kernel copies between the mapping and a file in memory: where the file has no such page that is EFAULT, no SIGBUS."""
         before = offset % PAGE
         address = libc.mmap(None, before + size, protection, mmap.MAP_SHARED, self.opened[slot], offset - before)
         if address == MAP_FAILED:
