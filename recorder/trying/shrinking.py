@@ -6,6 +6,7 @@ from trying import captures
 
 TRIES = 20  # for calls that show the finding no more, where several clients make them
 TRIES_OF_ONE = 3
+STEADY = 2  # one after the other, for calls of one client that showed it each time
 ORDERS = 5  # that are looked for one client in, each by a round of several
 TRIES_AT_LAST, SECONDS_AT_LAST = 10, 10
 
@@ -43,10 +44,13 @@ class Shrinker:
         self.attempt, self.found, self.progress = attempt, found, progress
         self.until = time.monotonic() + seconds
         self.wanted = what_is_shown(found)
+        self.is_steady = False
         self.count = 0
 
     def still(self, calls):
-        """Whether the finding is seen once in so many tries."""
+        """Whether the finding is seen once in so many tries, or each time where it was before."""
+        if self.is_steady:
+            return self.is_shown_each_time(calls)
         tries = TRIES if len({call.client for call in calls}) > 1 else TRIES_OF_ONE
         for _ in range(tries if calls else 0):
             if time.monotonic() > self.until:
@@ -54,6 +58,11 @@ class Shrinker:
             if self.shows(calls):
                 return True
         return False
+
+    def is_shown_each_time(self, calls):
+        if time.monotonic() > self.until:
+            return None
+        return bool(calls) and all(self.shows(calls) for _ in range(STEADY))
 
     def shows(self, calls):
         """Whether the finding is seen now."""
@@ -77,6 +86,7 @@ class Shrinker:
         for _ in range(ORDERS):
             for calls in self.found.orders_for_one():
                 if self.still(calls):
+                    self.is_steady = bool(self.is_shown_each_time(calls))
                     return calls
             if not self.still(several):
                 return None
