@@ -5,6 +5,10 @@ use Rattle.fa_capture.specs.declared.packet.Direction.{Direction}
 use Rattle.fa_capture.specs.declared.packet.Direction.TheVariants.{ToServer, FromServer}
 use Rattle.fa_capture.specs.Checks.{FirstFailure}
 use Rattle.fa_capture.specs.Codes.{text_of}
+use Rattle.fa_capture.specs.Captures.{IsCaptureOf}
+use Rattle.fa_capture.specs.declared.capture.Capture.{Capture}
+use Rattle.std.proofs.Math.Logic.{∥∥₁_elim}
+use Rattle.std.proofs.Props.{props}
 use Rattle.fa_capture.specs.Message.{Message, Recorded, without_times}
 use Rattle.fa_capture.specs.Reading.{HasMagic, IsReading, IsFault, IsMigrateError, record_checks}
 use Rattle.fa_capture.specs.declared.migration.MigrateError.{MigrateError}
@@ -102,11 +106,22 @@ order_coded c first es entry at code fault =
       | inr leaves ↦ subst (λ (n : ℕ). IsSome (text_of n)) (sym leaves.told) refl
     ]
 
-pub told_coded : (capture : List ℕ) (tree : Option (List ℕ)) (order : List ℕ) (result : Result Verdict AuditError) → Tells capture tree order result → IfOk result IsCoded
+told_coded : (capture : List ℕ) (tree : Option (List ℕ)) (order : List ℕ) (result : Result Verdict AuditError) → Tells capture tree order result → IfOk result IsCoded
 told_coded capture tree order (Ok (Legal messages placed left)) tells = tt
 told_coded capture tree order (Ok (Fault at code)) tells = fault_coded capture at code tells
 told_coded capture tree order (Ok (NotShown entry at code)) tells = order_coded tells.messages tells.first tells.entries entry at code tells.fault
 told_coded capture tree order (Err error) tells = tt
+
+-- that a code has a text is one fact
+coded_prop : (result : Result Verdict AuditError) → IsProp (IfOk result IsCoded)
+coded_prop (Ok (Legal messages placed left)) = hlevel props
+coded_prop (Ok (Fault at code)) = hlevel props
+coded_prop (Ok (NotShown entry at code)) = hlevel props
+coded_prop (Err error) = hlevel props
+
+-- what is told of a capture, which is that of some bytes
+pub told_coded_of : (capture : Capture) (tree : Option (List ℕ)) (order : List ℕ) (result : Result Verdict AuditError) → ((bytes : List ℕ) → IsCaptureOf bytes capture → Tells bytes tree order result) → IfOk result IsCoded
+told_coded_of capture tree order result tells = ∥∥₁_elim capture.of_bytes (coded_prop result) (λ x. told_coded x.0 tree order result (tells x.0 x.1))
 
 -- the code of an order that has no start
 pub no_start_coded : (capture : List ℕ) (tree : Option (List ℕ)) (error : StartError) → IsNoStart capture tree error → IfOk (answer_of error) IsCoded

@@ -1,5 +1,5 @@
 -- Cutting an order: what the parts of the call make, that there is one answer, and from the answer to what a run tells.
-use Rattle.std.proofs.Common.{◌≡◌, ◌≢◌, ℕ, ◌≤◌, ◌⊎◌, inl, inr, refl, sym, ap, subst, ◌∙◌, List, length, Option, IfSome, IfOk, IfErr, IsErrOf, Result, Ok, Err}
+use Rattle.std.proofs.Common.{◌≡◌, ◌≢◌, ℕ, ◌≤◌, ◌⊎◌, inl, inr, refl, sym, ap, subst, ◌∙◌, List, length, Option, IfOk, IfErr, IsErrOf, Result, Ok, Err}
 use Rattle.std.specs.Prelude.{OnOk, IsOk, Vec}
 use Rattle.std.specs.declared.alloc.Global.{Global}
 use Rattle.fa_capture.specs.Message.{Message}
@@ -18,7 +18,7 @@ use Rattle.fa_check.proofs.CallerLemmas.{cut_is_one}
 use Rattle.fa_audit.specs.declared.protocol.Broken.{Broken}
 use Rattle.fa_audit.specs.declared.protocol.Broken.TheVariants as broken
 use Rattle.fa_audit.specs.declared.running.RunFault.{RunFault}
-use Rattle.fa_audit.specs.declared.running.TheConstants.{MAX_CAPTURE_INPUT_BYTES, MAX_TEXT_INPUT_BYTES}
+use Rattle.fa_audit.specs.declared.running.TheConstants.{MAX_TEXT_INPUT_BYTES}
 use Rattle.fa_audit.specs.declared.verdict.AuditError.{AuditError}
 use Rattle.fa_audit.specs.declared.verdict.AuditError.TheVariants as errors
 use Rattle.fa_audit.specs.declared.verdict.CutError.{CutError}
@@ -27,6 +27,7 @@ use Rattle.fa_audit.specs.Verdict.{ExactlyRefused}
 use Rattle.fa_audit.specs.Line.{IsCoded}
 use Rattle.fa_audit.specs.CutOrders.{IsCuttable, IsCutText, IsUncutAtLine, IsCutAnswer, IsCutTold, IsCutFrom, answer_of_uncut}
 use Rattle.fa_audit.specs.Laws.{OneCutAnswer}
+use Rattle.fa_audit.specs.Run.{AreBytesOf}
 use Rattle.fa_audit.specs.parts.Answers.{AreCallsOf, IsCaptureRefused, IsNoCut, cut_refused, cut_text_refused, text_answered}
 use Rattle.fa_audit.proofs.CodedLemmas.{fault_coded}
 use Rattle.fa_audit.proofs.OneAnswer.{one_first_fault, good_no_fault, one_good_capture}
@@ -167,14 +168,12 @@ one_cut_answer capture order m a (Err Memory) _ b = absurd b
 
 -- each answer says what holds of the capture and the order, or memory was refused
 pub cut_answered : (capture order : List ℕ) (m : ℕ) (result : Result (Vec ℕ Global) CutError)
-    → IfOk result (λ text. IsCutText capture order m text.items)
-    → ((at code : ℕ) → ExactlyRefused result Memory (Fault at code) (IsFirstFault capture at code))
-    → ((line : ℕ) → ExactlyRefused result Memory (OrderText line) (IsUncutAtLine capture order line))
+    → IfOk result (λ text. IsCutText capture order m text.items) → IfErr result (IsNoCut capture order)
     → IsErrOf result Memory ⊎ IsCutAnswer capture order m (text_answered result)
-cut_answered capture order m (Ok text) left fault line = inr left
-cut_answered capture order m (Err (Fault at code)) left fault line = inr ((fault at code).only refl)
-cut_answered capture order m (Err (OrderText n)) left fault line = inr ((line n).only refl)
-cut_answered capture order m (Err Memory) left fault line = inl refl
+cut_answered capture order m (Ok text) left none = inr left
+cut_answered capture order m (Err (Fault at code)) left none = inr none
+cut_answered capture order m (Err (OrderText line)) left none = inr none
+cut_answered capture order m (Err Memory) left none = inl refl
 
 -- an answer of the audit that is told is not that memory was refused, so that of the cut is not either
 pub uncut_told : (result : Result ℕ RunFault) (left : Result (Vec ℕ Global) CutError) (error : CutError) (answer : Result Verdict AuditError)
@@ -184,19 +183,19 @@ uncut_told (Err fault) left error answer is told answered = tt
 
 -- a told answer is none that memory was refused, so it is that of the cut
 pub cut_from : (result : Result ℕ RunFault) (capture order old new : Option (List ℕ)) (c o : List ℕ) (m : ℕ) (left : Result (Vec ℕ Global) CutError)
-    → IfSome capture (λ bytes. c ≡ bytes) → IfSome order (λ bytes. o ≡ bytes) → length c ≤ MAX_CAPTURE_INPUT_BYTES → length o ≤ MAX_TEXT_INPUT_BYTES
+    → AreBytesOf capture c → AreBytesOf order o → length o ≤ MAX_TEXT_INPUT_BYTES
     → IsErrOf left Memory ⊎ IsCutAnswer c o m (text_answered left)
     → IfOk result (IsCutTold (text_answered left) old new) → OnOk result (left ≢ Err Memory)
     → IfOk result (IsCutFrom capture order m old new)
-cut_from (Ok status) capture order old new c o m left hc ho lc lo (inl refused) told answered = absurd (answered refused)
-cut_from (Ok status) capture order old new c o m left hc ho lc lo (inr is_answer) told answered =
+cut_from (Ok status) capture order old new c o m left hc ho lo (inl refused) told answered = absurd (answered refused)
+cut_from (Ok status) capture order old new c o m left hc ho lo (inr is_answer) told answered =
     record {
       capture_bytes = c;
       order_bytes = o;
       answer = text_answered left;
-      capture_read = record { whole = hc; within = lc };
+      capture_read = hc;
       order_read = record { whole = ho; within = lo };
       is_answer = is_answer;
       told = told;
     }
-cut_from (Err fault) capture order old new c o m left hc ho lc lo given told answered = tt
+cut_from (Err fault) capture order old new c o m left hc ho lo given told answered = tt

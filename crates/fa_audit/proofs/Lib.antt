@@ -5,6 +5,7 @@ pub mod GivenLemmas
 pub mod AuditLemmas
 pub mod CodedLemmas
 pub mod AnswerLemmas
+pub mod StoredLemmas
 pub mod RunLemmas
 pub mod OneProposal
 pub mod ProposalLemmas

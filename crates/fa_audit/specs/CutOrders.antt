@@ -15,8 +15,8 @@ use Rattle.fa_audit.specs.declared.verdict.CutError.TheVariants.{Fault, OrderTex
 use Rattle.fa_audit.specs.declared.status.Status.TheVariants as status
 use Rattle.fa_audit.specs.Status.{status_number}
 use Rattle.fa_audit.specs.Line.{answer_line, answer_status}
-use Rattle.fa_audit.specs.declared.running.TheConstants.{MAX_CAPTURE_INPUT_BYTES, MAX_TEXT_INPUT_BYTES}
-use Rattle.fa_audit.specs.Run.{line_feed, IsWritten, IsRead}
+use Rattle.fa_audit.specs.declared.running.TheConstants.{MAX_TEXT_INPUT_BYTES}
+use Rattle.fa_audit.specs.Run.{line_feed, IsWritten, AreBytesOf, IsRead}
 
 -- ---- answers
 
@@ -73,12 +73,12 @@ cut_status (Err error) = answer_status (answer_of_uncut error)
 abbrev pub IsCutTold : Result (List ℕ) CutError → (old new : Option (List ℕ)) → (ended : ℕ) → Type 0
 IsCutTold answer old new ended = IsWritten (cut_text answer) (cut_status answer) old new ended
 
--- Some bytes were read of the capture and of the order; cutting at message m answers this of them, and the answer was told.
+-- These are the bytes of the capture and of the order; cutting at message m answers this of them, and the answer was told.
 pub record IsCutFrom (capture order : Option (List ℕ)) (m : ℕ) (old new : Option (List ℕ)) (ended : ℕ) : Type 0 where
   pub capture_bytes : List ℕ
   pub order_bytes : List ℕ
   pub answer : Result (List ℕ) CutError
-  pub capture_read : IsRead MAX_CAPTURE_INPUT_BYTES capture capture_bytes
+  pub capture_read : AreBytesOf capture capture_bytes
   pub order_read : IsRead MAX_TEXT_INPUT_BYTES order order_bytes
   pub is_answer : IsCutAnswer capture_bytes order_bytes m answer
   pub told : IsCutTold answer old new ended

@@ -17,8 +17,7 @@ use Rattle.fa_audit.specs.declared.status.Status.TheVariants as status
 use Rattle.fa_audit.specs.Status.{status_number}
 use Rattle.fa_audit.specs.Verdict.{IsGivenTree, IsTreeTextAtFault}
 use Rattle.fa_audit.specs.Line.{answer_line, answer_status}
-use Rattle.fa_audit.specs.declared.running.TheConstants.{MAX_CAPTURE_INPUT_BYTES}
-use Rattle.fa_audit.specs.Run.{line_feed, IsWritten, IsRead}
+use Rattle.fa_audit.specs.Run.{line_feed, IsWritten, AreBytesOf}
 
 -- ---- answers
 
@@ -70,12 +69,12 @@ proposal_status (Err error) = answer_status (answer_of error)
 abbrev pub IsProposalTold : Result (List ℕ) StartError → (old new : Option (List ℕ)) → (ended : ℕ) → Type 0
 IsProposalTold answer old new ended = IsWritten (proposal_text answer) (proposal_status answer) old new ended
 
--- Some bytes were read of the capture, and of the tree what `Tree` says; a proposal answers this of them, and the answer was told.
+-- These are the bytes of the capture, and of the tree what `Tree` says; a proposal answers this of them, and the answer was told.
 pub record IsProposedFrom (capture : Option (List ℕ)) (Tree : Option (List ℕ) → Type 0) (old new : Option (List ℕ)) (ended : ℕ) : Type 0 where
   pub capture_bytes : List ℕ
   pub tree_bytes : Option (List ℕ)
   pub answer : Result (List ℕ) StartError
-  pub capture_read : IsRead MAX_CAPTURE_INPUT_BYTES capture capture_bytes
+  pub capture_read : AreBytesOf capture capture_bytes
   pub tree_read : Tree tree_bytes
   pub is_answer : IsProposalAnswer capture_bytes tree_bytes answer
   pub told : IsProposalTold answer old new ended

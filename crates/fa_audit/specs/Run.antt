@@ -2,14 +2,16 @@
 use Rattle.std.specs.Prelude.{◌≡◌, ℕ, ◌<◌, ◌≤◌, ◌⊎◌, Bool, true, List, [], ◌∷◌, ◌++◌, length, Option, None, Some, IfSome, Result}
 use Rattle.std.proofs.Common.{inl, inr}
 use Rattle.std.specs.Borrow.{MutBor}
-use Rattle.std.specs.Io.KnownBytes.{Appends}
+use Rattle.std.specs.Io.KnownBytes.{Appends, Consumes, IsAtEnd}
+use Rattle.fa_capture.specs.Pieces.{IsDecided}
+use Rattle.fa_capture.specs.declared.fault.CaptureFault.{CaptureFault}
 use Rattle.fa_capture.specs.declared.input.ReadError.{ReadError}
 use Rattle.fa_capture.specs.declared.input.ReadError.TheVariants.{Failed, TooLong, Turns, Memory}
 use Rattle.fa_check.specs.declared.verdict.Verdict.{Verdict}
 use Rattle.fa_audit.specs.declared.verdict.AuditError.{AuditError}
 use Rattle.fa_audit.specs.declared.running.RunFault.{RunFault}
 use Rattle.fa_audit.specs.declared.running.RunFault.TheVariants as faults
-use Rattle.fa_audit.specs.declared.running.TheConstants.{MAX_CAPTURE_INPUT_BYTES, MAX_TEXT_INPUT_BYTES}
+use Rattle.fa_audit.specs.declared.running.TheConstants.{MAX_TEXT_INPUT_BYTES}
 use Rattle.fa_audit.specs.Verdict.{IsAnswer}
 use Rattle.fa_audit.specs.Line.{answer_line, answer_status}
 
@@ -42,10 +44,25 @@ IsHandedIn None left Such = ⊥
 IsHandedIn (Some input) (inr (inl left)) Such = Such input.now left.0.now
 IsHandedIn (Some input) other Such = ⊥
 
--- These are the bytes of an input, at most so many: all that are left, where it tells that.
+-- These are the bytes of an input: all that are left, where it tells that.
+abbrev pub AreBytesOf : (remaining : Option (List ℕ)) → (bytes : List ℕ) → Type 0
+AreBytesOf remaining bytes = IfSome remaining (λ left. bytes ≡ left)
+
+-- These are the bytes of an input, at most so many.
 pub record IsRead (limit : ℕ) (remaining : Option (List ℕ)) (bytes : List ℕ) : Type 0 where
-  pub whole : IfSome remaining (λ left. bytes ≡ left)
+  pub whole : AreBytesOf remaining bytes
   pub within : length bytes ≤ limit
+
+-- Some bytes of the input were read, and have a framing fault whatever follows.
+pub record IsReadToFault (old new : Option (List ℕ)) : Type 0 where
+  pub read : List ℕ
+  pub taken : Consumes old new read
+  pub fault : CaptureFault
+  pub decided : IsDecided read fault
+
+-- The input of a capture was read to its end, or as far as it has a framing fault whatever follows.
+abbrev pub IsAtEndOrFault : (old new : Option (List ℕ)) → Type 0
+IsAtEndOrFault old new = IsAtEnd new ⊎ IsReadToFault old new
 
 -- Some bytes were read, those of the input of a text.
 abbrev pub IsSomeRead : (remaining : Option (List ℕ)) → (read : Option (List ℕ)) → Type 0
@@ -56,14 +73,14 @@ abbrev pub IsReadIfAny : {R : Type 0} → (R → Option (List ℕ)) → Option (
 IsReadIfAny remaining None read = read ≡ None
 IsReadIfAny remaining (Some input) read = IsSomeRead (remaining input.now) read
 
--- Some bytes were read of the capture and of the order, and of the tree what `Tree` says; the audit answers this of them, and the
--- answer was told.
+-- These are the bytes of the capture and of the order, and of the tree what `Tree` says; the audit answers this of them, and the answer
+-- was told.
 pub record IsAudited (capture : Option (List ℕ)) (Tree : Option (List ℕ) → Type 0) (order old new : Option (List ℕ)) (status : ℕ) : Type 0 where
   pub capture_bytes : List ℕ
   pub tree_bytes : Option (List ℕ)
   pub order_bytes : List ℕ
   pub answer : Result Verdict AuditError
-  pub capture_read : IsRead MAX_CAPTURE_INPUT_BYTES capture capture_bytes
+  pub capture_read : AreBytesOf capture capture_bytes
   pub tree_read : Tree tree_bytes
   pub order_read : IsRead MAX_TEXT_INPUT_BYTES order order_bytes
   pub is_answer : IsAnswer capture_bytes tree_bytes order_bytes answer
@@ -73,6 +90,10 @@ pub record IsAudited (capture : Option (List ℕ)) (Tree : Option (List ℕ) →
 abbrev pub IsUnread : (limit : ℕ) → Option (List ℕ) → Bool → Bool → Type 0
 IsUnread limit remaining failed interrupted =
     (failed ≡ true) ⊎ (interrupted ≡ true) ⊎ IfSome remaining (λ bytes. limit < length bytes)
+
+-- The input failed or was interrupted.
+abbrev pub FailedOrInterrupted : Bool → Bool → Type 0
+FailedOrInterrupted failed interrupted = (failed ≡ true) ⊎ (interrupted ≡ true)
 
 -- as which fault of a run an error of an input is told
 abbrev pub IsReadFault : ReadError → RunFault → Type 0

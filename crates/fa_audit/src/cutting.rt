@@ -1,21 +1,22 @@
 //! From the inputs of a cut to the order text that is left.
 
-ghost use Rattle.std.specs.Prelude.{◌≡◌, ◌≢◌, ◌≤◌, ◌↔◌, ◌⊎◌, ℕ, false, true, Err, length, IfOk, IfErr, IsOk, OnOk, IsErrOf};
+ghost use Rattle.std.specs.Prelude.{◌≡◌, ◌≢◌, ◌≤◌, ◌↔◌, ◌⊎◌, ℕ, false, true, List, Err, length, IfOk, IfErr, IsOk, OnOk, IsErrOf};
 ghost use Rattle.std.specs.Io.KnownBytes.{IsAtEnd, Keeps};
+ghost use Rattle.fa_capture.specs.Captures.{IsCaptureOf};
 ghost use Rattle.fa_ledger.specs.Passing.{IsFirstFault};
 ghost use Rattle.fa_order.specs.declared.lines.TheConstants.{MAX_TEXT_BYTES};
 ghost use Rattle.fa_audit.specs.Verdict.{ExactlyRefused};
 ghost use Rattle.fa_audit.specs.Line.{IsCoded};
-ghost use Rattle.fa_audit.specs.Run.{IsUnread};
-ghost use Rattle.fa_audit.specs.declared.running.TheConstants.{MAX_CAPTURE_INPUT_BYTES, MAX_TEXT_INPUT_BYTES};
+ghost use Rattle.fa_audit.specs.Run.{IsUnread, FailedOrInterrupted, IsAtEndOrFault};
+ghost use Rattle.fa_audit.specs.declared.running.TheConstants.{MAX_TEXT_INPUT_BYTES};
 ghost use Rattle.fa_audit.specs.CutOrders.{IsCuttable, IsCutText, IsUncutAtLine, IsCutTold, IsCutFrom, answer_of_uncut};
 ghost use Rattle.fa_audit.specs.parts.Answers.{IsNoCut, text_answered};
 
 use crate::protocol::good_calls;
-use crate::running::{MAX_CAPTURE_INPUT_BYTES, MAX_TEXT_INPUT_BYTES, RunFault, input_bytes, tell};
+use crate::running::{MAX_TEXT_INPUT_BYTES, RunFault, input_bytes, stored_capture, tell};
 use crate::status::Status;
 use crate::verdict::CutError;
-use fa_capture::{Input, Output};
+use fa_capture::{Capture, Input, Output, read_capture};
 use fa_check::cut;
 use fa_order::{read_order, write_order};
 use std::alloc::Global;
@@ -56,14 +57,19 @@ pub fn cut_order(
     // A code that is told has a text.
     ensures codes { IfErr result (λ error. IfOk (answer_of_uncut error) IsCoded) }
 {
-    left_of(alloc, capture, order, messages)
+    left_of(alloc, &read_capture(capture), order, messages)
 }
 
-/// The text of what is left.
-fn left_of(alloc: Global, capture: &[u8], order: &[u8], messages: u32) -> Result<Vec<u8>, CutError>
+/// The text of what is left, for a capture that was read.
+fn left_of(
+    alloc: Global,
+    capture: &Capture<'_>,
+    order: &[u8],
+    messages: u32,
+) -> Result<Vec<u8>, CutError>
     requires { length order.now ≤ MAX_TEXT_BYTES }
-    ensures text { IfOk result (λ text. IsCutText capture.now order.now messages text.items) }
-    ensures none { IfErr result (IsNoCut capture.now order.now) }
+    ensures text { IfOk result (λ text. (bytes : List ℕ) → IsCaptureOf bytes capture.now → IsCutText bytes order.now messages text.items) }
+    ensures none { IfErr result (λ error. (bytes : List ℕ) → IsCaptureOf bytes capture.now → IsNoCut bytes order.now error) }
 {
     let calls = good_calls(alloc, capture)?;
     let entries = read_order(alloc, order)?;
@@ -100,16 +106,16 @@ fn tell_cut<W: Output>(
 ///
 /// Where the capture has a fault or the order text is not in its grammar, the line of the fault and a line feed are written, as
 /// [`run`](crate::run) writes them. The status is 0 with an order text, 1 at a fault of the capture, and 3 where the order text is
-/// not in its grammar. All inputs are read to their end before anything is judged, and no tree is read. No mark of an input or of the
-/// output is set at the call.
+/// not in its grammar. The inputs are read before anything is judged, as [`run`](crate::run) reads them, and no tree is read. No mark
+/// of an input or of the output is set at the call.
 ///
 /// Which bytes were read and written is said where the inputs and the output tell their bytes, as those over memory do. Files and
 /// standard output do not: of a call on them it is said alone that the status is that of an answer on some bytes.
 ///
 /// # Errors
 ///
-/// - [`RunFault::Read`] where an input failed, did not come to its end, or has too many bytes: a capture more than
-///   [`MAX_CAPTURE_INPUT_BYTES`], a text more than [`MAX_TEXT_INPUT_BYTES`].
+/// - [`RunFault::Read`] where an input failed or did not come to its end, or where a text has more than [`MAX_TEXT_INPUT_BYTES`]
+///   bytes.
 /// - [`RunFault::Write`] where the output did not take the whole text.
 /// - [`RunFault::Memory`] where memory was refused.
 ///
@@ -117,7 +123,7 @@ fn tell_cut<W: Output>(
 ///
 /// # Cost
 ///
-/// That of [`read_all`](fa_capture::read_all) for each input and of [`cut_order`].
+/// That of [`run`](crate::run) for the inputs, and of [`cut_order`].
 pub fn run_cut<R: Input, W: Output>(
     alloc: Global,
     capture: &mut R,
@@ -135,14 +141,15 @@ pub fn run_cut<R: Input, W: Output>(
     ensures told { IfOk result (IsCutFrom (R.remaining capture.old) (R.remaining order.old) messages
         (W.written out.old) (W.written out.new)) }
 
-    ensures end { OnOk result (IsAtEnd (R.remaining capture.new) × IsAtEnd (R.remaining order.new)) }
+    // The capture is read to its end, or as far as it has a framing fault whatever follows; the order to its end.
+    ensures end { OnOk result (IsAtEndOrFault (R.remaining capture.old) (R.remaining capture.new) × IsAtEnd (R.remaining order.new)) }
 
     // The order is read after the capture.
     ensures capture_first { R.has_failed capture.new ≡ true → order.new ≡ order.old }
 
     // When each fault comes.
     ensures read { IsErrOf result RunFault.Read →
-        IsUnread MAX_CAPTURE_INPUT_BYTES (R.remaining capture.old) (R.has_failed capture.new) (R.was_interrupted capture.new)
+        FailedOrInterrupted (R.has_failed capture.new) (R.was_interrupted capture.new)
         ⊎ IsUnread MAX_TEXT_INPUT_BYTES (R.remaining order.old) (R.has_failed order.new) (R.was_interrupted order.new) }
     ensures failed { (R.has_failed capture.new ≡ true) ⊎ (R.has_failed order.new ≡ true) →
         IsErrOf result RunFault.Read }
@@ -152,7 +159,11 @@ pub fn run_cut<R: Input, W: Output>(
     ensures unread { IsErrOf result RunFault.Read → Keeps (W.written out.old) (W.written out.new) }
     ensures refused { IsErrOf result RunFault.Memory → Keeps (W.written out.old) (W.written out.new) }
 {
-    let capture = input_bytes(alloc, capture, MAX_CAPTURE_INPUT_BYTES)?;
+    let stored = stored_capture(alloc, capture)?;
     let order = input_bytes(alloc, order, MAX_TEXT_INPUT_BYTES)?;
-    tell_cut(alloc, cut_order(alloc, &capture, &order, messages), out)
+    tell_cut(
+        alloc,
+        left_of(alloc, &stored.capture(), &order, messages),
+        out,
+    )
 }

@@ -1,7 +1,8 @@
 //! The audit: what a capture, a tree and an order are.
 
-ghost use Rattle.std.specs.Prelude.{◌≡◌, ◌≤◌, ℕ, length, Ok, Err, IfOk, IfErr, IfSome};
+ghost use Rattle.std.specs.Prelude.{◌≡◌, ◌≤◌, ℕ, List, length, Ok, Err, IfOk, IfErr, IfSome};
 ghost use Rattle.std.specs.Option.{option_copied};
+ghost use Rattle.fa_capture.specs.Captures.{IsCaptureOf};
 ghost use Rattle.fa_ledger.specs.Passing.{IsFirstFault};
 ghost use Rattle.fa_order.specs.declared.lines.TheConstants.{MAX_TEXT_BYTES};
 ghost use Rattle.fa_order.specs.Order.{IsOrderText};
@@ -11,6 +12,7 @@ ghost use Rattle.fa_audit.specs.parts.Answers.{Tells, IsStartOf, IsNoStart, IsTr
 
 use crate::protocol::good_calls;
 use crate::verdict::{AuditError, StartError};
+use fa_capture::{Capture, read_capture};
 use fa_check::{Verdict, check};
 use fa_ledger::Calls;
 use fa_order::{Entry, TextError, read_order};
@@ -72,6 +74,45 @@ pub fn audit(
     // A code that is told has a text.
     ensures codes { IfOk result IsCoded }
 {
+    audit_capture(alloc, &read_capture(capture), tree, order)
+}
+
+/// Judges a capture that was read, as [`audit`] judges one by its bytes.
+///
+/// It may have come in pieces, as those of a [`Feed`](fa_capture::Feed). Where it is judged against several orders, its framing is
+/// judged once.
+///
+/// # Errors
+///
+/// Those of [`audit`].
+///
+/// # Cost
+///
+/// That of [`audit`] without [`read_capture`].
+pub fn audit_capture(
+    alloc: Global,
+    capture: &Capture<'_>,
+    tree: Option<&[u8]>,
+    order: &[u8],
+) -> Result<Verdict, AuditError>
+    requires tree_text { IfSome (option_copied tree) (λ text. length text ≤ MAX_TEXT_BYTES) }
+    requires order_text { length order.now ≤ MAX_TEXT_BYTES }
+
+    // What is answered is said of the bytes that this is the capture of.
+    ensures legal { (bytes : List ℕ) → IsCaptureOf bytes capture.now → (messages placed left : ℕ) → Exactly result
+        (Ok (Verdict.Legal messages placed left)) (IsLegal bytes (option_copied tree.entry) order.now messages placed left) }
+    ensures fault { (bytes : List ℕ) → IsCaptureOf bytes capture.now → (at code : ℕ) → Exactly result
+        (Ok (Verdict.Fault at code)) (IsFirstFault bytes at code) }
+    ensures tree_text { (bytes : List ℕ) → IsCaptureOf bytes capture.now → (line : ℕ) → Exactly result
+        (Err (AuditError.TreeText line)) (IsTreeTextAtFault bytes (option_copied tree.entry) line) }
+    ensures order_text { (bytes : List ℕ) → IsCaptureOf bytes capture.now → (line : ℕ) → Exactly result
+        (Err (AuditError.OrderText line)) (IsOrderTextAtFault bytes (option_copied tree.entry) order.now line) }
+    ensures not_shown { (bytes : List ℕ) → IsCaptureOf bytes capture.now → (entry at code : ℕ) → Exactly result
+        (Ok (Verdict.NotShown entry at code)) (IsNotShown bytes (option_copied tree.entry) order.now entry at code) }
+
+    // A code that is told has a text.
+    ensures codes { IfOk result IsCoded }
+{
     answer(alloc, capture, tree, order)
 }
 
@@ -104,12 +145,12 @@ fn given_tree(alloc: Global, tree: Option<&[u8]>) -> Result<Tree, StartError>
 /// That of [`good_calls`] and [`read_tree`].
 pub(crate) fn start<'a>(
     alloc: Global,
-    capture: &'a [u8],
+    capture: &Capture<'a>,
     tree: Option<&[u8]>,
 ) -> Result<(Calls<'a>, Tree), StartError>
     requires { IfSome (option_copied tree) (λ text. length text ≤ MAX_TEXT_BYTES) }
-    ensures good { IfOk result (λ start. IsStartOf capture.now (option_copied tree.entry) start.0 start.1) }
-    ensures none { IfErr result (IsNoStart capture.now (option_copied tree.entry)) }
+    ensures good { IfOk result (λ start. (bytes : List ℕ) → IsCaptureOf bytes capture.now → IsStartOf bytes (option_copied tree.entry) start.0 start.1) }
+    ensures none { IfErr result (λ error. (bytes : List ℕ) → IsCaptureOf bytes capture.now → IsNoStart bytes (option_copied tree.entry) error) }
 {
     let calls = good_calls(alloc, capture)?;
     let first = given_tree(alloc, tree)?;
@@ -132,13 +173,13 @@ fn entries_of(alloc: Global, order: &[u8]) -> Result<Vec<Entry>, AuditError>
 /// An answer for the capture, the tree and the order.
 fn answer(
     alloc: Global,
-    capture: &[u8],
+    capture: &Capture<'_>,
     tree: Option<&[u8]>,
     order: &[u8],
 ) -> Result<Verdict, AuditError>
     requires tree_text { IfSome (option_copied tree) (λ text. length text ≤ MAX_TEXT_BYTES) }
     requires order_text { length order.now ≤ MAX_TEXT_BYTES }
-    ensures { Tells capture.now (option_copied tree.entry) order.now result }
+    ensures { (bytes : List ℕ) → IsCaptureOf bytes capture.now → Tells bytes (option_copied tree.entry) order.now result }
 {
     let (calls, first) = match start(alloc, capture, tree) {
         Ok(start) => start,

@@ -1,8 +1,9 @@
 //! The audit of recorded /dev/fuse traffic.
 //!
-//! [`audit`] judges a capture and an order of its requests from the tree that the server began with, and [`verdict_text`] is the line
-//! that tells it. [`run`], [`run_propose`], [`run_cut`], [`run_front`] and [`run_migrate`] go from inputs to an output: they are the
-//! commands `check`, `propose`, `cut`, `front` and `migrate` of the program `fa_audit`.
+//! [`audit`] judges a capture and an order of its requests from the tree that the server began with, [`audit_capture`] a capture that
+//! was read, as one that came in pieces, and [`verdict_text`] is the line that tells it. [`run`], [`run_propose`], [`run_cut`],
+//! [`run_front`] and [`run_migrate`] go from inputs to an output: they are the commands `check`, `propose`, `cut`, `front` and
+//! `migrate` of the program `fa_audit`.
 #![tactic(auto)]
 
 mod cutting;
@@ -19,7 +20,7 @@ mod verdict;
 
 pub use cutting::{cut_order, run_cut};
 pub use fronts::run_front;
-pub use judge::{ROOT_BITS, audit};
+pub use judge::{ROOT_BITS, audit, audit_capture};
 pub use line::{order_fault_text, tree_fault_text, verdict_text};
 pub use migrating::run_migrate;
 pub use proposing::{proposal, run_propose};

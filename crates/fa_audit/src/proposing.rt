@@ -1,22 +1,23 @@
 //! From the inputs of a proposal to the order text that is proposed.
 
-ghost use Rattle.std.specs.Prelude.{◌≡◌, ◌≢◌, ◌≤◌, ◌↔◌, ◌⊎◌, ℕ, false, true, None, Err, length, IfOk, IfErr, IfSome, IsOk, OnOk, IsErrOf};
+ghost use Rattle.std.specs.Prelude.{◌≡◌, ◌≢◌, ◌≤◌, ◌↔◌, ◌⊎◌, ℕ, false, true, List, None, Err, length, IfOk, IfErr, IfSome, IsOk, OnOk, IsErrOf};
 ghost use Rattle.std.specs.Option.{option_copied};
 ghost use Rattle.std.specs.Io.KnownBytes.{IsAtEnd, Keeps};
+ghost use Rattle.fa_capture.specs.Captures.{IsCaptureOf};
 ghost use Rattle.fa_ledger.specs.Passing.{IsFirstFault};
 ghost use Rattle.fa_order.specs.declared.lines.TheConstants.{MAX_TEXT_BYTES};
 ghost use Rattle.fa_audit.specs.Verdict.{IsTreeTextAtFault, ExactlyRefused};
 ghost use Rattle.fa_audit.specs.Line.{IsCoded};
-ghost use Rattle.fa_audit.specs.Run.{IfHandedIn, IsHandedIn, IsSomeRead, IsReadIfAny, IsUnread};
-ghost use Rattle.fa_audit.specs.declared.running.TheConstants.{MAX_CAPTURE_INPUT_BYTES, MAX_TEXT_INPUT_BYTES};
+ghost use Rattle.fa_audit.specs.Run.{IfHandedIn, IsHandedIn, IsSomeRead, IsReadIfAny, IsUnread, FailedOrInterrupted, IsAtEndOrFault};
+ghost use Rattle.fa_audit.specs.declared.running.TheConstants.{MAX_TEXT_INPUT_BYTES};
 ghost use Rattle.fa_audit.specs.Proposed.{IsStart, IsProposed, IsProposalTold, IsProposedFrom, answer_of};
 ghost use Rattle.fa_audit.specs.parts.Answers.{IsNoStart, text_answered};
 
 use crate::judge::start;
-use crate::running::{MAX_CAPTURE_INPUT_BYTES, MAX_TEXT_INPUT_BYTES, RunFault, input_bytes, tell};
+use crate::running::{MAX_TEXT_INPUT_BYTES, RunFault, input_bytes, stored_capture, tell};
 use crate::status::Status;
 use crate::verdict::StartError;
-use fa_capture::{Input, Output};
+use fa_capture::{Capture, Input, Output, read_capture};
 use fa_order::write_order;
 use fa_propose::propose;
 use std::alloc::Global;
@@ -52,14 +53,18 @@ pub fn proposal(alloc: Global, capture: &[u8], tree: Option<&[u8]>) -> Result<Ve
     // A code that is told has a text.
     ensures codes { IfErr result (λ error. IfOk (answer_of error) IsCoded) }
 {
-    proposed(alloc, capture, tree)
+    proposed(alloc, &read_capture(capture), tree)
 }
 
-/// The text of an order that is proposed.
-fn proposed(alloc: Global, capture: &[u8], tree: Option<&[u8]>) -> Result<Vec<u8>, StartError>
+/// The text of an order that is proposed for a capture that was read.
+fn proposed(
+    alloc: Global,
+    capture: &Capture<'_>,
+    tree: Option<&[u8]>,
+) -> Result<Vec<u8>, StartError>
     requires { IfSome (option_copied tree) (λ text. length text ≤ MAX_TEXT_BYTES) }
-    ensures text { IfOk result (λ text. IsProposed capture.now (option_copied tree.entry) text.items) }
-    ensures none { IfErr result (IsNoStart capture.now (option_copied tree.entry)) }
+    ensures text { IfOk result (λ text. (bytes : List ℕ) → IsCaptureOf bytes capture.now → IsProposed bytes (option_copied tree.entry) text.items) }
+    ensures none { IfErr result (λ error. (bytes : List ℕ) → IsCaptureOf bytes capture.now → IsNoStart bytes (option_copied tree.entry) error) }
 {
     let (calls, first) = start(alloc, capture, tree)?;
     let order = propose(alloc, &calls, first)?;
@@ -101,16 +106,16 @@ fn propose_on_empty_root<R: Input, W: Output>(
     requires unbroken { W.is_broken out.old ≡ false }
     ensures told { IfOk result (IsProposedFrom (R.remaining capture.old) (λ read. read ≡ None)
         (W.written out.old) (W.written out.new)) }
-    ensures end { OnOk result (IsAtEnd (R.remaining capture.new)) }
+    ensures end { OnOk result (IsAtEndOrFault (R.remaining capture.old) (R.remaining capture.new)) }
     ensures read { IsErrOf result RunFault.Read →
-        IsUnread MAX_CAPTURE_INPUT_BYTES (R.remaining capture.old) (R.has_failed capture.new) (R.was_interrupted capture.new) }
+        FailedOrInterrupted (R.has_failed capture.new) (R.was_interrupted capture.new) }
     ensures failed { R.has_failed capture.new ≡ true → IsErrOf result RunFault.Read }
     ensures write { IsErrOf result RunFault.Write ↔ (W.is_broken out.new ≡ true) }
     ensures unread { IsErrOf result RunFault.Read → Keeps (W.written out.old) (W.written out.new) }
     ensures refused { IsErrOf result RunFault.Memory → Keeps (W.written out.old) (W.written out.new) }
 {
-    let capture = input_bytes(alloc, capture, MAX_CAPTURE_INPUT_BYTES)?;
-    tell_proposal(alloc, proposal(alloc, &capture, None), out)
+    let stored = stored_capture(alloc, capture)?;
+    tell_proposal(alloc, proposed(alloc, &stored.capture(), None), out)
 }
 
 /// Reads the capture and then the tree, and tells what is proposed on that tree.
@@ -127,10 +132,10 @@ fn propose_on_tree<R: Input, W: Output>(
     requires unbroken { W.is_broken out.old ≡ false }
     ensures told { IfOk result (IsProposedFrom (R.remaining capture.old) (IsSomeRead (R.remaining tree.old))
         (W.written out.old) (W.written out.new)) }
-    ensures end { OnOk result (IsAtEnd (R.remaining capture.new) × IsAtEnd (R.remaining tree.new)) }
+    ensures end { OnOk result (IsAtEndOrFault (R.remaining capture.old) (R.remaining capture.new) × IsAtEnd (R.remaining tree.new)) }
     ensures capture_first { R.has_failed capture.new ≡ true → tree.new ≡ tree.old }
     ensures read { IsErrOf result RunFault.Read →
-        IsUnread MAX_CAPTURE_INPUT_BYTES (R.remaining capture.old) (R.has_failed capture.new) (R.was_interrupted capture.new)
+        FailedOrInterrupted (R.has_failed capture.new) (R.was_interrupted capture.new)
         ⊎ IsUnread MAX_TEXT_INPUT_BYTES (R.remaining tree.old) (R.has_failed tree.new) (R.was_interrupted tree.new) }
     ensures failed { (R.has_failed capture.new ≡ true) ⊎ (R.has_failed tree.new ≡ true) →
         IsErrOf result RunFault.Read }
@@ -138,25 +143,26 @@ fn propose_on_tree<R: Input, W: Output>(
     ensures unread { IsErrOf result RunFault.Read → Keeps (W.written out.old) (W.written out.new) }
     ensures refused { IsErrOf result RunFault.Memory → Keeps (W.written out.old) (W.written out.new) }
 {
-    let capture = input_bytes(alloc, capture, MAX_CAPTURE_INPUT_BYTES)?;
+    let stored = stored_capture(alloc, capture)?;
     let tree = input_bytes(alloc, tree, MAX_TEXT_INPUT_BYTES)?;
-    tell_proposal(alloc, proposal(alloc, &capture, Some(&tree)), out)
+    tell_proposal(alloc, proposed(alloc, &stored.capture(), Some(&tree)), out)
 }
 
 /// Proposes an order for a capture: reads the capture, and then the tree if one is handed in, writes the text of the order that
 /// is proposed by one put, and answers the status.
 ///
 /// Where there is no order to propose, the line of the fault and a line feed are written, as [`run`](crate::run) writes
-/// them. The status is 0 with an order text, 1 at a fault of the capture, and 3 where the tree text is not in its grammar. All
-/// inputs are read to their end before anything is judged. No mark of an input or of the output is set at the call.
+/// them. The status is 0 with an order text, 1 at a fault of the capture, and 3 where the tree text is not in its grammar. The
+/// inputs are read before anything is judged, as [`run`](crate::run) reads them. No mark of an input or of the output is set at the
+/// call.
 ///
 /// Which bytes were read and written is said where the inputs and the output tell their bytes, as those over memory do. Files and
 /// standard output do not: of a call on them it is said alone that the status is that of an answer on some bytes.
 ///
 /// # Errors
 ///
-/// - [`RunFault::Read`] where an input failed, did not come to its end, or has too many bytes: a capture more than
-///   [`MAX_CAPTURE_INPUT_BYTES`], a text more than [`MAX_TEXT_INPUT_BYTES`].
+/// - [`RunFault::Read`] where an input failed or did not come to its end, or where a text has more than [`MAX_TEXT_INPUT_BYTES`]
+///   bytes.
 /// - [`RunFault::Write`] where the output did not take the whole text.
 /// - [`RunFault::Memory`] where memory was refused.
 ///
@@ -164,7 +170,7 @@ fn propose_on_tree<R: Input, W: Output>(
 ///
 /// # Cost
 ///
-/// That of [`read_all`](fa_capture::read_all) for each input and of [`proposal`].
+/// That of [`run`](crate::run) for the inputs, and of [`proposal`].
 pub fn run_propose<R: Input, W: Output>(
     alloc: Global,
     capture: &mut R,
@@ -181,7 +187,8 @@ pub fn run_propose<R: Input, W: Output>(
     ensures told { IfOk result (IsProposedFrom (R.remaining capture.old) (IsReadIfAny R.remaining tree.entry)
         (W.written out.old) (W.written out.new)) }
 
-    ensures end { OnOk result (IsAtEnd (R.remaining capture.new)
+    // The capture is read to its end, or as far as it has a framing fault whatever follows; the tree to its end.
+    ensures end { OnOk result (IsAtEndOrFault (R.remaining capture.old) (R.remaining capture.new)
         × IfHandedIn tree.entry tree.exit (λ old new. IsAtEnd (R.remaining new))) }
 
     // The tree is read after the capture.
@@ -189,8 +196,7 @@ pub fn run_propose<R: Input, W: Output>(
 
     // When each fault comes.
     ensures read { IsErrOf result RunFault.Read →
-        IsUnread MAX_CAPTURE_INPUT_BYTES (R.remaining capture.old) (R.has_failed capture.new)
-        (R.was_interrupted capture.new)
+        FailedOrInterrupted (R.has_failed capture.new) (R.was_interrupted capture.new)
         ⊎ IsHandedIn tree.entry tree.exit (λ old new. IsUnread MAX_TEXT_INPUT_BYTES (R.remaining old) (R.has_failed new) (R.was_interrupted new)) }
     ensures failed { (R.has_failed capture.new ≡ true) ⊎ IsHandedIn tree.entry tree.exit (λ old new. R.has_failed new ≡ true)
         → IsErrOf result RunFault.Read }

@@ -1,13 +1,14 @@
 //! The messages of a capture, one after the other: whether they keep the protocol, and their calls.
 
-ghost use Rattle.std.specs.Prelude.{◌<◌, ◌∷◌, ◌++◌, [], List, length, IfOk, IfErr, OnOk};
+ghost use Rattle.std.specs.Prelude.{ℕ, ◌<◌, ◌∷◌, ◌++◌, [], List, length, IfOk, IfErr, OnOk};
 ghost use Rattle.fa_capture.specs.Message.{Message, message};
+ghost use Rattle.fa_capture.specs.Captures.{IsCaptureOf};
 ghost use Rattle.fa_capture.specs.declared.limits.TheConstants.{MAX_MESSAGES};
 ghost use Rattle.fa_ledger.specs.Passing.{Passes};
 ghost use Rattle.fa_audit.specs.parts.Protocol.{ShowBoth, IsRefusal};
 ghost use Rattle.fa_audit.specs.parts.Answers.{AreCallsOf, IsCaptureRefused};
 
-use fa_capture::{Packet, Packets, codes};
+use fa_capture::{Capture, CaptureFault, Packet};
 use fa_ledger::{Calls, Ledger, LedgerError};
 use fa_session::{Session, SessionError};
 use std::alloc::{AllocError, Global};
@@ -97,29 +98,22 @@ fn accept<'a>(
 /// # Cost
 ///
 /// One pass, at each message that of [`Session::accept`] and [`Ledger::accept`]; no list of the messages is made.
-pub(crate) fn good_calls<'a>(alloc: Global, capture: &'a [u8]) -> Result<Calls<'a>, Broken>
-    ensures good { IfOk result (AreCallsOf capture.now) }
-    ensures fault { IfErr result (IsCaptureRefused capture.now) }
+pub(crate) fn good_calls<'a>(alloc: Global, capture: &Capture<'a>) -> Result<Calls<'a>, Broken>
+    ensures good { IfOk result (λ calls. (bytes : List ℕ) → IsCaptureOf bytes capture.now → AreCallsOf bytes calls) }
+    ensures fault { IfErr result (λ broken. (bytes : List ℕ) → IsCaptureOf bytes capture.now → IsCaptureRefused bytes broken) }
 {
-    let Some(mut packets) = Packets::new(capture) else {
-        return Err(Broken::Fault {
-            at: 0,
-            code: codes::NO_MAGIC,
-        });
-    };
     let mut session = Session::new(alloc);
     let mut ledger = Ledger::new(alloc);
     let mut at = 0;
-    loop {
-        let packet = match packets.next() {
-            Ok(Some(packet)) => packet,
-            Ok(None) => return Ok(ledger.into_calls()),
-            Err(code) => return Err(Broken::Fault { at, code }),
-        };
+    for packet in capture.packets() {
         match accept(&mut session, &mut ledger, &packet) {
             Ok(()) => at += 1,
             Err(MessageError::Refused(code)) => return Err(Broken::Fault { at, code }),
             Err(MessageError::Memory) => return Err(Broken::Memory),
         }
+    }
+    match capture.fault {
+        Some(CaptureFault { whole, code }) => Err(Broken::Fault { at: whole, code }),
+        None => Ok(ledger.into_calls()),
     }
 }

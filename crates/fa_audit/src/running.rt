@@ -4,30 +4,40 @@ ghost use Rattle.std.specs.Prelude.{◌≡◌, ◌≢◌, ◌≤◌, ◌↔◌, 
 ghost use Rattle.std.specs.Io.KnownBytes.{IsAtEnd, Keeps};
 ghost use Rattle.fa_audit.specs.Line.{IsCoded, answer_line, answer_status};
 ghost use Rattle.fa_audit.specs.Status.{status_number};
-ghost use Rattle.fa_audit.specs.Run.{IsTold, IfHandedIn, IsHandedIn, IsSomeRead, IsReadIfAny, IsAudited, IsUnread};
+ghost use Rattle.fa_audit.specs.Run.{IsTold, IfHandedIn, IsHandedIn, IsSomeRead, IsReadIfAny, IsAudited, IsUnread, FailedOrInterrupted, IsAtEndOrFault};
+ghost use Rattle.fa_capture.specs.Captures.{IsCaptureOf};
+ghost use Rattle.fa_capture.specs.declared.capture.Capture.{Capture};
 ghost use Rattle.fa_capture.specs.declared.input.TheConstants.{MAX_READ_LIMIT};
-ghost use Rattle.fa_audit.specs.declared.running.TheConstants.{MAX_CAPTURE_INPUT_BYTES, MAX_TEXT_INPUT_BYTES};
+ghost use Rattle.fa_audit.specs.declared.running.TheConstants.{MAX_TEXT_INPUT_BYTES};
 
-use crate::judge::audit;
+use crate::judge::audit_capture;
 use crate::line::{order_fault_text, tree_fault_text, verdict_text};
 use crate::status::Status;
 use crate::verdict::AuditError;
-use fa_capture::{Broken, Input, Output, ReadError, read_all};
+use fa_capture::{Broken, Feed, FeedError, Input, Output, Pull, ReadError, Stored, read_all};
 use fa_check::Verdict;
 use std::alloc::{AllocError, AllocFailed, Global};
 use thiserror::Error;
 
-/// How many bytes the input of a capture may have: as many as a capture has at most with times, which do not count for its limit.
+/// How many bytes the input of a capture may have that is read whole before it is looked at, as [`run_front`](crate::run_front) and
+/// [`run_migrate`](crate::run_migrate) do: as many as a capture has at most with times, which do not count for its limit.
 pub const MAX_CAPTURE_INPUT_BYTES: usize = 402_653_184;
 
 /// How many bytes the input of a tree text or of an order text may have.
 pub const MAX_TEXT_INPUT_BYTES: usize = 268_435_456;
 
+/// How many bytes of a capture one pull asks for.
+const PIECE: usize = 65_536;
+
+/// How many pulls of a capture are made at most. A capture that no framing fault was told of has fewer bytes, so they come to an end
+/// unless some are interrupted.
+const MAX_PULLS: usize = MAX_CAPTURE_INPUT_BYTES + 65_536;
+
 /// Why no answer was told.
 #[derive(Clone, Copy, Debug, PartialEq, Eq, Hash, Error)]
 pub enum RunFault {
-    /// An input could not be opened or read to its end, or has more bytes than [`MAX_CAPTURE_INPUT_BYTES`], for a capture, or
-    /// [`MAX_TEXT_INPUT_BYTES`], for a text.
+    /// An input could not be opened or read, or has more bytes than [`MAX_TEXT_INPUT_BYTES`], for a text, or
+    /// [`MAX_CAPTURE_INPUT_BYTES`], for a capture that is read whole.
     #[error("read")]
     Read,
     /// The output did not take the whole text.
@@ -115,6 +125,48 @@ pub(crate) fn input_bytes<R: Input>(
     Ok(read_all(alloc, input, limit)?)
 }
 
+/// The capture that an input holds, in pieces as they come: all of them, or up to the one with which it has a framing fault whatever
+/// follows.
+///
+/// An interrupted pull is made again, and no more than [`MAX_PULLS`] are made.
+///
+/// # Errors
+///
+/// - [`RunFault::Read`] at the first pull that fails, or where so many pulls came to no end; some of them were interrupted.
+/// - [`RunFault::Memory`] where memory for the bytes was refused.
+///
+/// What was pulled before an error is lost.
+///
+/// # Cost
+///
+/// Each pull asks for 65,536 bytes, and each piece is fed as [`Feed::feed`] says.
+pub(crate) fn stored_capture<R: Input>(alloc: Global, input: &mut R) -> Result<Stored, RunFault>
+    requires unfailed { R.has_failed input.old ≡ false }
+    requires uninterrupted { R.was_interrupted input.old ≡ false }
+    ensures capture { IfOk result (λ stored. IfSome (R.remaining input.old) (λ bytes. (capture : Capture) →
+        IsCaptureOf stored capture → IsCaptureOf bytes capture)) }
+    ensures end { OnOk result (IsAtEndOrFault (R.remaining input.old) (R.remaining input.new)) }
+    ensures read { IsErrOf result RunFault.Read → FailedOrInterrupted (R.has_failed input.new) (R.was_interrupted input.new) }
+    ensures failed { R.has_failed input.new ≡ true → IsErrOf result RunFault.Read }
+    ensures write { IsErrOf result RunFault.Write → ⊥ }
+{
+    let mut feed = Feed::new(alloc);
+    let mut piece = [0; PIECE];
+    for _ in 0..MAX_PULLS {
+        match input.pull(&mut piece) {
+            Pull::Got(0) => return Ok(feed.finish()),
+            Pull::Got(count) => match feed.feed(&piece[..count]) {
+                Ok(()) => {}
+                Err(FeedError::Fault(_)) => return Ok(feed.finish()),
+                Err(FeedError::Memory) => return Err(RunFault::Memory),
+            },
+            Pull::Interrupted => {}
+            Pull::Failed => return Err(RunFault::Read),
+        }
+    }
+    Err(RunFault::Read)
+}
+
 /// The line that tells an answer of [`audit`], without a line feed, and its status. The code of a verdict is one that has a text, as
 /// in each answer of [`audit`].
 ///
@@ -178,10 +230,10 @@ fn run_on_empty_root<R: Input, W: Output>(
     requires unbroken { W.is_broken out.old ≡ false }
     ensures told { IfOk result (IsAudited (R.remaining capture.old) (λ read. read ≡ None) (R.remaining order.old)
         (W.written out.old) (W.written out.new)) }
-    ensures end { OnOk result (IsAtEnd (R.remaining capture.new) × IsAtEnd (R.remaining order.new)) }
+    ensures end { OnOk result (IsAtEndOrFault (R.remaining capture.old) (R.remaining capture.new) × IsAtEnd (R.remaining order.new)) }
     ensures capture_first { R.has_failed capture.new ≡ true → order.new ≡ order.old }
     ensures read { IsErrOf result RunFault.Read →
-        IsUnread MAX_CAPTURE_INPUT_BYTES (R.remaining capture.old) (R.has_failed capture.new) (R.was_interrupted capture.new)
+        FailedOrInterrupted (R.has_failed capture.new) (R.was_interrupted capture.new)
         ⊎ IsUnread MAX_TEXT_INPUT_BYTES (R.remaining order.old) (R.has_failed order.new) (R.was_interrupted order.new) }
     ensures failed { (R.has_failed capture.new ≡ true) ⊎ (R.has_failed order.new ≡ true) →
         IsErrOf result RunFault.Read }
@@ -189,9 +241,13 @@ fn run_on_empty_root<R: Input, W: Output>(
     ensures unread { IsErrOf result RunFault.Read → Keeps (W.written out.old) (W.written out.new) }
     ensures refused { IsErrOf result RunFault.Memory → Keeps (W.written out.old) (W.written out.new) }
 {
-    let capture = input_bytes(alloc, capture, MAX_CAPTURE_INPUT_BYTES)?;
+    let stored = stored_capture(alloc, capture)?;
     let order = input_bytes(alloc, order, MAX_TEXT_INPUT_BYTES)?;
-    tell(alloc, audit(alloc, &capture, None, &order), out)
+    tell(
+        alloc,
+        audit_capture(alloc, &stored.capture(), None, &order),
+        out,
+    )
 }
 
 /// Reads the capture, the tree and then the order, and tells what the audit answers of them.
@@ -211,11 +267,11 @@ fn run_on_tree<R: Input, W: Output>(
     requires unbroken { W.is_broken out.old ≡ false }
     ensures told { IfOk result (IsAudited (R.remaining capture.old) (IsSomeRead (R.remaining tree.old)) (R.remaining order.old)
         (W.written out.old) (W.written out.new)) }
-    ensures end { OnOk result (IsAtEnd (R.remaining capture.new) × IsAtEnd (R.remaining tree.new) × IsAtEnd (R.remaining order.new)) }
+    ensures end { OnOk result (IsAtEndOrFault (R.remaining capture.old) (R.remaining capture.new) × IsAtEnd (R.remaining tree.new) × IsAtEnd (R.remaining order.new)) }
     ensures capture_first { R.has_failed capture.new ≡ true → (tree.new ≡ tree.old) × (order.new ≡ order.old) }
     ensures tree_first { R.has_failed tree.new ≡ true → order.new ≡ order.old }
     ensures read { IsErrOf result RunFault.Read →
-        IsUnread MAX_CAPTURE_INPUT_BYTES (R.remaining capture.old) (R.has_failed capture.new) (R.was_interrupted capture.new)
+        FailedOrInterrupted (R.has_failed capture.new) (R.was_interrupted capture.new)
         ⊎ IsUnread MAX_TEXT_INPUT_BYTES (R.remaining tree.old) (R.has_failed tree.new) (R.was_interrupted tree.new)
         ⊎ IsUnread MAX_TEXT_INPUT_BYTES (R.remaining order.old) (R.has_failed order.new) (R.was_interrupted order.new) }
     ensures failed { (R.has_failed capture.new ≡ true) ⊎ (R.has_failed tree.new ≡ true) ⊎ (R.has_failed order.new ≡ true) →
@@ -224,26 +280,31 @@ fn run_on_tree<R: Input, W: Output>(
     ensures unread { IsErrOf result RunFault.Read → Keeps (W.written out.old) (W.written out.new) }
     ensures refused { IsErrOf result RunFault.Memory → Keeps (W.written out.old) (W.written out.new) }
 {
-    let capture = input_bytes(alloc, capture, MAX_CAPTURE_INPUT_BYTES)?;
+    let stored = stored_capture(alloc, capture)?;
     let tree = input_bytes(alloc, tree, MAX_TEXT_INPUT_BYTES)?;
     let order = input_bytes(alloc, order, MAX_TEXT_INPUT_BYTES)?;
-    tell(alloc, audit(alloc, &capture, Some(&tree), &order), out)
+    tell(
+        alloc,
+        audit_capture(alloc, &stored.capture(), Some(&tree), &order),
+        out,
+    )
 }
 
 /// Audits a capture against an order: reads the capture, the tree if one is handed in, and then the order, writes the line of
 /// the audit's answer and a line feed by one put, and answers the status.
 ///
 /// The status is 0 where the verdict is legal, 1 at a fault of the capture, 2 where the order is not shown to explain
-/// the capture, and 3 where the tree text or the order text is not in its grammar. All inputs are read to their end before
-/// anything is judged. No mark of an input or of the output is set at the call.
+/// the capture, and 3 where the tree text or the order text is not in its grammar. All inputs are read before anything is
+/// judged: the texts to their end, and so is the capture, unless its framing has a fault before that no byte behind it could mend;
+/// what it has behind that fault is not read. No mark of an input or of the output is set at the call.
 ///
 /// Which bytes were read and written is said where the inputs and the output tell their bytes, as those over memory do. Files and
 /// standard output do not: of a call on them it is said alone that the status is that of an answer on some bytes.
 ///
 /// # Errors
 ///
-/// - [`RunFault::Read`] where an input failed, did not come to its end, or has too many bytes: a capture more than
-///   [`MAX_CAPTURE_INPUT_BYTES`], a text more than [`MAX_TEXT_INPUT_BYTES`].
+/// - [`RunFault::Read`] where an input failed or did not come to its end, or where a text has more than [`MAX_TEXT_INPUT_BYTES`]
+///   bytes.
 /// - [`RunFault::Write`] where the output did not take the whole line.
 /// - [`RunFault::Memory`] where memory was refused.
 ///
@@ -251,7 +312,8 @@ fn run_on_tree<R: Input, W: Output>(
 ///
 /// # Cost
 ///
-/// That of [`read_all`] for each input and of [`audit`].
+/// That of [`Feed::feed`] for pieces of at most 65,536 bytes of the capture, of [`read_all`] for each text, and of [`audit_capture`]:
+/// the capture takes memory for its bytes and a thirty-second part more.
 pub fn run<R: Input, W: Output>(
     alloc: Global,
     capture: &mut R,
@@ -271,7 +333,8 @@ pub fn run<R: Input, W: Output>(
     ensures told { IfOk result (IsAudited (R.remaining capture.old) (IsReadIfAny R.remaining tree.entry) (R.remaining order.old)
         (W.written out.old) (W.written out.new)) }
 
-    ensures end { OnOk result (IsAtEnd (R.remaining capture.new)
+    // The capture is read to its end, or as far as it has a framing fault whatever follows; each text to its end.
+    ensures end { OnOk result (IsAtEndOrFault (R.remaining capture.old) (R.remaining capture.new)
         × IfHandedIn tree.entry tree.exit (λ old new. IsAtEnd (R.remaining new)) × IsAtEnd (R.remaining order.new)) }
 
     // The tree is read after the capture, and the order after both.
@@ -280,8 +343,7 @@ pub fn run<R: Input, W: Output>(
 
     // When each fault comes.
     ensures read { IsErrOf result RunFault.Read →
-        IsUnread MAX_CAPTURE_INPUT_BYTES (R.remaining capture.old) (R.has_failed capture.new)
-        (R.was_interrupted capture.new)
+        FailedOrInterrupted (R.has_failed capture.new) (R.was_interrupted capture.new)
         ⊎ IsHandedIn tree.entry tree.exit (λ old new. IsUnread MAX_TEXT_INPUT_BYTES (R.remaining old) (R.has_failed new) (R.was_interrupted new))
         ⊎ IsUnread MAX_TEXT_INPUT_BYTES (R.remaining order.old) (R.has_failed order.new)
         (R.was_interrupted order.new) }

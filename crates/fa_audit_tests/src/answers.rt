@@ -1,11 +1,14 @@
 //! Answers on bytes, and the lines that tell them.
 
+ghost use Rattle.std.specs.Prelude.{◌<◌};
+
 use fa_audit::{
-    AuditError, CutError, StartError, audit, cut_order, order_fault_text, proposal,
+    AuditError, CutError, StartError, audit, audit_capture, cut_order, order_fault_text, proposal,
     tree_fault_text, verdict_text,
 };
 use fa_bodies::ROOT_ID;
 use fa_bodies::errno::ENOENT;
+use fa_capture::Feed;
 use fa_check::Verdict;
 use fa_sample::Sample;
 use std::alloc::Global;
@@ -62,6 +65,35 @@ fn audit_answers(rt: HostRuntime) {
         audit(alloc, &capture, None, NO_ORDER),
         Err(AuditError::OrderText { line: 3 })
     );
+}
+
+/// What is told of a capture that comes in pieces of this size, with the order of the message 2. None where memory was refused.
+fn told_of_pieces(alloc: Global, bytes: &[u8], size: usize) -> Option<Result<Verdict, AuditError>>
+    requires { 0 < size }
+{
+    let mut feed = Feed::new(alloc);
+    let mut is_fed = true;
+    for piece in bytes.chunks(size) {
+        is_fed = is_fed && feed.feed(piece).is_ok();
+    }
+    let stored = feed.finish();
+    let told = audit_capture(alloc, &stored.capture(), None, SECOND);
+    drop(stored);
+    if is_fed { Some(told) } else { None }
+}
+
+#[test]
+fn a_capture_in_pieces_of_each_size(rt: HostRuntime) {
+    let alloc = rt.alloc();
+    let capture = not_found(alloc).capture().expect(&rt, "memory");
+    assert_eq!(rt; capture.len(), 222);
+    for size in 1..=222 {
+        assert_eq!(rt;
+            told_of_pieces(alloc, &capture, size),
+            Some(Ok(LEGAL)),
+            "pieces of {size}"
+        );
+    }
 }
 
 #[test]

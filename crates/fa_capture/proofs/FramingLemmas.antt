@@ -1,17 +1,14 @@
--- Records are spelled in one way, so of two lists of records that the same bytes begin with one goes on from the other.
-use Rattle.std.proofs.Common.{◌≡◌, ℕ, ◌+◌, ◌^◌, ◌<◌, inl, inr, List, [], ◌∷◌, ◌++◌, length, take, drop, get_or, refl, sym, ap, ◌∙◌, append_assoc, arith}
-use Rattle.std.specs.List.{flat_map, AllByRecursion}
+-- Numbers that were read are spelled by their bytes, and no bytes begin as captures in two formats do.
+use Rattle.std.proofs.Common.{◌≡◌, ℕ, ◌+◌, ◌<◌, inl, inr, List, ◌++◌, length, take, drop, get_or, refl, sym, ap, ◌∙◌, arith}
 use Rattle.std.specs.Int.{w32, w64, to_le_bytes, from_le_bytes}
 use Rattle.std.proofs.Math.ListN.{get_or-eq_default}
 use Rattle.std.proofs.lemmas.Bool.{cases_lt}
-use Rattle.std.proofs.lemmas.List.{take_at, drop_at, get_or-take, length-take, take-append-drop}
-use Rattle.std.proofs.lemmas.Nat.{from_le_bytes-to_le_bytes_4, from_le_bytes-to_le_bytes_8, le_bytes_4, le_bytes_8}
-use Rattle.fa_capture.specs.declared.packet.Direction.{Direction}
-use Rattle.fa_capture.specs.declared.packet.Direction.TheVariants.{ToServer, FromServer}
+use Rattle.std.proofs.lemmas.List.{get_or-take, length-take, take-append-drop}
+use Rattle.std.proofs.lemmas.Nat.{le_bytes_4, le_bytes_8}
 use Rattle.fa_capture.specs.declared.format.Format.{Format}
 use Rattle.fa_capture.specs.declared.format.Format.TheVariants.{Plain, Timed}
-use Rattle.fa_capture.specs.Message.{Message, Recorded}
-use Rattle.fa_capture.specs.Framing.{magic, direction_byte, time_spelling, IsTime, record_spelling}
+use Rattle.fa_capture.specs.Framing.{magic}
+pub use Rattle.fa_capture.specs.parts.RecordsLaws.{one_front, Fits, same_records, next_record, record_size}
 
 -- no bytes begin as captures in two formats do
 pub one_format : (f g : Format) (x y : List ℕ) → magic f ++ x ≡ magic g ++ y → f ≡ g
@@ -19,27 +16,6 @@ one_format Plain Plain x y e = refl
 one_format Timed Timed x y e = refl
 one_format Plain Timed x y e = absurd (omega (arith, ap (λ (l : List ℕ). get_or l 7 0) e))
 one_format Timed Plain x y e = absurd (omega (arith, ap (λ (l : List ℕ). get_or l 7 0) e))
-
-one_direction : (a b : Direction) → direction_byte a ≡ direction_byte b → a ≡ b
-one_direction ToServer ToServer e = refl
-one_direction ToServer FromServer e = absurd (omega (arith, e))
-one_direction FromServer ToServer e = absurd (omega (arith, e))
-one_direction FromServer FromServer e = refl
-
--- four bytes of a length, and what follows
-one_length : (a b : ℕ) (x y : List ℕ) → a < 2 ^ 32 → b < 2 ^ 32 → to_le_bytes w32 a ++ x ≡ to_le_bytes w32 b ++ y → (a ≡ b) × (x ≡ y)
-one_length a b x y a_fits b_fits e =
-    let bytes : to_le_bytes w32 a ≡ to_le_bytes w32 b = sym (take_at (to_le_bytes w32 a) x 4 refl) ∙ ap (take 4) e ∙ take_at (to_le_bytes w32 b) y 4 refl in
-    let rest : x ≡ y = sym (drop_at (to_le_bytes w32 a) x 4 refl) ∙ ap (drop 4) e ∙ drop_at (to_le_bytes w32 b) y 4 refl in
-    (sym (from_le_bytes-to_le_bytes_4 a a_fits) ∙ ap (from_le_bytes w32) bytes ∙ from_le_bytes-to_le_bytes_4 b b_fits, rest)
-
--- a time, where the format has it, and what follows
-one_time : (format : Format) (a b : ℕ) (x y : List ℕ) → IsTime format a → IsTime format b → time_spelling format a ++ x ≡ time_spelling format b ++ y → (a ≡ b) × (x ≡ y)
-one_time Plain a b x y a_none b_none e = (a_none ∙ sym b_none, e)
-one_time Timed a b x y a_fits b_fits e =
-    let bytes : to_le_bytes w64 a ≡ to_le_bytes w64 b = sym (take_at (to_le_bytes w64 a) x 8 refl) ∙ ap (take 8) e ∙ take_at (to_le_bytes w64 b) y 8 refl in
-    let rest : x ≡ y = sym (drop_at (to_le_bytes w64 a) x 8 refl) ∙ ap (drop 8) e ∙ drop_at (to_le_bytes w64 b) y 8 refl in
-    (sym (from_le_bytes-to_le_bytes_8 a a_fits) ∙ ap (from_le_bytes w64) bytes ∙ from_le_bytes-to_le_bytes_8 b b_fits, rest)
 
 -- each number of a list is one of a byte
 abbrev pub AreSmall : List ℕ → Type 0
@@ -67,69 +43,3 @@ spelled_8 bytes front behind n small is rest long value =
     let eight : length (take 8 bytes) ≡ 8 = omega (arith, length-take 8 bytes, long) in
     let spelled : to_le_bytes w64 n ≡ take 8 bytes = le_bytes_8 (take 8 bytes) n eight (small_front 8 bytes small) (value ∙ ap (from_le_bytes w64) is) in
     sym (take-append-drop 8 bytes) ∙ ap (λ (x : List ℕ). x ++ drop 8 bytes) (sym spelled) ∙ ap (λ (x : List ℕ). to_le_bytes w64 n ++ x) (sym rest)
-
--- as many bytes in front
-pub one_front : (a b x y : List ℕ) → length a ≡ length b → a ++ x ≡ b ++ y → (a ≡ b) × (x ≡ y)
-one_front a b x y same e = (
-  sym (take_at a x (length b) same) ∙ ap (take (length b)) e ∙ take_at b y (length b) refl,
-  sym (drop_at a x (length b) same) ∙ ap (drop (length b)) e ∙ drop_at b y (length b) refl,
-)
-
-one_message : (m n : Message) → m.direction ≡ n.direction → m.bytes ≡ n.bytes → m ≡ n
-one_message m n same_direction same_bytes =
-    let both : (m.direction, m.bytes) ≡ (n.direction, n.bytes) = cc in
-    let made : Direction × List ℕ → Message = λ p. record { direction = p.0; bytes = p.1 } in
-    ap made both
-
-one_recorded : (r s : Recorded) → r.message ≡ s.message → r.time ≡ s.time → r ≡ s
-one_recorded r s same_message same_time =
-    let both : (r.message, r.time) ≡ (s.message, s.time) = cc in
-    let made : Message × ℕ → Recorded = λ p. record { message = p.0; time = p.1 } in
-    ap made both
-
--- what a record says of a message has its bytes: its length, and its time
-abbrev pub Fits : Format → Recorded → Type 0
-Fits format r = (length r.message.bytes < 2 ^ 32) × IsTime format r.time
-
-one_record : (format : Format) (r s : Recorded) (x y : List ℕ) → Fits format r → Fits format s → record_spelling format r ++ x ≡ record_spelling format s ++ y → (r ≡ s) × (x ≡ y)
-one_record format r s x y r_fits s_fits e =
-    let m = r.message in
-    let n = s.message in
-    let m_behind : List ℕ = to_le_bytes w32 (length m.bytes) ++ m.bytes in
-    let n_behind : List ℕ = to_le_bytes w32 (length n.bytes) ++ n.bytes in
-    let heads : direction_byte m.direction ≡ direction_byte n.direction = cc in
-    let tails : (time_spelling format r.time ++ m_behind) ++ x ≡ (time_spelling format s.time ++ n_behind) ++ y = cc in
-    let times = one_time format r.time s.time (m_behind ++ x) (n_behind ++ y) r_fits.1 s_fits.1 (sym (append_assoc (time_spelling format r.time) m_behind x) ∙ tails ∙ append_assoc (time_spelling format s.time) n_behind y) in
-    let lengths = one_length (length m.bytes) (length n.bytes) (m.bytes ++ x) (n.bytes ++ y) r_fits.0 s_fits.0 times.1 in
-    let bodies = one_front m.bytes n.bytes x y lengths.0 lengths.1 in
-    let directions = one_direction m.direction n.direction heads in
-    (one_recorded r s (one_message m n directions bodies.0) times.0, bodies.1)
-
--- two lists of as many records at the front of the same bytes are one
-pub same_records : (format : Format) (rs others : List Recorded) (x y : List ℕ) → AllByRecursion (Fits format) rs → AllByRecursion (Fits format) others → length rs ≡ length others
-    → flat_map (record_spelling format) rs ++ x ≡ flat_map (record_spelling format) others ++ y → (rs ≡ others) × (x ≡ y)
-same_records format [] [] x y fit others_fit same e = (refl, e)
-same_records format [] (o ∷ os) x y fit others_fit same e = absurd (omega (arith, same))
-same_records format (r ∷ rs) [] x y fit others_fit same e = absurd (omega (arith, same))
-same_records format (r ∷ rs) (o ∷ os) x y fit others_fit same e =
-    let grouped : record_spelling format r ++ (flat_map (record_spelling format) rs ++ x) ≡ record_spelling format o ++ (flat_map (record_spelling format) os ++ y) =
-    sym (append_assoc (record_spelling format r) (flat_map (record_spelling format) rs) x) ∙ e ∙ append_assoc (record_spelling format o) (flat_map (record_spelling format) os) y in
-    let first = one_record format r o (flat_map (record_spelling format) rs ++ x) (flat_map (record_spelling format) os ++ y) fit.0 others_fit.0 grouped in
-    let rest = same_records format rs os x y fit.1 others_fit.1 (omega (arith, same)) first.1 in
-    (let both : r ∷ rs ≡ o ∷ os = cc in both, rest.1)
-
--- a longer list of records at the front of the same bytes goes on with a record of what is left
-pub next_record : (format : Format) (rs others : List Recorded) (x y : List ℕ) → AllByRecursion (Fits format) rs → AllByRecursion (Fits format) others → length rs < length others
-    → flat_map (record_spelling format) rs ++ x ≡ flat_map (record_spelling format) others ++ y
-    → (r : Recorded) × (more : List Recorded) × (others ≡ rs ++ r ∷ more) × (x ≡ record_spelling format r ++ (flat_map (record_spelling format) more ++ y))
-next_record format [] [] x y fit others_fit longer e = absurd (omega (arith, longer))
-next_record format [] (o ∷ os) x y fit others_fit longer e = (o, os, refl, e ∙ append_assoc (record_spelling format o) (flat_map (record_spelling format) os) y)
-next_record format (r ∷ rs) [] x y fit others_fit longer e = absurd (omega (arith, longer))
-next_record format (r ∷ rs) (o ∷ os) x y fit others_fit longer e =
-    let grouped : record_spelling format r ++ (flat_map (record_spelling format) rs ++ x) ≡ record_spelling format o ++ (flat_map (record_spelling format) os ++ y) =
-    sym (append_assoc (record_spelling format r) (flat_map (record_spelling format) rs) x) ∙ e ∙ append_assoc (record_spelling format o) (flat_map (record_spelling format) os) y in
-    let first = one_record format r o (flat_map (record_spelling format) rs ++ x) (flat_map (record_spelling format) os ++ y) fit.0 others_fit.0 grouped in
-    let rest = next_record format rs os x y fit.1 others_fit.1 (omega (arith, longer)) first.1 in
-    let here : r ≡ o = first.0 in
-    let there : os ≡ rs ++ rest.0 ∷ rest.1 = rest.2 in
-    (rest.0, rest.1, (let both : o ∷ os ≡ r ∷ (rs ++ rest.0 ∷ rest.1) = cc in both), rest.3)

@@ -8,19 +8,20 @@ use Rattle.fa_capture.specs.declared.fault.CaptureFault.{CaptureFault}
 use Rattle.fa_capture.specs.declared.format.Format.{Format}
 use Rattle.fa_capture.specs.Message.{Message, Recorded, without_times}
 use Rattle.fa_capture.specs.Framing.{record_spelling, capture_spelling, BeginsWith}
-use Rattle.fa_capture.specs.Reading.{IsInFormat, IsRecording, IsReading, IsFrontOf, PlainPackets, HaveRead}
+use Rattle.fa_capture.specs.Reading.{IsInFormat, IsRecording, IsReading, IsFrontOf}
+use Rattle.fa_capture.specs.parts.Walks.{PlainWalk, HaveRead}
 use Rattle.fa_capture.proofs.FramingLemmas.{Fits, same_records}
 use Rattle.fa_capture.proofs.ReadingLemmas.{IsSoFar, framed_fit, behind_magic, in_format, has_magic, same_format, one_recording, reads_whole, so_far_of, records_length, messages_on}
 use Rattle.fa_capture.proofs.ListLemmas.{get_last, get_of_front}
 
 -- a walk has read so many records of these bytes
-pub record IsBehind (bytes : List ℕ) (count : ℕ) (walk : PlainPackets) : Type 0 where
+pub record IsBehind (bytes : List ℕ) (count : ℕ) (walk : PlainWalk) : Type 0 where
   pub rs : List Recorded
   pub many : length rs ≡ count
   pub read : HaveRead bytes rs walk
 
 -- one more record
-pub behind_more : (bytes : List ℕ) (r : Recorded) (count : ℕ) (old new : PlainPackets) → IsBehind bytes count old
+pub behind_more : (bytes : List ℕ) (r : Recorded) (count : ℕ) (old new : PlainWalk) → IsBehind bytes count old
     → ((bytes : List ℕ) (rs : List Recorded) → HaveRead bytes rs old → HaveRead bytes (rs ++ r ∷ []) new) → IsBehind bytes (count + 1) new
 behind_more bytes r count old new behind more = record {
   rs = behind.rs ++ r ∷ [];
@@ -60,12 +61,12 @@ reach format bytes left rs spelled =
     ap (λ (n : ℕ). take n bytes) far ∙ ap (take (length (capture_spelling format rs))) spelled ∙ take_at (capture_spelling format rs) left (length (capture_spelling format rs)) refl
 
 -- what is left is no more than there is, and what stands in front of it is the capture of the wanted
-abbrev pub IsKept : (bytes : List ℕ) → (wanted : ℕ) → PlainPackets → Type 0
+abbrev pub IsKept : (bytes : List ℕ) → (wanted : ℕ) → PlainWalk → Type 0
 IsKept bytes wanted walk = (length walk.left ≤ length bytes) × IsFrontOf bytes wanted (take (length bytes - length walk.left) bytes)
 
 -- Where the records that were read are the first that are wanted, or all, what stands in front of what is left is the capture
 -- of the wanted.
-front_reads : (bytes : List ℕ) (count wanted : ℕ) (walk : PlainPackets) (behind : IsBehind bytes count walk)
+front_reads : (bytes : List ℕ) (count wanted : ℕ) (walk : PlainWalk) (behind : IsBehind bytes count walk)
     → ((all : List Recorded) (fault : Option CaptureFault) → IsRecording bytes all fault → take wanted all ≡ take count all)
     → IsKept bytes wanted walk
 front_reads bytes count wanted walk behind same =
@@ -87,11 +88,11 @@ front_reads bytes count wanted walk behind same =
     )
 
 -- as many records as are wanted
-pub front_wanted : (bytes : List ℕ) (count wanted : ℕ) (walk : PlainPackets) → IsBehind bytes count walk → count ≡ wanted → IsKept bytes wanted walk
+pub front_wanted : (bytes : List ℕ) (count wanted : ℕ) (walk : PlainWalk) → IsBehind bytes count walk → count ≡ wanted → IsKept bytes wanted walk
 front_wanted bytes count wanted walk behind enough = front_reads bytes count wanted walk behind (λ all fault r. ap (λ (n : ℕ). take n all) (sym enough))
 
 -- where the walk has read all records, they are all that are wanted
-front_all : (bytes : List ℕ) (count wanted : ℕ) (walk : PlainPackets) (behind : IsBehind bytes count walk) → count ≤ wanted → (fault : Option CaptureFault) → IsRecording bytes behind.rs fault
+front_all : (bytes : List ℕ) (count wanted : ℕ) (walk : PlainWalk) (behind : IsBehind bytes count walk) → count ≤ wanted → (fault : Option CaptureFault) → IsRecording bytes behind.rs fault
     → IsKept bytes wanted walk
 front_all bytes count wanted walk behind within fault whole =
     front_reads bytes count wanted walk behind (λ all other r.
@@ -100,12 +101,12 @@ front_all bytes count wanted walk behind within fault whole =
     take_all wanted all (omega (arith, few, within, behind.many)) ∙ sym (take_all count all (omega (arith, few, behind.many))))
 
 -- no bytes are left
-pub front_to_end : (bytes : List ℕ) (count wanted : ℕ) (walk : PlainPackets) → IsBehind bytes count walk → count ≤ wanted → ((bytes : List ℕ) (rs : List Recorded) → HaveRead bytes rs walk → IsRecording bytes rs None)
+pub front_to_end : (bytes : List ℕ) (count wanted : ℕ) (walk : PlainWalk) → IsBehind bytes count walk → count ≤ wanted → ((bytes : List ℕ) (rs : List Recorded) → HaveRead bytes rs walk → IsRecording bytes rs None)
     → IsKept bytes wanted walk
 front_to_end bytes count wanted walk behind within ends = front_all bytes count wanted walk behind within None (ends bytes behind.rs behind.read)
 
 -- the record behind them is at fault
-pub front_to_fault : (bytes : List ℕ) (count wanted code : ℕ) (walk : PlainPackets) → IsBehind bytes count walk → count ≤ wanted
+pub front_to_fault : (bytes : List ℕ) (count wanted code : ℕ) (walk : PlainWalk) → IsBehind bytes count walk → count ≤ wanted
     → ((bytes : List ℕ) (rs : List Recorded) → HaveRead bytes rs walk → IsRecording bytes rs (Some (record { whole = length rs; code = code })))
     → IsKept bytes wanted walk
 front_to_fault bytes count wanted code walk behind within fails =
@@ -114,7 +115,7 @@ front_to_fault bytes count wanted code walk behind within fails =
 -- ---- what a walk has read is the front of what the bytes hold
 
 -- the first messages of a capture are those of the records that a walk over it has read, up to the last
-pub walked_messages : (bytes : List ℕ) (rs : List Recorded) (r : Recorded) (walk : PlainPackets) (ms : List Message) (fault : Option CaptureFault) → HaveRead bytes (rs ++ r ∷ []) walk → IsReading bytes ms fault
+pub walked_messages : (bytes : List ℕ) (rs : List Recorded) (r : Recorded) (walk : PlainWalk) (ms : List Message) (fault : Option CaptureFault) → HaveRead bytes (rs ++ r ∷ []) walk → IsReading bytes ms fault
     → (take (length rs) ms ≡ without_times rs) × (slice_get ms (length rs) ≡ Some r.message)
 walked_messages bytes rs r walk ms fault read (all, is, recording) =
     let before : List Message = without_times rs in

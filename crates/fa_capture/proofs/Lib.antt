@@ -5,6 +5,10 @@ pub mod ReadingLemmas
 pub mod ReadingThereLemmas
 pub mod PullLemmas
 pub mod FrontLemmas
+pub mod PieceLemmas
+pub mod BytesLemmas
+pub mod StopLemmas
+pub mod PacketLemmas
 pub mod MigrateLemmas
 pub mod TimeLemmas
 pub mod ListLemmas

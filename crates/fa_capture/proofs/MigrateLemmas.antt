@@ -1,21 +1,19 @@
 -- What is written of a capture's records is the capture that holds them.
-use Rattle.std.proofs.Common.{◌≡◌, ℕ, ◌<◌, ◌+◌, ◌≤◌, List, [], ◌∷◌, ◌++◌, length, take, get_or, Option, Some, None, refl, sym, ap, subst, ◌∙◌, append_assoc, add-one, arith}
+use Rattle.std.proofs.Common.{◌≡◌, ℕ, ◌≤◌, List, [], ◌∷◌, ◌++◌, length, Option, Some, None, refl, sym, ap, subst, ◌∙◌, append_assoc, arith}
 use Rattle.std.specs.Prelude.{All}
 use Rattle.std.specs.List.{AllByRecursion}
 use Rattle.std.specs.Int.{w32, w64, to_le_bytes}
-use Rattle.std.proofs.lemmas.List.{append-nil, get_or-map, map-append, take_all}
-use Rattle.std.proofs.lemmas.List.Elements.{recursion_from_All, All-from_recursion, All-get_or}
+use Rattle.std.proofs.lemmas.List.{append-nil}
+use Rattle.std.proofs.lemmas.List.Elements.{recursion_from_All, All-from_recursion}
 use Rattle.fa_capture.specs.declared.format.Format.{Format}
 use Rattle.fa_capture.specs.declared.format.Format.TheVariants.{Plain, Timed}
 use Rattle.fa_capture.specs.declared.fault.CaptureFault.{CaptureFault}
-use Rattle.fa_capture.specs.declared.migration.MigrateError.TheVariants.{Fault}
-use Rattle.fa_capture.specs.declared.packet.Packet.{Packet}
-use Rattle.fa_capture.specs.Message.{Message, message, messages, Recorded, recorded, recordings, without_times}
+use Rattle.fa_capture.specs.declared.migration.MigrateError.TheVariants.{Fault, Memory}
+use Rattle.fa_capture.specs.Message.{Message, Recorded, without_times}
 use Rattle.fa_capture.specs.Framing.{magic, direction_byte, IsTime, record_spelling, capture_spelling, IsFramed}
 use Rattle.fa_capture.specs.declared.limits.TheConstants.{MAX_MESSAGE_BYTES}
 use Rattle.fa_capture.specs.Reading.{IsReading, IsRecording, IsMigrated, IsMigrateError, MigratedHoldsTheSame}
-use Rattle.std.proofs.Math.Seq.{take-suc}
-use Rattle.fa_capture.proofs.ReadingLemmas.{one_reading_lem, one_recording, in_format, reads_whole, recorded_messages, messages_length, spelled_on}
+use Rattle.fa_capture.proofs.ReadingLemmas.{one_reading_lem, one_recording, in_format, reads_whole, spelled_on, messages_on, one_of}
 
 -- a time of either format stands in eight bytes
 time_fits : (format : Format) (time : ℕ) → IsTime format time → IsTime Timed time
@@ -53,8 +51,8 @@ reads_migrated bytes written m ms fault r =
     subst (IsReading bytes ms) one.1 (subst (λ (c : List Message). IsReading bytes c None) one.0 held)
 
 -- bytes with a framing fault are not migrated
-pub not_migrated : (bytes : List ℕ) (ps : List Packet) (fault : CaptureFault) → IsRecording bytes (recordings ps) (Some fault) → IsMigrateError bytes (Fault fault)
-not_migrated bytes ps fault r = (messages ps, (recordings ps, recorded_messages ps, r))
+pub not_migrated : (bytes : List ℕ) (rs : List Recorded) (is : Option CaptureFault) (fault : CaptureFault) → is ≡ Some fault → IsRecording bytes rs is → IsMigrateError bytes (Fault fault)
+not_migrated bytes rs is fault here r = (without_times rs, (rs, refl, subst (IsRecording bytes rs) here r))
 
 -- ---- what is written
 
@@ -69,42 +67,52 @@ record_put r old one two three four time length_bytes d d_is time_is length_is o
     let same : d ∷ time ++ (length_bytes ++ body) ≡ record_spelling Timed r = cc in
     parts ∙ joined ∙ ap (λ (x : List ℕ). old ++ x) same
 
--- the records of so many packets behind the magic
-abbrev pub IsWrittenUpTo : List Packet → ℕ → List ℕ → Type 0
-IsWrittenUpTo ps count written = written ≡ capture_spelling Timed (recordings (take count ps))
-
-pub none_written : (ps : List Packet) (none first written : List ℕ) → none ≡ [] → first ≡ magic Timed → written ≡ none ++ first → IsWrittenUpTo ps 0 written
-none_written ps none first written empty begins is =
+-- no record is written behind the magic
+pub none_written : (none first written : List ℕ) → none ≡ [] → first ≡ magic Timed → written ≡ none ++ first → written ≡ capture_spelling Timed []
+none_written none first written empty begins is =
     let magic_alone : capture_spelling Timed [] ≡ magic Timed = append-nil (magic Timed) in
     let joined : none ++ first ≡ magic Timed = cc in
     is ∙ joined ∙ sym magic_alone
 
-pub one_more_written : (ps : List Packet) (count : ℕ) (d : Packet) (written longer : List ℕ) → count < length ps → IsWrittenUpTo ps count written
-    → longer ≡ written ++ record_spelling Timed (recorded (get_or ps count d)) → IsWrittenUpTo ps (count + 1) longer
-one_more_written ps count d written longer within so_far is =
-    let p : Packet = get_or ps count d in
-    let one : take (count + 1) ps ≡ take count ps ++ p ∷ [] = rw add-one (take-suc ps count d within) in
-    let more : recordings (take (count + 1) ps) ≡ recordings (take count ps) ++ recorded p ∷ [] = ap recordings one ∙ map-append recorded (take count ps) (p ∷ []) in
-    let spelled : capture_spelling Timed (recordings (take count ps) ++ recorded p ∷ []) ≡ capture_spelling Timed (recordings (take count ps)) ++ record_spelling Timed (recorded p) =
-    spelled_on Timed (recordings (take count ps)) [] (recorded p) ∙ ap (λ (x : List ℕ). capture_spelling Timed (recordings (take count ps)) ++ x) (append-nil (record_spelling Timed (recorded p))) in
-    is ∙ ap (λ (x : List ℕ). x ++ record_spelling Timed (recorded p)) so_far ∙ sym (ap (capture_spelling Timed) more ∙ spelled)
+-- and one more
+pub one_more_written : (front : List Recorded) (r : Recorded) (written longer : List ℕ) → written ≡ capture_spelling Timed front → longer ≡ written ++ record_spelling Timed r
+    → longer ≡ capture_spelling Timed (front ++ r ∷ [])
+one_more_written front r written longer so_far is =
+    let spelled : capture_spelling Timed (front ++ r ∷ []) ≡ capture_spelling Timed front ++ record_spelling Timed r =
+    spelled_on Timed front [] r ∙ ap (λ (x : List ℕ). capture_spelling Timed front ++ x) (append-nil (record_spelling Timed r)) in
+    is ∙ ap (λ (x : List ℕ). x ++ record_spelling Timed r) so_far ∙ sym spelled
+
+-- ---- the records that are written, and those that are left
 
 -- no fault was found
-pub without_fault : (fault : Option CaptureFault) → ((f : CaptureFault) → fault ≡ Some f → ⊥) → fault ≡ None
-without_fault None not = refl
-without_fault (Some f) not = absurd (not f refl)
+without_fault : (fault : Option CaptureFault) → ((f : CaptureFault) → fault ≡ Some f → ⊥) → fault ≡ None
+without_fault None other = refl
+without_fault (Some f) other = absurd (other f refl)
 
--- all of them
-pub all_written : (bytes written : List ℕ) (ps : List Packet) (count : ℕ) → IsRecording bytes (recordings ps) None → IsWrittenUpTo ps count written → length ps ≤ count → IsMigrated bytes written
-all_written bytes written ps count r is all = record {
-  records = recordings ps;
-  hold = r;
-  spelled = is ∙ ap (λ (qs : List Packet). capture_spelling Timed (recordings qs)) (take_all count ps all);
+-- where memory was refused there is none
+pub memory_refused : (bytes : List ℕ) (rs : List Recorded) (fault : Option CaptureFault) → ((f : CaptureFault) → fault ≡ Some f → ⊥) → IsRecording bytes rs fault → IsMigrateError bytes Memory
+memory_refused bytes rs fault other r = (without_times rs, (rs, refl, subst (IsRecording bytes rs) (without_fault fault other) r))
+
+-- so all records are written
+pub all_left : (bytes : List ℕ) (rs left : List Recorded) (fault : Option CaptureFault) → ((f : CaptureFault) → fault ≡ Some f → ⊥) → left ≡ rs → IsRecording bytes rs fault → IsRecording bytes left None
+all_left bytes rs left fault other same r = subst (IsRecording bytes left) (without_fault fault other) (subst (λ (x : List Recorded). IsRecording bytes x fault) (sym same) r)
+
+-- the first of those that are left is written
+pub one_fewer : (bytes : List ℕ) (front left rest : List Recorded) (r : Recorded) → left ≡ r ∷ rest → IsRecording bytes (front ++ left) None → IsRecording bytes ((front ++ r ∷ []) ++ rest) None
+one_fewer bytes front left rest r is held =
+    subst (λ (x : List Recorded). IsRecording bytes x None) (ap (λ (x : List Recorded). front ++ x) is ∙ sym (append_assoc front (r ∷ []) rest)) held
+
+-- it is within the limit
+pub first_short : (bytes : List ℕ) (front left rest : List Recorded) (r : Recorded) → left ≡ r ∷ rest → IsRecording bytes (front ++ left) None → length r.message.bytes ≤ MAX_MESSAGE_BYTES
+first_short bytes front left rest r is held =
+    let framed : IsFramed (without_times front ++ r.message ∷ without_times rest) =
+    subst IsFramed (ap (λ (x : List Recorded). without_times (front ++ x)) is ∙ messages_on front rest r) held.records.framed in
+    one_of (without_times front) (without_times rest) r.message (recursion_from_All (λ (m : Message). length m.bytes ≤ MAX_MESSAGE_BYTES) (without_times front ++ r.message ∷ without_times rest) framed.each)
+
+-- none is left
+pub all_written : (bytes written : List ℕ) (front left : List Recorded) → left ≡ [] → IsRecording bytes (front ++ left) None → written ≡ capture_spelling Timed front → IsMigrated bytes written
+all_written bytes written front left none held is = record {
+  records = front;
+  hold = subst (λ (x : List Recorded). IsRecording bytes x None) (ap (λ (x : List Recorded). front ++ x) none ∙ append-nil front) held;
+  spelled = is;
 }
-
--- a message of a capture is within the limit
-pub packet_short : (ps : List Packet) (k : ℕ) (d : Packet) → IsFramed (messages ps) → k < length ps → length (get_or ps k d).bytes.now ≤ MAX_MESSAGE_BYTES
-packet_short ps k d framed within =
-    let at : get_or (messages ps) k (message d) ≡ message (get_or ps k d) = get_or-map message ps k d (message d) within in
-    let size : length (get_or (messages ps) k (message d)).bytes ≡ length (get_or ps k d).bytes.now = ap (λ (m : Message). length m.bytes) at in
-    omega (arith, size, All-get_or (λ (m : Message). length m.bytes ≤ MAX_MESSAGE_BYTES) (messages ps) k (message d) (omega (arith, within, messages_length ps)) framed.each)

@@ -22,7 +22,8 @@ use Rattle.fa_capture.specs.Checks.{FirstFailure, AllHold}
 use Rattle.fa_capture.specs.declared.packet.Packet.{Packet}
 use Rattle.fa_capture.specs.Message.{Message, message, messages, Recorded, recorded, recordings, without_times}
 use Rattle.fa_capture.specs.Framing.{magic, direction_byte, time_spelling, IsTime, record_spelling, capture_spelling, counted_bytes, IsFramed, BeginsWith}
-use Rattle.fa_capture.specs.Reading.{IsInFormat, HasMagic, header_size, stated_length, record_checks, IsRecord, AreRecords, IsFault, IsRecording, IsReading, OneRecording, OneReading, PlainPackets, HaveRead}
+use Rattle.fa_capture.specs.Reading.{IsInFormat, HasMagic, header_size, stated_length, record_checks, IsRecord, AreRecords, IsFault, IsRecording, IsReading, OneRecording, OneReading}
+use Rattle.fa_capture.specs.parts.Walks.{PlainWalk, HaveRead}
 use Rattle.fa_capture.proofs.ChecksLemmas.{no_failure, one_failure}
 use Rattle.fa_capture.proofs.FramingLemmas.{Fits, one_format, same_records, next_record}
 
@@ -35,7 +36,7 @@ pub framed_fit : (format : Format) (rs : List Recorded) → IsFramed (without_ti
 framed_fit format rs framed times =
     fit_by_limit format rs (recursion_from_All (λ (m : Message). length m.bytes ≤ MAX_MESSAGE_BYTES) (without_times rs) framed.each) (recursion_from_All (λ (r : Recorded). IsTime format r.time) rs times)
 
-direction_small : (d : Direction) → direction_byte d ≤ 1
+pub direction_small : (d : Direction) → direction_byte d ≤ 1
 direction_small ToServer = omega arith
 direction_small FromServer = omega arith
 
@@ -81,7 +82,7 @@ spelled_on format rs more r =
     ap (λ (x : List ℕ). magic format ++ x) (flat_map-append (record_spelling format) rs (r ∷ more))
     ∙ sym (append_assoc (magic format) (flat_map (record_spelling format) rs) (record_spelling format r ++ flat_map (record_spelling format) more))
 
-one_of : (ms more : List Message) (m : Message) → AllByRecursion (λ m. length m.bytes ≤ MAX_MESSAGE_BYTES) (ms ++ m ∷ more) → length m.bytes ≤ MAX_MESSAGE_BYTES
+pub one_of : (ms more : List Message) (m : Message) → AllByRecursion (λ m. length m.bytes ≤ MAX_MESSAGE_BYTES) (ms ++ m ∷ more) → length m.bytes ≤ MAX_MESSAGE_BYTES
 one_of [] more m each = each.0
 one_of (n ∷ ms) more m each = one_of ms more m each.1
 
@@ -348,7 +349,7 @@ recorded_messages (p ∷ ps) = ap (λ (ms : List Message). message p ∷ ms) (re
 -- ---- a walk over the records
 
 -- what a walk has read
-pub so_far_of : (bytes : List ℕ) (rs : List Recorded) (walk : PlainPackets) → HaveRead bytes rs walk → IsSoFar walk.format bytes rs walk.left
+pub so_far_of : (bytes : List ℕ) (rs : List Recorded) (walk : PlainWalk) → HaveRead bytes rs walk → IsSoFar walk.format bytes rs walk.left
 so_far_of bytes rs walk read = record { framed = read.framed; times = read.times; spelled = read.spelled }
 
 -- nothing was read
@@ -358,11 +359,11 @@ none_read format bytes left counted e eight =
     record { framed = so_far.framed; times = so_far.times; spelled = so_far.spelled; count_is = refl; counted_is = eight }
 
 -- what the place of a record is, by the records before it
-at_place : (P : ℕ → ℕ → Type 0) (bytes : List ℕ) (rs : List Recorded) (walk : PlainPackets) → HaveRead bytes rs walk → P walk.count walk.counted → P (length rs) (counted_bytes (without_times rs))
+at_place : (P : ℕ → ℕ → Type 0) (bytes : List ℕ) (rs : List Recorded) (walk : PlainWalk) → HaveRead bytes rs walk → P walk.count walk.counted → P (length rs) (counted_bytes (without_times rs))
 at_place P bytes rs walk read here = subst (P (length rs)) read.counted_is (subst (λ (n : ℕ). P n walk.counted) read.count_is here)
 
 -- one more record
-pub read_more : (bytes after : List ℕ) (rs : List Recorded) (r : Recorded) (walk : PlainPackets) (count counted : ℕ) → HaveRead bytes rs walk
+pub read_more : (bytes after : List ℕ) (rs : List Recorded) (r : Recorded) (walk : PlainWalk) (count counted : ℕ) → HaveRead bytes rs walk
     → IsRecord walk.format walk.count walk.counted walk.left r after → count ≡ walk.count + 1 → counted ≡ walk.counted + (5 + length r.message.bytes)
     → HaveRead bytes (rs ++ r ∷ []) (record { format = walk.format; count = count; counted = counted; left = after })
 read_more bytes after rs r walk count counted read is count_is counted_is =
@@ -377,11 +378,11 @@ read_more bytes after rs r walk count counted read is count_is counted_is =
     }
 
 -- nothing is left
-pub read_whole : (bytes : List ℕ) (rs : List Recorded) (walk : PlainPackets) → HaveRead bytes rs walk → walk.left ≡ [] → IsRecording bytes rs None
+pub read_whole : (bytes : List ℕ) (rs : List Recorded) (walk : PlainWalk) → HaveRead bytes rs walk → walk.left ≡ [] → IsRecording bytes rs None
 read_whole bytes rs walk read nothing = reads_whole walk.format bytes rs (subst (IsSoFar walk.format bytes rs) nothing (so_far_of bytes rs walk read))
 
 -- the record behind those that were read fails a check
-pub read_to_fault : (bytes : List ℕ) (rs : List Recorded) (walk : PlainPackets) (code : ℕ) → HaveRead bytes rs walk → (length walk.left ≡ 0 → ⊥)
+pub read_to_fault : (bytes : List ℕ) (rs : List Recorded) (walk : PlainWalk) (code : ℕ) → HaveRead bytes rs walk → (length walk.left ≡ 0 → ⊥)
     → FirstFailure (record_checks walk.format walk.count walk.counted walk.left) code → IsRecording bytes rs (Some (record { whole = length rs; code = code }))
 read_to_fault bytes rs walk code read some fails =
     reads_fault walk.format bytes walk.left rs code (so_far_of bytes rs walk read) (λ none. some (ap length none))
@@ -408,14 +409,14 @@ record_coded : (format : Format) (before counted : ℕ) (left : List ℕ) → Ar
 record_coded format before counted left =
     ((omega arith, omega arith), ((omega arith, omega arith), ((omega arith, omega arith), ((omega arith, omega arith), ((omega arith, omega arith), ((omega arith, omega arith), tt))))))
 
-pub fault_coded : (bytes : List ℕ) (rs : List Recorded) (walk : PlainPackets) (f : CaptureFault) → HaveRead bytes rs walk → IsRecording bytes rs (Some f) → (NO_MAGIC ≤ f.code) × (f.code ≤ CAPTURE_TOO_LARGE)
+pub fault_coded : (bytes : List ℕ) (rs : List Recorded) (walk : PlainWalk) (f : CaptureFault) → HaveRead bytes rs walk → IsRecording bytes rs (Some f) → (NO_MAGIC ≤ f.code) × (f.code ≤ CAPTURE_TOO_LARGE)
 fault_coded bytes rs walk f read r =
     let there = r.ended.2 walk.format (in_format walk.format bytes rs walk.left read.spelled) in
     let counted : ℕ = counted_bytes (without_times rs) in
     within_codes (record_checks walk.format (length rs) counted there.0) f.code (record_coded walk.format (length rs) counted there.0) there.3
 
 -- one more packet
-pub packet_more : (bytes : List ℕ) (ps : List Packet) (p : Packet) (old new : PlainPackets) → ((bytes : List ℕ) (rs : List Recorded) → HaveRead bytes rs old → HaveRead bytes (rs ++ recorded p ∷ []) new)
+pub packet_more : (bytes : List ℕ) (ps : List Packet) (p : Packet) (old new : PlainWalk) → ((bytes : List ℕ) (rs : List Recorded) → HaveRead bytes rs old → HaveRead bytes (rs ++ recorded p ∷ []) new)
     → HaveRead bytes (recordings ps) old → HaveRead bytes (recordings (ps ++ p ∷ [])) new
 packet_more bytes ps p old new more read =
     subst (λ (rs : List Recorded). HaveRead bytes rs new) (sym (map-append recorded ps (p ∷ []))) (more bytes (recordings ps) read)
@@ -426,7 +427,7 @@ pub fault_at : (bytes : List ℕ) (ps : List Packet) (whole code : ℕ) → whol
 fault_at bytes ps whole code is r = subst (λ (n : ℕ). IsRecording bytes (recordings ps) (Some (record { whole = n; code = code }))) (recordings_length ps ∙ sym is) r
 
 -- the packets of a walk keep the limits
-pub packets_framed : (bytes : List ℕ) (ps : List Packet) (walk : PlainPackets) → HaveRead bytes (recordings ps) walk → IsFramed (messages ps)
+pub packets_framed : (bytes : List ℕ) (ps : List Packet) (walk : PlainWalk) → HaveRead bytes (recordings ps) walk → IsFramed (messages ps)
 packets_framed bytes ps walk read = subst IsFramed (recorded_messages ps) read.framed
 
 -- what was read with its times was read

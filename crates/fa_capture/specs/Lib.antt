@@ -8,9 +8,15 @@ pub mod Checks
 pub mod Framing
 -- what bytes hold: their messages, and the fault that ends them
 pub mod Reading
+-- records one after the other, captures, and captures that come in pieces
+pub mod Records
+pub mod Captures
+pub mod Pieces
 -- what a pull does to an input
 pub mod Streams
 -- the marks of a device
 pub mod Device
 -- the text of each code
 pub mod Codes
+-- what private contracts alone speak of
+pub mod parts

@@ -78,21 +78,6 @@ pub record IsRecording (bytes : List ℕ) (rs : List Recorded) (fault : Option C
 abbrev pub IsReading : List ℕ → List Message → Option CaptureFault → Type 0
 IsReading bytes ms fault = (rs : List Recorded) × (without_times rs ≡ ms) × IsRecording bytes rs fault
 
--- a walk over the records of a capture: its format, how many records were read, how many bytes count so far, and what is left
-pub record PlainPackets : Type 0 where
-  pub format : Format
-  pub count : ℕ
-  pub counted : ℕ
-  pub left : List ℕ
-
--- a walk over these bytes has read these records, which are within the limits
-pub record HaveRead (bytes : List ℕ) (rs : List Recorded) (walk : PlainPackets) : Type 0 where
-  pub framed : IsFramed (without_times rs)
-  pub times : All (λ r. IsTime walk.format r.time) rs
-  pub spelled : bytes ≡ capture_spelling walk.format rs ++ walk.left
-  pub count_is : walk.count ≡ length rs
-  pub counted_is : walk.counted ≡ counted_bytes (without_times rs)
-
 -- The front of a capture, by how many messages it has at most: the bytes begin as a capture does, and whatever they hold, the front
 -- holds the first so many of these records, or all where there are fewer, in the same format, and has no fault.
 pub record IsFrontOf (bytes : List ℕ) (messages : ℕ) (front : List ℕ) : Type 0 where
@@ -106,10 +91,10 @@ pub record IsMigrated (bytes migrated : List ℕ) : Type 0 where
   pub hold : IsRecording bytes records None
   pub spelled : migrated ≡ capture_spelling Timed records
 
--- why bytes are not migrated: they have this framing fault, or memory was refused
+-- why bytes are not migrated: they have this framing fault, or they have none and memory was refused
 abbrev pub IsMigrateError : List ℕ → MigrateError → Type 0
 IsMigrateError bytes (Fault fault) = (ms : List Message) × IsReading bytes ms (Some fault)
-IsMigrateError bytes Memory = Unit {0}
+IsMigrateError bytes Memory = (ms : List Message) × IsReading bytes ms None
 
 -- two readings of the same bytes agree, with their times
 abbrev pub OneRecording : Type 0

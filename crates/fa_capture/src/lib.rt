@@ -1,8 +1,8 @@
 //! Captures of /dev/fuse traffic: from bytes to messages.
 //!
 //! [`read_capture`] splits the bytes of a capture in either [`Format`] into [`Packet`]s, whose bytes are slices of the
-//! capture, and tells the first fault of the framing; [`Packets`] are the same one after the other, without a list; [`front`] gives the capture of its first messages, and [`migrate`] writes one
-//! anew in the format that has times.
+//! capture, and tells the first fault of the framing; a [`Feed`] does so with a capture that comes in pieces. [`front`] gives the
+//! capture of its first messages, and [`migrate`] writes one anew in the format that has times.
 //! [`Input`] and [`Output`] are where bytes come from and go to, and [`read_all`] reads the whole of an
 //! input.
 #![tactic(auto)]
@@ -11,6 +11,7 @@ mod capture;
 pub mod codes;
 mod device;
 mod fault;
+mod feed;
 mod format;
 mod input;
 pub mod laws;
@@ -19,13 +20,17 @@ mod migration;
 mod output;
 mod packet;
 mod packets;
+mod reading;
+mod walk;
 
-pub use capture::{Capture, front, read_capture};
+pub use capture::Capture;
 pub use device::Device;
 pub use fault::CaptureFault;
+pub use feed::{Feed, FeedError, Stored};
 pub use format::Format;
 pub use input::{Input, MAX_READ_LIMIT, Pull, ReadError, read_all};
 pub use migration::{MigrateError, migrate};
 pub use output::{Broken, Output};
 pub use packet::{Direction, Packet};
 pub use packets::Packets;
+pub use reading::{front, read_capture};

@@ -4,13 +4,13 @@ ghost use Rattle.std.specs.Prelude.{◌≡◌, ◌≤◌, ◌++◌, length, IfOk
 ghost use Rattle.fa_capture.specs.declared.format.Format.TheVariants.{Timed};
 ghost use Rattle.fa_capture.specs.Message.{recorded};
 ghost use Rattle.fa_capture.specs.declared.limits.TheConstants.{MAX_MESSAGE_BYTES};
-ghost use Rattle.fa_capture.specs.Framing as spelling;
+ghost use Rattle.fa_capture.specs.Framing.{record_spelling};
 ghost use Rattle.fa_capture.specs.Reading.{IsMigrated, IsMigrateError};
 
-use crate::capture::read_capture;
 use crate::fault::CaptureFault;
 use crate::format::Format;
-use crate::packet::{Direction, Packet};
+use crate::packet::Packet;
+use crate::reading::read_capture;
 use std::alloc::{AllocError, Global};
 use thiserror::Error;
 
@@ -47,50 +47,40 @@ impl From<AllocError> for MigrateError {
 ///
 /// # Errors
 ///
-/// - [`MigrateError::Fault`] where the capture has a framing fault, which is that of [`read_capture`], unless memory was refused.
-/// - [`MigrateError::Memory`] where memory was refused.
+/// - [`MigrateError::Fault`] where the capture has a framing fault, which is that of [`read_capture`].
+/// - [`MigrateError::Memory`] where it has none, and memory was refused.
 ///
 /// # Cost
 ///
-/// Time and memory linear in the bytes: that of [`read_capture`], and for the capture that is written, at once for all of it, which
-/// takes 8 bytes a message more than one in `FUSECAP1`.
+/// Time linear in the bytes. Memory for the capture that is written, at once for all of it, which takes 8 bytes a message more than one
+/// in `FUSECAP1`.
 pub fn migrate(alloc: Global, bytes: &[u8]) -> Result<Vec<u8>, MigrateError>
     ensures migrated { IfOk result (λ written. IsMigrated bytes.now written.items) }
     ensures refused { IfErr result (IsMigrateError bytes.now) }
 {
-    let capture = read_capture(alloc, bytes)?;
+    let capture = read_capture(bytes);
     if let Some(fault) = capture.fault {
         return Err(MigrateError::Fault(fault));
     }
     let mut size = bytes.len();
     if bytes.starts_with(Format::Plain.magic()) {
-        size += TIME_BYTES * capture.packets.len();
+        size += TIME_BYTES * capture.messages as usize;
     }
     let mut written = Vec::with_capacity(alloc, size)?;
     written.extend_from_slice(Format::Timed.magic())?;
-    for packet in &capture.packets {
-        put_record(&mut written, packet)?;
+    for packet in capture.packets() {
+        put_record(&mut written, &packet)?;
     }
     Ok(written)
-}
-
-/// How a record tells which way its message went.
-fn direction_byte(direction: Direction) -> u8
-    ensures { result ≡ spelling.direction_byte direction }
-{
-    match direction {
-        Direction::ToServer => 0,
-        Direction::FromServer => 1,
-    }
 }
 
 /// Puts the record of a packet, with its time, behind what is written.
 fn put_record(written: &mut Vec<u8>, packet: &Packet<'_>) -> Result<(), AllocError>
     requires { length packet.now.bytes.now ≤ MAX_MESSAGE_BYTES }
-    ensures { OnOk result (written.new.items ≡ written.old.items ++ spelling.record_spelling Timed (recorded packet.now)) }
+    ensures { OnOk result (written.new.items ≡ written.old.items ++ record_spelling Timed (recorded packet.now)) }
 {
     let length = packet.bytes.len() as u32;
-    written.push(direction_byte(packet.direction))?;
+    written.push(packet.direction.to_byte())?;
     written.extend_from_slice(&packet.time.to_le_bytes())?;
     written.extend_from_slice(&length.to_le_bytes())?;
     written.extend_from_slice(packet.bytes)?;

@@ -1,201 +1,58 @@
 //! The packets of a capture, one after the other.
 
-ghost use Rattle.std.specs.Prelude.{◌≡◌, ◌+◌, ◌<◌, ◌≤◌, ◌++◌, ◌∷◌, ℕ, List, [], length, IfOk, IfErr, IfSome, IsNone, OnErr, Some, None};
-ghost use Rattle.std.specs.Int.{w32, w64, to_le_bytes};
-ghost use Rattle.fa_capture.specs.Checks.{FirstFailure};
-ghost use Rattle.fa_capture.specs.Message.{Recorded, recorded};
-ghost use Rattle.fa_capture.specs.Framing.{magic, time_spelling, IsTime};
-ghost use Rattle.fa_capture.specs.Reading.{HasMagic, IsRecording, IsRecord, HaveRead, header_size, record_checks};
-ghost use Rattle.fa_capture.specs.declared.limits.TheConstants.{MAX_CAPTURE_BYTES};
+ghost use Rattle.std.specs.Prelude.{◌≡◌};
+ghost use Rattle.fa_capture.specs.Records.{SpelledRecords, AreSpelled};
+ghost use Rattle.fa_capture.specs.parts.RecordsLaws.{SpelledRecords-prop};
 
-use crate::codes;
 use crate::format::Format;
-use crate::limits::{MAX_CAPTURE_BYTES, MAX_MESSAGE_BYTES, MAX_MESSAGES};
 use crate::packet::{Direction, Packet};
-use std::marker::Model;
+use crate::walk::read_header;
 
-/// How many bytes of a record without a time stand before its message: its direction in one, and its length in four. Of any record so
-/// many count for the limit on a capture.
-const COUNTED_HEADER: usize = 5;
-
-/// The packets of a capture, read one after the other and not listed.
-#[derive(Drop)]
+/// The packets of a capture, in the order of their records. Made by [`Capture::packets`](crate::Capture::packets).
+///
+/// Each comes in constant time and takes no memory: its bytes are a slice of the capture.
+#[derive(Clone, Copy, Debug)]
 pub struct Packets<'a> {
     format: Format,
-    /// How many were read.
-    count: usize,
-    /// How many bytes count for the limit on a capture: the magic, and the records that were read, without their times.
-    counted: usize,
-    /// What stands behind these records.
-    left: &'a [u8],
-}
-
-impl<'a> Model for Packets<'a> {
-    ghost use Rattle.std.specs.Prelude.{◌≤◌};
-    ghost use Rattle.fa_capture.specs.Reading.{PlainPackets};
-    ghost use Rattle.fa_capture.specs.declared.limits.TheConstants.{MAX_CAPTURE_BYTES};
-
-    ghost Value = { PlainPackets };
-
-    ghost view = { λ p. record { format = p.format; count = p.count; counted = p.counted; left = p.left.now } };
-
-    ghost invariant = { λ p. p.counted ≤ MAX_CAPTURE_BYTES };
+    /// The records of the packets that are still to come.
+    bytes: &'a [u8],
+    // These are whole records, within the limits.
+    ghost records: { SpelledRecords format bytes.now } by { SpelledRecords-prop format bytes.now },
 }
 
 impl<'a> Packets<'a> {
-    /// The packets of a capture, none of them read; `None` where the first 8 bytes are the magic of no [`Format`], or there are fewer.
-    ///
-    /// Takes no memory, in constant time.
-    pub fn new(bytes: &'a [u8]) -> Option<Self>
-        ensures found { IfSome result (HaveRead bytes.now []) }
-        ensures none { IsNone result → HasMagic bytes.now → ⊥ }
+    /// The packets whose records these bytes are.
+    pub(crate) fn of(format: Format, bytes: &'a [u8]) -> Self
+        requires { AreSpelled format bytes.now }
+        ensures format { result.format ≡ format }
+        ensures bytes { result.bytes.now ≡ bytes.now }
     {
-        let (format, left) = split_magic(bytes)?;
-        let counted = format.magic().len();
-        Some(Packets {
-            format,
-            count: 0,
-            counted,
-            left,
+        Packets { format, bytes }
+    }
+}
+
+impl<'a> Iterator for Packets<'a> {
+    ghost use Rattle.std.specs.Iterator.{YieldsFirstBy, item_count};
+    ghost use Rattle.fa_capture.specs.Message.{recorded};
+    ghost use Rattle.fa_capture.specs.Captures.{records_left};
+
+    type Item = Packet<'a>;
+
+    ghost next_gives = { YieldsFirstBy recorded records_left };
+
+    ghost remaining = { item_count records_left };
+
+    #[inline(always)]
+    fn next(&mut self) -> Option<Packet<'a>> {
+        let (&direction, behind) = self.bytes.split_first()?;
+        let direction = Direction::from_byte(direction)?;
+        let (time, length, body) = read_header(self.format, behind)?;
+        let (bytes, left) = body.split_at_checked(length as usize)?;
+        self.bytes = left;
+        Some(Packet {
+            direction,
+            time,
+            bytes,
         })
     }
-
-    /// The next packet, whose bytes are a slice of the capture; `None` where no bytes are left.
-    ///
-    /// # Errors
-    ///
-    /// The code of the framing fault that the capture has behind the packets that were read, as [`read_capture`] tells it, which
-    /// stands at their number. They are then as they were, and the next call tells it again.
-    ///
-    /// # Cost
-    ///
-    /// Takes no memory, in constant time.
-    ///
-    /// [`read_capture`]: crate::read_capture
-    #[inline(always)]
-    pub fn next(&mut self) -> Result<Option<Packet<'a>>, u16>
-        ensures packet { IfOk result (λ next. IfSome next (λ p. (bytes : List ℕ) (rs : List Recorded) →
-            HaveRead bytes rs self.old → HaveRead bytes (rs ++ recorded p ∷ []) self.new)) }
-        ensures shorter { IfOk result (λ next. IfSome next (λ p. length self.new.left < length self.old.left)) }
-        ensures end { IfOk result (λ next. IsNone next → (bytes : List ℕ) (rs : List Recorded) →
-            HaveRead bytes rs self.old → IsRecording bytes rs None) }
-        ensures still { IfOk result (λ next. IsNone next → self.new ≡ self.old) }
-        ensures unchanged { OnErr result (self.new ≡ self.old) }
-        ensures fault { IfErr result (λ code. (bytes : List ℕ) (rs : List Recorded) →
-            HaveRead bytes rs self.old → IsRecording bytes rs (Some (record { whole = length rs; code = code }))) }
-    {
-        if self.left.is_empty() {
-            return Ok(None);
-        }
-        let (packet, left) = read_record(self.format, self.count, self.counted, self.left)?;
-        self.count += 1;
-        self.counted += COUNTED_HEADER + packet.bytes.len();
-        self.left = left;
-        Ok(Some(packet))
-    }
-
-    /// How many bytes of the capture stand behind the packets that were read.
-    pub(crate) fn left(&self) -> usize
-        ensures { result ≡ length self.now.left }
-    {
-        self.left.len()
-    }
-}
-
-/// The format of a capture, and what stands behind its magic; none where the bytes begin with no magic.
-fn split_magic(bytes: &[u8]) -> Option<(Format, &[u8])>
-    ensures found { IfSome result (λ r. bytes.now ≡ magic r.0 ++ r.1.now) }
-    ensures none { IsNone result → HasMagic bytes.now → ⊥ }
-{
-    if let Some(left) = bytes.strip_prefix(Format::Plain.magic()) {
-        return Some((Format::Plain, left));
-    }
-    let left = bytes.strip_prefix(Format::Timed.magic())?;
-    Some((Format::Timed, left))
-}
-
-/// The number in the first eight bytes, low byte first, and what stands behind them; none where there are fewer.
-#[inline(always)]
-fn split_u64(bytes: &[u8]) -> Option<(u64, &[u8])>
-    ensures found { IfSome result (λ r. bytes.now ≡ to_le_bytes w64 r.0 ++ r.1.now) }
-    ensures none { IsNone result → length bytes.now < 8 }
-{
-    let (number, behind) = bytes.split_first_chunk::<8>()?;
-    Some((u64::from_le_bytes(*number), behind))
-}
-
-/// The number in the first four bytes, low byte first, and what stands behind them; none where there are fewer.
-#[inline(always)]
-fn split_u32(bytes: &[u8]) -> Option<(u32, &[u8])>
-    ensures found { IfSome result (λ r. bytes.now ≡ to_le_bytes w32 r.0 ++ r.1.now) }
-    ensures none { IsNone result → length bytes.now < 4 }
-{
-    let (number, behind) = bytes.split_first_chunk::<4>()?;
-    Some((u32::from_le_bytes(*number), behind))
-}
-
-/// The time and the length that a record states behind its direction, and what stands behind them; none where fewer bytes are left.
-#[inline(always)]
-fn read_header(format: Format, behind: &[u8]) -> Option<(u64, u32, &[u8])>
-    ensures found { IfSome result (λ r. behind.now ≡ time_spelling format r.0 ++ (to_le_bytes w32 r.1 ++ r.2.now)) }
-    ensures time { IfSome result (λ r. IsTime format r.0) }
-    ensures none { IsNone result → length behind.now + 1 < header_size format }
-{
-    match format {
-        Format::Plain => {
-            let (length, body) = split_u32(behind)?;
-            Some((0, length, body))
-        }
-        Format::Timed => {
-            let (time, behind) = split_u64(behind)?;
-            let (length, body) = split_u32(behind)?;
-            Some((time, length, body))
-        }
-    }
-}
-
-/// The record at the front of the bytes that are left, and what stands behind it.
-///
-/// `before` records came before it, and `counted` bytes before it count for the limit. The error is the code of the first check that
-/// the record fails.
-#[inline(always)]
-fn read_record(
-    format: Format,
-    before: usize,
-    counted: usize,
-    left: &[u8],
-) -> Result<(Packet<'_>, &[u8]), u16>
-    requires some { 0 < length left.now }
-    requires within { counted ≤ MAX_CAPTURE_BYTES }
-    ensures whole { IfOk result (λ r. IsRecord format before counted left.now (recorded r.0) r.1.now) }
-    ensures fault { IfErr result (FirstFailure (record_checks format before counted left.now)) }
-{
-    if before >= MAX_MESSAGES {
-        return Err(codes::CAPTURE_TOO_LARGE);
-    }
-    let direction = match left[0] {
-        0 => Direction::ToServer,
-        1 => Direction::FromServer,
-        _ => return Err(codes::DIRECTION),
-    };
-    let Some((time, length, body)) = read_header(format, &left[1..]) else {
-        return Err(codes::CUT_OFF);
-    };
-    let length = length as usize;
-    if length > MAX_MESSAGE_BYTES {
-        return Err(codes::MESSAGE_TOO_LONG);
-    }
-    if counted + COUNTED_HEADER + length > MAX_CAPTURE_BYTES {
-        return Err(codes::CAPTURE_TOO_LARGE);
-    }
-    if body.len() < length {
-        return Err(codes::CUT_OFF);
-    }
-    let (bytes, after) = body.split_at(length);
-    let packet = Packet {
-        direction,
-        time,
-        bytes,
-    };
-    Ok((packet, after))
 }

@@ -3,13 +3,12 @@
 
 use fa_bodies::ROOT_ID as ROOT;
 use fa_capture::codes::BYTES_READ;
-use fa_capture::read_capture;
 use fa_check::{Verdict, check, cut};
 use fa_ledger::Calls;
 use fa_order::Entry;
 use fa_propose::propose;
 use fa_tests::messages::begun;
-use fa_tests::paired::{calls_in, calls_of};
+use fa_tests::paired::{calls_in, calls_of, packets_of};
 use fa_tests::sent::Sent::{self, *};
 use fa_tests::sent::{CREAT, with_all};
 use fa_tree::Tree;
@@ -72,14 +71,11 @@ fn verdict_on(rt: &impl Abort, alloc: Global, calls: &Calls<'_>, order: &[Entry]
 /// Whether the order is cut so at this message, and what is left is legal for the messages before.
 fn is_cut(rt: &impl Abort, alloc: Global, at: u32, left: &[Entry]) -> bool {
     let bytes = written(rt, alloc);
-    let capture = read_capture(alloc, &bytes).expect(rt, "memory");
-    let calls = calls_of(alloc, &capture.packets).expect(rt, "calls");
+    let packets = packets_of(alloc, &bytes).expect(rt, "memory");
+    let calls = calls_of(alloc, &packets).expect(rt, "calls");
     let entries = cut(alloc, &calls, ORDER, at).expect(rt, "memory");
     drop(calls);
-    let front = capture
-        .packets
-        .get(..at as usize)
-        .expect(rt, "so many messages");
+    let front = packets.get(..at as usize).expect(rt, "so many messages");
     let before = calls_of(alloc, front).expect(rt, "calls");
     let verdict = verdict_on(rt, alloc, &before, &entries);
     drop(before);

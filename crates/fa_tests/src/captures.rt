@@ -1,6 +1,6 @@
 //! Captures as bytes, and the codes.
 
-use fa_capture::{MigrateError, codes, migrate, read_capture};
+use fa_capture::{Capture, MigrateError, codes, migrate, read_capture};
 use std::alloc::Global;
 
 /// INIT, its answer, LOOKUP of `a` on the root, and ENOENT.
@@ -23,20 +23,20 @@ pub static FIRST: [u8; 222] = *b"FUSECAP1\
 \x10\x00\x00\x00\xfe\xff\xff\xff\x04\x00\x00\x00\x00\x00\x00\x00";
 
 /// How many packets a capture has, and the code of its fault behind them, 0 for none.
-type Ending = (usize, u16);
+pub type Ending = (u32, u16);
 
-/// How the bytes of a capture end. None where memory was refused.
-fn ending(alloc: Global, bytes: &[u8]) -> Option<Ending> {
-    let capture = read_capture(alloc, bytes).ok()?;
-    let count = capture.packets.len();
+/// How a capture ends. None where it counts its packets otherwise than they come, or has its fault elsewhere.
+pub fn ending(capture: &Capture<'_>) -> Option<Ending> {
+    let count = capture.packets().count() as u32;
     match capture.fault {
+        _ if capture.messages != count => None,
         None => Some((count, 0)),
-        Some(fault) if fault.whole as usize == count => Some((count, fault.code)),
+        Some(fault) if fault.whole == count => Some((count, fault.code)),
         Some(_) => None,
     }
 }
 
-static ENDINGS: [(&[u8], Ending); 23] = [
+pub static ENDINGS: [(&[u8], Ending); 23] = [
     (b"", (0, 1)),
     (b"FUSECAP", (0, 1)),
     (b"FUSECAP3", (0, 1)),
@@ -84,7 +84,7 @@ static ENDINGS: [(&[u8], Ending); 23] = [
 #[test]
 fn where_captures_end(rt: HostRuntime) {
     for (bytes, expected) in &ENDINGS {
-        assert_eq!(rt; ending(rt.alloc(), bytes), Some(*expected), "{bytes:?}");
+        assert_eq!(rt; ending(&read_capture(bytes)), Some(*expected), "{bytes:?}");
     }
     // The first capture, cut at each length.
     for length in 0..=222 {
@@ -101,7 +101,7 @@ fn where_captures_end(rt: HostRuntime) {
             _ => (3, 2),
         };
         assert_eq!(rt;
-            ending(rt.alloc(), &FIRST[..length]),
+            ending(&read_capture(&FIRST[..length])),
             Some(expected),
             "cut at {length}"
         );
@@ -124,7 +124,7 @@ fn a_record_that_fails_a_check(rt: HostRuntime) {
             *place = byte;
         }
         assert_eq!(rt;
-            ending(rt.alloc(), &bytes),
+            ending(&read_capture(&bytes)),
             Some(expected),
             "byte {at} as {byte}"
         );
@@ -179,7 +179,7 @@ fn migrated_captures(rt: HostRuntime) {
         let answer = migrated(alloc, bytes).expect(&rt, "memory");
         assert_eq!(rt; answer.is_ok(), *code == 0, "{bytes:?}");
         if let Err((at, told)) = answer {
-            assert_eq!(rt; (at as usize, told), (*count, *code), "{bytes:?}");
+            assert_eq!(rt; (at, told), (*count, *code), "{bytes:?}");
         }
     }
 }
@@ -188,16 +188,17 @@ fn migrated_captures(rt: HostRuntime) {
 fn times_are_read(rt: HostRuntime) {
     let bytes = b"FUSECAP2\x00\x01\x02\x00\x00\x00\x00\x00\x00\x00\x00\x00\x00\
 \x01\x00\x00\x00\x00\x00\x00\x00\x80\x00\x00\x00\x00";
-    let capture = read_capture(rt.alloc(), bytes).expect(&rt, "memory");
     assert!(rt;
-        capture
-            .packets
-            .iter()
+        read_capture(bytes)
+            .packets()
             .map(|packet| packet.time)
             .eq([0x201, 0x8000_0000_0000_0000])
     );
-    let capture = read_capture(rt.alloc(), &FIRST).expect(&rt, "memory");
-    assert!(rt; capture.packets.iter().all(|packet| packet.time == 0));
+    assert!(rt;
+        read_capture(&FIRST)
+            .packets()
+            .all(|packet| packet.time == 0)
+    );
 }
 
 /// Each code with its text, as the documents have them.

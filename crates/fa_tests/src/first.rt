@@ -1,6 +1,7 @@
 //! The first capture, from a sample to what is read of it.
 
 use crate::captures::FIRST;
+use crate::paired::packets_of;
 use bitflags::Flags;
 use fa_bodies::{Reply, Request, RequestBody, reply_body, reply_head, request};
 use fa_capture::{Direction, Packet, read_capture};
@@ -59,11 +60,10 @@ fn is_first(packets: &[Packet<'_>]) -> Option<bool> {
 fn the_first_capture(rt: HostRuntime) {
     let bytes = first_sample(rt.alloc()).expect(&rt, "memory");
     assert!(rt; bytes.as_slice() == FIRST.as_slice());
-    let capture = read_capture(rt.alloc(), &FIRST).expect(&rt, "memory");
-    assert!(rt; capture.fault.is_none() && is_first(&capture.packets) == Some(true));
+    let packets = packets_of(rt.alloc(), &FIRST).expect(&rt, "memory");
+    assert!(rt; read_capture(&FIRST).fault.is_none() && is_first(&packets) == Some(true));
     let (to, from) = (Direction::ToServer, Direction::FromServer);
-    for (packet, shape) in capture
-        .packets
+    for (packet, shape) in packets
         .iter()
         .zip([(to, 56), (from, 80), (to, 42), (from, 16)])
     {

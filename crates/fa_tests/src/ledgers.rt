@@ -1,15 +1,15 @@
 //! Ledgers of a few messages. The unique of each request is the number of its message.
 
 use crate::messages::{INIT, INIT_ANSWER, begun, packet, spelled, thirty};
-use crate::paired::{Paired, calls_in, handed_in};
+use crate::paired::{Paired, calls_in, handed_in, packets_of};
 use crate::sent::Sent::{self, *};
 use crate::sent::{CREAT, with, with_all};
 use Mark::*;
 use NodeName::{Given, Root};
 use bitflags::Flags;
 use fa_bodies::errno::{EACCES, EIO, ENOENT};
+use fa_capture::Direction;
 use fa_capture::codes::{CLOSED_HANDLE, FORGOTTEN_NODE, FORGOTTEN_TOO_OFTEN, NODE_ID_NOT_ALLOWED};
-use fa_capture::{Direction, read_capture};
 use fa_ledger::{Call, CallList, Calls, NodeName, Outcome};
 use fa_sample::Sample;
 use std::alloc::Global;
@@ -32,8 +32,8 @@ const ATOMIC_O_TRUNC: u32 = 8;
 /// The code of each message of a capture, 0 where it is taken. None where memory was refused, or the bytes are no capture.
 fn codes_of(alloc: Global, sample: Sample) -> Option<Vec<u16>> {
     let bytes = sample.capture().ok()?;
-    let capture = read_capture(alloc, &bytes).ok()?;
-    let (paired, codes) = handed_in(alloc, &capture.packets)?;
+    let packets = packets_of(alloc, &bytes)?;
+    let (paired, codes) = handed_in(alloc, &packets)?;
     drop(paired);
     Some(codes)
 }

@@ -14,6 +14,8 @@ mod ledgers;
 mod listings;
 pub mod messages;
 pub mod paired;
+#[cfg(test)]
+mod pieces;
 pub mod sent;
 #[cfg(test)]
 mod sessions;

@@ -1,13 +1,12 @@
 //! What a READDIR or READDIRPLUS goes on from. The unique of each request is the number of its message.
 
 use crate::messages::begun;
-use crate::paired::{all_taken, handed_in};
+use crate::paired::{all_taken, handed_in, packets_of};
 use crate::sent::Sent::{self, *};
 use crate::sent::{listed, with_all};
 use fa_bodies::ROOT_ID;
 use fa_bodies::errno::EIO;
 use fa_capture::codes::{NODE_ID_NOT_ALLOWED, REPLY_BODY};
-use fa_capture::read_capture;
 use fa_ledger::CallList;
 use fa_sample::{Listed, Sample};
 use std::alloc::Global;
@@ -575,8 +574,8 @@ fn is_listed(
     expected: &[Expected],
 ) -> Option<bool> {
     let bytes = sample.capture().ok()?;
-    let capture = read_capture(alloc, &bytes).ok()?;
-    let (paired, mut codes) = handed_in(alloc, &capture.packets)?;
+    let packets = packets_of(alloc, &bytes)?;
+    let (paired, mut codes) = handed_in(alloc, &packets)?;
     let is_taken = are_taken(&mut codes, refused);
     let calls = paired.into_calls();
     let are_listed = are_listed(&calls.list, expected);

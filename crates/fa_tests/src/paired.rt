@@ -178,8 +178,17 @@ pub fn calls_of<'a>(alloc: Global, packets: &[Packet<'a>]) -> Option<Calls<'a>> 
     }
 }
 
+/// The packets of a capture of these bytes. None where memory was refused.
+pub fn packets_of<'a>(alloc: Global, bytes: &'a [u8]) -> Option<Vec<Packet<'a>>> {
+    let mut packets = Vec::new(alloc);
+    for packet in read_capture(bytes).packets() {
+        packets.push(packet).ok()?;
+    }
+    Some(packets)
+}
+
 /// The calls of a capture of these bytes, if its messages are all taken.
 pub fn calls_in<'a>(alloc: Global, bytes: &'a [u8]) -> Option<Calls<'a>> {
-    let capture = read_capture(alloc, bytes).ok()?;
-    calls_of(alloc, &capture.packets)
+    let packets = packets_of(alloc, bytes)?;
+    calls_of(alloc, &packets)
 }

@@ -1,5 +1,6 @@
 //! Sessions of a few messages. Where two rules are broken at once, the row shows which of them is told.
 
+use crate::paired::packets_of;
 use crate::sent::Sent::{self, *};
 use crate::sent::with;
 use crate::tried::{Seen, Told, Tried, UNSEEN};
@@ -7,7 +8,7 @@ use Told::{Answered, Asked, Notified, Refused};
 use bitflags::Flags;
 use fa_bodies::errno::{EEXIST, ENOENT, ENOSYS, EPROTO};
 use fa_bodies::{InitFlags, ROOT_ID};
-use fa_capture::{Direction, Packet, codes, read_capture};
+use fa_capture::{Direction, Packet, codes};
 use fa_sample::Sample;
 use std::alloc::Global;
 
@@ -22,10 +23,10 @@ const MISREAD: u16 = 999;
 /// What a session sees of each message of a capture. None where memory was refused, or the bytes are no capture.
 fn seen_of_each(alloc: Global, sample: Sample) -> Option<Vec<Seen>> {
     let bytes = sample.capture().ok()?;
-    let capture = read_capture(alloc, &bytes).ok()?;
-    let mut seen = vec![in alloc; UNSEEN; capture.packets.len()].ok()?;
+    let packets = packets_of(alloc, &bytes)?;
+    let mut seen = vec![in alloc; UNSEEN; packets.len()].ok()?;
     let mut tried = Tried::new(alloc);
-    tried.tell_each(&capture.packets, &mut seen);
+    tried.tell_each(&packets, &mut seen);
     drop(tried);
     Some(seen)
 }

@@ -5,13 +5,13 @@ use Rattle.fa_audit.proofs.judge.start.Goals as goal
 pub returns-in_err-calls-clause-none : goal.returns-in_err-calls-clause-none
 returns-in_err-calls-clause-none c =
     let p = err_from_is_err_and c.from_residual.result c.from_residual.ensures.1 in
-    rw (p.1, p.2) (capture_no_start c.args.capture.now _ c.in_err-calls.field-0.0 c.in_err-calls.ensures.fault)
+    rw (p.1, p.2) (λ bytes is. capture_no_start bytes _ c.in_err-calls.field-0.0 (c.in_err-calls.ensures.fault bytes is))
 
 pub returns-in_err-first-clause-none : goal.returns-in_err-first-clause-none
 returns-in_err-first-clause-none c =
     let of = c.in_ok-calls.ensures.good in
     let p = err_from_is_err_and c.from_residual-in_err-first.result c.from_residual-in_err-first.ensures.1 in
-    rw (p.1, p.2) (tree_no_start c.args.capture.now _ of.messages c.in_err-first.field-0.0 of.good c.in_err-first.ensures.refused)
+    rw (p.1, p.2) (λ bytes is. tree_no_start bytes _ (of bytes is).messages c.in_err-first.field-0.0 (of bytes is).good c.in_err-first.ensures.refused)
 
 pub returns-clause-good : goal.returns-clause-good
-returns-clause-good c = start_of c.args.capture.now _ c.in_ok-calls.calls c.in_ok-first.first c.in_ok-calls.ensures.good c.in_ok-first.ensures.given
+returns-clause-good c = λ bytes is. start_of bytes _ c.in_ok-calls.calls c.in_ok-first.first (c.in_ok-calls.ensures.good bytes is) c.in_ok-first.ensures.given

@@ -1,0 +1,65 @@
+-- A walk over the records of a capture, and where it stopped.
+use Rattle.std.specs.Prelude.{◌≡◌, ℕ, ◌≤◌, List, ◌++◌, length, drop, All, Option, None, Some, option_map}
+use Rattle.fa_capture.specs.declared.fault.CaptureFault.{CaptureFault}
+use Rattle.fa_capture.specs.declared.format.Format.{Format}
+use Rattle.fa_capture.specs.declared.walk.Stop.{Stop}
+use Rattle.fa_capture.specs.Message.{Recorded, without_times}
+use Rattle.fa_capture.specs.Framing.{magic, IsTime, capture_spelling, counted_bytes, IsFramed}
+use Rattle.fa_capture.specs.Reading.{HasMagic, IsRecording}
+
+-- a walk over the records of a capture: its format, how many records were read, how many bytes count so far, and what is left
+pub record PlainWalk : Type 0 where
+  pub format : Format
+  pub count : ℕ
+  pub counted : ℕ
+  pub left : List ℕ
+
+-- a walk over these bytes has read these records, which are within the limits
+pub record HaveRead (bytes : List ℕ) (rs : List Recorded) (walk : PlainWalk) : Type 0 where
+  pub framed : IsFramed (without_times rs)
+  pub times : All (λ r. IsTime walk.format r.time) rs
+  pub spelled : bytes ≡ capture_spelling walk.format rs ++ walk.left
+  pub count_is : walk.count ≡ length rs
+  pub counted_is : walk.counted ≡ counted_bytes (without_times rs)
+
+-- it has read some records of these bytes
+abbrev pub HasRead : List ℕ → PlainWalk → Type 0
+HasRead bytes walk = ∥ ((rs : List Recorded) × HaveRead bytes rs walk) ∥₁
+
+-- the fault behind so many records
+abbrev pub fault_behind : List Recorded → Option ℕ → Option CaptureFault
+fault_behind rs code = option_map (λ c. record { whole = length rs; code = c }) code
+
+-- the fault at a stop
+abbrev pub stop_fault : Stop → Option CaptureFault
+stop_fault stop = option_map (λ c. record { whole = stop.count; code = c }) stop.code
+
+-- the walk over these bytes that stopped there, or may go on from there
+abbrev pub walk_at : List ℕ → Stop → PlainWalk
+walk_at bytes stop = record { format = stop.format; count = stop.count; counted = stop.counted; left = drop stop.read bytes }
+
+-- a walk over these bytes has come there
+pub record IsAt (bytes : List ℕ) (stop : Stop) : Type 0 where
+  pub within : stop.read ≤ length bytes
+  pub some : HasRead bytes (walk_at bytes stop)
+
+-- a walk over these bytes stops there
+pub record IsStop (bytes : List ℕ) (stop : Stop) : Type 0 where
+  pub within : stop.read ≤ length bytes
+  pub records : List Recorded
+  pub read : HaveRead bytes records (walk_at bytes stop)
+  pub recording : IsRecording bytes records (stop_fault stop)
+
+-- the walk over these bytes stops there; there is none where no magic is in front
+abbrev pub IsReadTo : List ℕ → Option Stop → Type 0
+IsReadTo bytes None = HasMagic bytes → ⊥
+IsReadTo bytes (Some stop) = ∥ IsStop bytes stop ∥₁
+
+-- a walk over these bytes may go on from there
+abbrev pub IsReadOn : List ℕ → Option Stop → Type 0
+IsReadOn bytes None = Unit {0}
+IsReadOn bytes (Some stop) = IsAt bytes stop
+
+-- the start of a magic, or the whole
+abbrev pub IsMagicBegun : List ℕ → Type 0
+IsMagicBegun bytes = (format : Format) × (rest : List ℕ) × (magic format ≡ bytes ++ rest)
