@@ -221,7 +221,7 @@ pub fn command<'a>(alloc: Global) -> Result<Command<'a>, AllocError> {
 
 /// The option that names the capture.
 fn capture_option<'a>(alloc: Global) -> Arg<'a> {
-    path_option(alloc, CAPTURE).help("The recorded traffic")
+    path_option(alloc, CAPTURE).help("The recorded traffic; from standard input where FILE is -")
 }
 
 /// The option that names the tree text.

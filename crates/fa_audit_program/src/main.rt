@@ -4,7 +4,8 @@
 //! capture. `fa_audit propose --capture FILE [--tree FILE]` writes the text of an order that may explain it to standard output, or
 //! the line of the fault where the capture has one or the tree text is not in its grammar. `fa_audit cut --capture FILE --order FILE
 //! --at N` writes what is left of the order for the messages before message N, and `fa_audit front --capture FILE --at N` the capture of
-//! these messages. `fa_audit migrate --capture FILE` writes a capture anew in the format that has times.
+//! these messages. `fa_audit migrate --capture FILE` writes a capture anew in the format that has times. A FILE that is `-` is standard
+//! input.
 //!
 //! Each ends with the status 0 where the verdict is legal or an order or a capture is written, 1 at a fault of the capture, 2 where the
 //! order is not shown to explain the capture, 3 where the tree text or the order text is not in its grammar, 4 where the command line
@@ -112,11 +113,22 @@ fn words<R: AllocGlobal + Env>(rt: &R) -> Result<Vec<String>, Failure> {
     }
 }
 
+/// The path that stands for standard input in a call.
+const STANDARD_INPUT: &str = "-";
+
+/// The file that is standard input.
+const STANDARD_INPUT_FILE: &str = "/dev/stdin";
+
 /// A file as an input. One that cannot be opened cannot be read.
 fn open<R: Files>(rt: &R, path: &str) -> Result<Device<R::File>, RunFault>
     ensures unfailed { IfOk result (λ device. device_failed device ≡ false) }
     ensures uninterrupted { IfOk result (λ device. device_interrupted device ≡ false) }
 {
+    let path = if path == STANDARD_INPUT {
+        STANDARD_INPUT_FILE
+    } else {
+        path
+    };
     match File::open(rt, path) {
         Ok(file) => Ok(Device::new(file)),
         Err(error) if error.kind() == ErrorKind::OutOfMemory => Err(RunFault::Memory),
