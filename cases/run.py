@@ -1,19 +1,24 @@
 #!/usr/bin/env python3
 """Runs the built program on each case of these folders, and compares what it writes and how it ends.
 
-usage: cases/run.py [PROGRAM] [--only TEXT] [--migrated]
+usage: cases/run.py [PROGRAM] [--only TEXT] [--migrated | --piped]
 
-With --migrated, the cases of `check`, `propose` and `cut` alone, each on its capture as `migrate` of the program writes it, where there is
-no framing fault: what is expected stays the same. PROGRAM is crates/fa_audit_program/out/fa_audit_program of this repository unless it is named. With --only, only the cases whose names, as
-FOLDER/NAME or FOLDER/NAME row N, hold TEXT are run. README.md beside this script says what files a case has. That
-`messages.py check` finds nothing wrong is one case more. Each failure is printed; the last line is 'N passed, M failed', and the
-status is 1 where a case failed or none was run.
+PROGRAM is crates/fa_audit_program/out/fa_audit_program of this repository unless it is named. With --only, only the cases whose names,
+as FOLDER/NAME or FOLDER/NAME row N, hold TEXT are run. README.md beside this script says what files a case has. That `messages.py check`
+finds nothing wrong is one case more. Each failure is printed; the last line is 'N passed, M failed', and the status is 1 where a case
+failed or none was run.
+
+With --migrated, the cases of `check`, `propose` and `cut` alone, each on its capture as `migrate` of the program writes it, where there
+is X What is expected stays the same.
 """
 import argparse
+import contextlib
 import os
+import shutil
 import subprocess
 import sys
 import tempfile
+import zlib
 
 import messages
 import rows
@@ -22,6 +27,8 @@ HERE = os.path.dirname(os.path.abspath(__file__))
 TOP = os.path.dirname(HERE)
 PROGRAM = os.path.join(TOP, "crates", "fa_audit_program", "out", "fa_audit_program")
 SECONDS = 60
+# How many reads a capture from a pipe takes at most: a larger one comes some bytes at a time.
+READS = 50_000
 
 
 def source_of(path):
@@ -152,46 +159,73 @@ def all_cases():
             yield RowCase(path, number, row)
 
 
-def run(program, words, folder, output):
-    """Runs the program in this folder. What it writes goes to the file `output`, where one is named."""
-    how = {"cwd": folder, "stdin": subprocess.DEVNULL, "stderr": subprocess.PIPE, "timeout": SECONDS}
-    if output is None:
-        return subprocess.run([program, *words], stdout=subprocess.PIPE, **how)
-    with open(output, "wb") as opened:
-        return subprocess.run([program, *words], stdout=opened, **how)
+class Call:
+    """A call of the program: its words, what it reads on standard input, and variables of its environment."""
+
+    def __init__(self, words):
+        self.words = [os.fsdecode(word) for word in words]
+        self.input = b""
+        self.variables = {}
+
+    def capture(self, folder):
+        """The path of the capture that it judges, if there is one in this folder."""
+        if self.words[:1] not in (["check"], ["propose"], ["cut"]) or "--capture" not in self.words[:-1]:
+            return None
+        path = os.path.join(folder, self.words[self.words.index("--capture") + 1])
+        return path if os.path.isfile(path) else None
+
+    def run(self, program, folder, output=None):
+        """Runs the program in this folder. What it writes goes to the file `output`, where one is named."""
+        with open(output, "wb") if output else contextlib.nullcontext(subprocess.PIPE) as written:
+            return subprocess.run([program, *self.words], input=self.input, stdout=written, stderr=subprocess.PIPE, cwd=folder,
+                                  env={**os.environ, **self.variables}, timeout=SECONDS)
 
 
-def text(word):
-    """A word of a call as text."""
-    return os.fsdecode(word) if isinstance(word, bytes) else word
+def as_it_stands(program, call, folder):
+    """The call of the case."""
+    return call
 
 
-def migrate_capture(program, words, folder):
-    """Puts what `migrate` writes of the capture of a call in its place, and tells whether there is such a capture."""
-    words = [text(word) for word in words]
-    if words[:1] not in (["check"], ["propose"], ["cut"]) or "--capture" not in words[:-1]:
-        return False
-    path = os.path.join(folder, words[words.index("--capture") + 1])
-    if not os.path.isfile(path):
-        return False
-    ran = run(program, ["migrate", "--capture", path], folder, None)
-    if ran.returncode != 0:
-        return False
+def migrated(program, call, folder):
+    """The call on what `migrate` writes of its capture. None where there is no such capture."""
+    path = call.capture(folder)
+    ran = path and Call(["migrate", "--capture", path]).run(program, folder)
+    if not ran or ran.returncode != 0:
+        return None
     with open(path, "wb") as opened:
         opened.write(ran.stdout)
-    return True
+    return call
 
 
-def differences(program, case, migrated):
-    """What is not as the case expects it, a line each. None where its capture is to be migrated and there is none."""
+def piped(shim, seed):
+    """How a call has its capture from a pipe: a byte at a time, or where there is a seed some that it gives. None where it judges none."""
+
+    def change(program, call, folder):
+        path = call.capture(folder)
+        if not path:
+            return None
+        with open(path, "rb") as opened:
+            call.input = opened.read()
+        call.words[call.words.index("--capture") + 1] = "-"
+        if shim:
+            unit = max(1, len(call.input) // READS)
+            call.variables = {"LD_PRELOAD": shim, "SHORT_READS": str(unit), "SHORT_READS_SEED": str(seed)}
+        return call
+
+    return change
+
+
+def differences(program, case, change):
+    """What is not as the case expects it, a line each, where its call is changed so. None where it can't be."""
     output, error = case.own("output"), case.own("stderr")
     try:
         expected, status = case.expected()
         with tempfile.TemporaryDirectory() as room:
             folder = case.laid_out(room)
-            if migrated and not migrate_capture(program, case.words, folder):
+            call = change(program, Call(case.words), folder)
+            if call is None:
                 return None
-            ran = run(program, case.words, folder, output and output.strip())
+            ran = call.run(program, folder, output and output.strip())
     except (OSError, ValueError, subprocess.TimeoutExpired) as failure:
         return [str(failure), *case.shown]
     found = []
@@ -205,6 +239,27 @@ def differences(program, case, migrated):
     return [*found, *case.shown] if found else []
 
 
+def changes(given, case, room):
+    """How the call of a case is changed, once and again."""
+    if given.migrated:
+        return [migrated]
+    if given.piped:
+        shim = short_reads(room)
+        return [piped(shim, 0), piped(shim, zlib.crc32(case.name.encode()))]
+    return [as_it_stands]
+
+
+def short_reads(room):
+    """The library that has a program read little at a time. None without a C compiler."""
+    compiler, shim = os.environ.get("CC", "cc"), os.path.join(room, "short_reads.so")
+    if not shutil.which(compiler):
+        return None
+    if not os.path.exists(shim):
+        source = os.path.join(HERE, "short_reads.c")
+        subprocess.run([compiler, "-O2", "-fPIC", "-shared", "-o", shim, source, "-ldl"], check=True)
+    return shim
+
+
 def without_a_case(cases):
     """The files that no case has."""
     used = set().union(*(case.files() for case in cases))
@@ -212,7 +267,7 @@ def without_a_case(cases):
         folders[:] = [name for name in folders if name != "__pycache__"]
         for file in files:
             path = os.path.join(folder, file)
-            if path not in used and file != "README.md" and not file.endswith(".py"):
+            if path not in used and file != "README.md" and not file.endswith((".py", ".c")):
                 yield os.path.relpath(path, HERE)
 
 
@@ -220,13 +275,17 @@ def main():
     parser = argparse.ArgumentParser(description=__doc__, formatter_class=argparse.RawDescriptionHelpFormatter)
     parser.add_argument("program", nargs="?", default=PROGRAM, help="the built program")
     parser.add_argument("--only", default="", metavar="TEXT", help="only the cases whose names hold this text")
-    parser.add_argument("--migrated", action="store_true", help="each capture as `migrate` writes it")
+    changed = parser.add_mutually_exclusive_group()
+    changed.add_argument("--migrated", action="store_true", help="each capture as `migrate` writes it")
+    changed.add_argument("--piped", action="store_true", help="each capture from a pipe, a byte at a time, and then some")
     given = parser.parse_args()
     program = os.path.abspath(given.program)
     cases = list(all_cases())
-    results = [(case.name, differences(program, case, given.migrated)) for case in cases if given.only in case.name]
+    tried = [case for case in cases if given.only in case.name]
+    with tempfile.TemporaryDirectory() as room:
+        results = [(case.name, differences(program, case, change)) for case in tried for change in changes(given, case, room)]
     results = [(name, found) for name, found in results if found is not None]
-    if not given.migrated:
+    if not given.migrated and not given.piped:
         if given.only in "messages.py check":
             results.append(("messages.py check", messages.check()))
         results += [(file, ["no case has this file"]) for file in sorted(without_a_case(cases))]
