@@ -12,3 +12,4 @@ pub mod PacketLemmas
 pub mod MigrateLemmas
 pub mod TimeLemmas
 pub mod ListLemmas
+mod ArrivalLemmas

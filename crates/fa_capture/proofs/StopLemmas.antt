@@ -5,21 +5,23 @@ use Rattle.std.specs.List.{flat_map}
 use Rattle.std.proofs.Math.Logic.{∥∥₁_elim}
 use Rattle.std.proofs.Math.Seq.{drop-append_seam, take-append_seam}
 use Rattle.std.proofs.Props.{props}
-use Rattle.std.proofs.lemmas.List.{length-append, length-drop, drop-append-le, get_or-map}
-use Rattle.std.proofs.lemmas.List.Elements.{All-get_or}
+use Rattle.std.proofs.lemmas.List.{length-append, length-drop, drop-append-le, append-nil, get_or-map}
+use Rattle.std.proofs.lemmas.List.Concat.{flat_map-append}
+use Rattle.std.proofs.lemmas.List.Elements.{All-get_or, All-append, All-nil, All-cons}
 use Rattle.fa_capture.specs.declared.codes.TheConstants.{NO_MAGIC, CUT_OFF}
 use Rattle.fa_capture.specs.declared.fault.CaptureFault.{CaptureFault}
 use Rattle.fa_capture.specs.declared.format.Format.{Format}
-use Rattle.fa_capture.specs.declared.limits.TheConstants.{MAX_MESSAGES, MAX_MESSAGE_BYTES, MAX_CAPTURE_BYTES}
+use Rattle.fa_capture.specs.declared.limits.TheConstants.{MAX_MESSAGES, MAX_MESSAGE_BYTES}
+use Rattle.fa_capture.specs.declared.walk.Progress.{Progress}
 use Rattle.fa_capture.specs.declared.walk.Stop.{Stop}
 use Rattle.fa_capture.specs.Message.{Message, Recorded, without_times}
 use Rattle.fa_capture.specs.Framing.{magic, IsTime, record_spelling, capture_spelling, IsFramed}
-use Rattle.fa_capture.specs.Reading.{HasMagic, IsRecording}
+use Rattle.fa_capture.specs.Reading.{HasMagic, IsRecording, IsRecord}
 use Rattle.fa_capture.specs.Pieces.{IsDecided, IsOpen}
 use Rattle.fa_capture.proofs.PieceLemmas.{whole_is_open, cut_is_open, reading_decides}
 use Rattle.fa_capture.specs.Records.{AreSpelledBy, SpelledRecords, AreSpelled}
 use Rattle.fa_capture.specs.parts.RecordsLaws.{records_one, record_size}
-use Rattle.fa_capture.specs.parts.Walks.{PlainWalk, HaveRead, HasRead, IsAt, IsStop, IsReadTo, IsReadOn, walk_at, stop_fault, fault_behind}
+use Rattle.fa_capture.specs.parts.Walks.{PlainWalk, HaveRead, HasRead, ReadsOn, IsWithinLimits, IsAt, IsStop, IsReadTo, IsReadOn, walk_behind, walk_at, stop_fault, fault_behind}
 use Rattle.fa_capture.proofs.ReadingLemmas.{one_recording, has_magic, magic_or_not, none_framed, reads_without, records_length}
 use Rattle.fa_capture.proofs.ReadingThereLemmas.{reading_is_there}
 
@@ -34,18 +36,52 @@ fault_set = hlevel props
 
 -- ---- a walk that goes on
 
--- what a walk counts is within the limit
-pub counted_within : (bytes : List ℕ) (walk : PlainWalk) → HasRead bytes walk → walk.counted ≤ MAX_CAPTURE_BYTES
-counted_within bytes walk read = ∥∥₁_elim read (hlevel props) (λ x. omega (arith, x.1.counted_is, x.1.framed.size))
+-- what a walk counts is within the limits
+pub read_within : (bytes left : List ℕ) (so_far : Progress) → HasRead bytes (walk_behind so_far left) → IsWithinLimits so_far
+read_within bytes left so_far read = record {
+  count = ∥∥₁_elim read (hlevel props) (λ x. omega (arith, x.1.count_is, x.1.framed.count, records_length x.0));
+  counted = ∥∥₁_elim read (hlevel props) (λ x. omega (arith, x.1.counted_is, x.1.framed.size));
+}
 
 -- no more is left than there is
 pub left_within : (bytes : List ℕ) (walk : PlainWalk) → HasRead bytes walk → length walk.left ≤ length bytes
 left_within bytes walk read = ∥∥₁_elim read (hlevel props) (λ x. omega (arith, ap length x.1.spelled, length-append (capture_spelling walk.format x.0) walk.left))
 
+-- where it does not move
+pub reads_none : (walk : PlainWalk) → ReadsOn walk walk
+reads_none walk = record {
+  more = [];
+  over = [];
+  same = refl;
+  spelled = record { times = All-nil (λ (r : Recorded). IsTime walk.format r.time); short = All-nil (λ (r : Recorded). length r.message.bytes ≤ MAX_MESSAGE_BYTES); spelled = refl };
+  left = refl;
+  read = λ bytes rs have. subst (λ (x : List Recorded). HaveRead bytes x walk) (sym (append-nil rs)) have;
+}
+
 -- one record more
-pub read_one : (bytes : List ℕ) (old new : PlainWalk) (r : Recorded) → ((bytes : List ℕ) (rs : List Recorded) → HaveRead bytes rs old → HaveRead bytes (rs ++ r ∷ []) new)
-    → HasRead bytes old → HasRead bytes new
-read_one bytes old new r more read = ∥∥₁_elim read (squash ((rs : List Recorded) × HaveRead bytes rs new)) (λ x. ∣ (x.0 ++ r ∷ [], more bytes x.0 x.1) ∣₁)
+pub reads_one : (first old new : PlainWalk) (r : Recorded) → ReadsOn first old → new.format ≡ old.format → IsRecord old.format old.count old.counted old.left r new.left
+    → ((bytes : List ℕ) (rs : List Recorded) → HaveRead bytes rs old → HaveRead bytes (rs ++ r ∷ []) new) → ReadsOn first new
+reads_one first old new r on same is have =
+    let format : old.format ≡ first.format = on.same in
+    let spelled : old.left ≡ record_spelling first.format r ++ new.left = is.spelled ∙ ap (λ (f : Format). record_spelling f r ++ new.left) format in
+    record {
+      more = on.more ++ r ∷ [];
+      over = on.over ++ record_spelling first.format r;
+      same = same ∙ format;
+      spelled = record {
+        times = All-append (λ (r : Recorded). IsTime first.format r.time) on.more (r ∷ []) on.spelled.times (All-cons (λ (r : Recorded). IsTime first.format r.time) r [] (subst (λ (f : Format). IsTime f r.time) format is.time) (All-nil (λ (r : Recorded). IsTime first.format r.time)));
+        short = All-append (λ (r : Recorded). length r.message.bytes ≤ MAX_MESSAGE_BYTES) on.more (r ∷ []) on.spelled.short (All-cons (λ (r : Recorded). length r.message.bytes ≤ MAX_MESSAGE_BYTES) r [] is.bytes (All-nil (λ (r : Recorded). length r.message.bytes ≤ MAX_MESSAGE_BYTES)));
+        spelled = ap (λ (x : List ℕ). x ++ record_spelling first.format r) on.spelled.spelled
+            ∙ ap (λ (x : List ℕ). flat_map (record_spelling first.format) on.more ++ x) (sym (append-nil (record_spelling first.format r)))
+            ∙ sym (flat_map-append (record_spelling first.format) on.more (r ∷ []));
+      };
+      left = on.left ∙ ap (λ (x : List ℕ). on.over ++ x) spelled ∙ sym (append_assoc on.over (record_spelling first.format r) new.left);
+      read = λ bytes rs read. subst (λ (x : List Recorded). HaveRead bytes x new) (append_assoc rs on.more (r ∷ [])) (have bytes (rs ++ on.more) (on.read bytes rs read));
+    }
+
+-- some records
+pub some_read : (bytes : List ℕ) (old new : PlainWalk) → ReadsOn old new → HasRead bytes old → HasRead bytes new
+some_read bytes old new on read = ∥∥₁_elim read (squash ((rs : List Recorded) × HaveRead bytes rs new)) (λ x. ∣ (x.0 ++ on.more, on.read bytes x.0 x.1) ∣₁)
 
 -- ---- where it stops
 
@@ -55,19 +91,19 @@ left_there bytes left front e =
     ap (λ (n : ℕ). drop n bytes) far ∙ ap (drop (length front)) e ∙ drop-append_seam front left
 
 -- a walk that goes no further
-pub stops : (bytes : List ℕ) (walk : PlainWalk) (stop : Stop) → HasRead bytes walk → stop.format ≡ walk.format → stop.count ≡ walk.count → stop.counted ≡ walk.counted → stop.read ≡ length bytes - length walk.left
+pub stops : (bytes : List ℕ) (walk : PlainWalk) (stop : Stop) → HasRead bytes walk → stop.so_far.format ≡ walk.format → stop.so_far.count ≡ walk.count → stop.so_far.counted ≡ walk.counted → stop.read ≡ length bytes - length walk.left
     → ((rs : List Recorded) → HaveRead bytes rs walk → IsRecording bytes rs (fault_behind rs stop.code)) → ∥ IsStop bytes stop ∥₁
 stops bytes walk stop read format count counted far fault =
     ∥∥₁_elim read (squash (IsStop bytes stop)) (λ (rs, have).
     let left : walk.left ≡ drop stop.read bytes = sym (ap (λ (n : ℕ). drop n bytes) far ∙ left_there bytes walk.left (capture_spelling walk.format rs) have.spelled) in
-    let many : stop.count ≡ length rs = count ∙ have.count_is in
+    let many : stop.so_far.count ≡ length rs = count ∙ have.count_is in
     ∣ record {
       within = omega (arith, far);
       records = rs;
       read = record {
         framed = have.framed;
         times = subst (λ (f : Format). All (λ r. IsTime f r.time) rs) (sym format) have.times;
-        spelled = have.spelled ∙ ap (λ (f : Format). capture_spelling f rs ++ walk.left) (sym format) ∙ ap (λ (x : List ℕ). capture_spelling stop.format rs ++ x) left;
+        spelled = have.spelled ∙ ap (λ (f : Format). capture_spelling f rs ++ walk.left) (sym format) ∙ ap (λ (x : List ℕ). capture_spelling stop.so_far.format rs ++ x) left;
         count_is = many;
         counted_is = counted ∙ have.counted_is;
       };
@@ -83,8 +119,8 @@ stop_goes_on bytes more stop is = record {
     record {
       framed = x.read.framed;
       times = x.read.times;
-      spelled = ap (λ (b : List ℕ). b ++ more) x.read.spelled ∙ append_assoc (capture_spelling stop.format x.records) (drop stop.read bytes) more
-          ∙ ap (λ (b : List ℕ). capture_spelling stop.format x.records ++ b) (sym (drop-append-le stop.read bytes more x.within));
+      spelled = ap (λ (b : List ℕ). b ++ more) x.read.spelled ∙ append_assoc (capture_spelling stop.so_far.format x.records) (drop stop.read bytes) more
+          ∙ ap (λ (b : List ℕ). capture_spelling stop.so_far.format x.records ++ b) (sym (drop-append-le stop.read bytes more x.within));
       count_is = x.read.count_is;
       counted_is = x.read.counted_is;
     },
@@ -106,26 +142,26 @@ from_start bytes walk read = ∣ ([], read) ∣₁
 -- ---- the capture that this is
 
 -- how many messages there are
-pub stop_counts : (bytes : List ℕ) (stop : Stop) → ∥ IsStop bytes stop ∥₁ → stop.count ≤ MAX_MESSAGES
+pub stop_counts : (bytes : List ℕ) (stop : Stop) → ∥ IsStop bytes stop ∥₁ → stop.so_far.count ≤ MAX_MESSAGES
 stop_counts bytes stop is = ∥∥₁_elim is (hlevel props) (λ x. omega (arith, x.read.count_is, x.read.framed.count, records_length x.records))
 
 -- the magic and the records reach there
-reaches : (bytes : List ℕ) (stop : Stop) (x : IsStop bytes stop) → stop.read ≡ length (magic stop.format) + length (flat_map (record_spelling stop.format) x.records)
+reaches : (bytes : List ℕ) (stop : Stop) (x : IsStop bytes stop) → stop.read ≡ length (magic stop.so_far.format) + length (flat_map (record_spelling stop.so_far.format) x.records)
 reaches bytes stop x =
-    let rs : List ℕ = flat_map (record_spelling stop.format) x.records in
-    omega (arith, ap length x.read.spelled, length-append (magic stop.format ++ rs) (drop stop.read bytes), length-append (magic stop.format) rs, length-drop stop.read bytes, x.within)
+    let rs : List ℕ = flat_map (record_spelling stop.so_far.format) x.records in
+    omega (arith, ap length x.read.spelled, length-append (magic stop.so_far.format ++ rs) (drop stop.read bytes), length-append (magic stop.so_far.format) rs, length-drop stop.read bytes, x.within)
 
-pub stop_reaches : (bytes m : List ℕ) (stop : Stop) → m ≡ magic stop.format → ∥ IsStop bytes stop ∥₁ → (length m ≤ stop.read) × (stop.read ≤ length bytes)
+pub stop_reaches : (bytes m : List ℕ) (stop : Stop) → m ≡ magic stop.so_far.format → ∥ IsStop bytes stop ∥₁ → (length m ≤ stop.read) × (stop.read ≤ length bytes)
 stop_reaches bytes m stop is_magic is =
     ∥∥₁_elim is (hlevel props) (λ x. (omega (arith, ap length is_magic, reaches bytes stop x), x.within))
 
 -- the records stand between the magic and the stop
-records_there : (bytes m : List ℕ) (stop : Stop) → m ≡ magic stop.format → (x : IsStop bytes stop) → AreSpelledBy stop.format (take (stop.read - length m) (drop (length m) bytes)) x.records
+records_there : (bytes m : List ℕ) (stop : Stop) → m ≡ magic stop.so_far.format → (x : IsStop bytes stop) → AreSpelledBy stop.so_far.format (take (stop.read - length m) (drop (length m) bytes)) x.records
 records_there bytes m stop is_magic x =
-    let rs : List ℕ = flat_map (record_spelling stop.format) x.records in
+    let rs : List ℕ = flat_map (record_spelling stop.so_far.format) x.records in
     let left : List ℕ = drop stop.read bytes in
     let behind : drop (length m) bytes ≡ rs ++ left =
-    ap (drop (length m)) (x.read.spelled ∙ append_assoc (magic stop.format) rs left ∙ ap (λ (b : List ℕ). b ++ (rs ++ left)) (sym is_magic)) ∙ drop-append_seam m (rs ++ left) in
+    ap (drop (length m)) (x.read.spelled ∙ append_assoc (magic stop.so_far.format) rs left ∙ ap (λ (b : List ℕ). b ++ (rs ++ left)) (sym is_magic)) ∙ drop-append_seam m (rs ++ left) in
     let many : stop.read - length m ≡ length rs = omega (arith, ap length is_magic, reaches bytes stop x) in
     record {
       times = x.read.times;
@@ -139,20 +175,20 @@ records_there bytes m stop is_magic x =
         let size = ap (λ (m : Message). length m.bytes) at in
         omega (arith, size, All-get_or (λ (m : Message). length m.bytes ≤ MAX_MESSAGE_BYTES) (without_times rs) k d.message (omega (arith, within, records_length rs)) framed.each)
 
-pub stop_holds : (bytes m : List ℕ) (stop : Stop) → m ≡ magic stop.format → ∥ IsStop bytes stop ∥₁ → AreSpelled stop.format (take (stop.read - length m) (drop (length m) bytes))
+pub stop_holds : (bytes m : List ℕ) (stop : Stop) → m ≡ magic stop.so_far.format → ∥ IsStop bytes stop ∥₁ → AreSpelled stop.so_far.format (take (stop.read - length m) (drop (length m) bytes))
 stop_holds bytes m stop is_magic is =
-    ∥∥₁_elim is (squash ((rs : List Recorded) × AreSpelledBy stop.format (take (stop.read - length m) (drop (length m) bytes)) rs)) (λ x. ∣ (x.records, records_there bytes m stop is_magic x) ∣₁)
+    ∥∥₁_elim is (squash ((rs : List Recorded) × AreSpelledBy stop.so_far.format (take (stop.read - length m) (drop (length m) bytes)) rs)) (λ x. ∣ (x.records, records_there bytes m stop is_magic x) ∣₁)
 
 -- records that stand there are those of the stop
-same_there : (bytes m : List ℕ) (stop : Stop) → m ≡ magic stop.format → (x : IsStop bytes stop) (format : Format) (front : List ℕ) → format ≡ stop.format → front ≡ take (stop.read - length m) (drop (length m) bytes)
+same_there : (bytes m : List ℕ) (stop : Stop) → m ≡ magic stop.so_far.format → (x : IsStop bytes stop) (format : Format) (front : List ℕ) → format ≡ stop.so_far.format → front ≡ take (stop.read - length m) (drop (length m) bytes)
     → (records : SpelledRecords format front) → records.0 ≡ x.records
 same_there bytes m stop is_magic x format front format_is front_is records =
     let there : AreSpelledBy format front x.records = subst (λ (b : List ℕ). AreSpelledBy format b x.records) (sym front_is)
     (subst (λ (f : Format). AreSpelledBy f (take (stop.read - length m) (drop (length m) bytes)) x.records) (sym format_is) (records_there bytes m stop is_magic x)) in
     ∥∥₁_elim records.1 (recorded_set records.0 x.records) (λ are. records_one format front records.0 x.records are there)
 
-pub capture_framed : (bytes m : List ℕ) (stop : Stop) → m ≡ magic stop.format → ∥ IsStop bytes stop ∥₁ → (format : Format) (front : List ℕ) → format ≡ stop.format → front ≡ take (stop.read - length m) (drop (length m) bytes)
-    → (records : SpelledRecords format front) → IsFramed (without_times records.0) × (stop.count ≡ length records.0)
+pub capture_framed : (bytes m : List ℕ) (stop : Stop) → m ≡ magic stop.so_far.format → ∥ IsStop bytes stop ∥₁ → (format : Format) (front : List ℕ) → format ≡ stop.so_far.format → front ≡ take (stop.read - length m) (drop (length m) bytes)
+    → (records : SpelledRecords format front) → IsFramed (without_times records.0) × (stop.so_far.count ≡ length records.0)
 capture_framed bytes m stop is_magic is format front format_is front_is records = (framed, counted)
   where
     same : (x : IsStop bytes stop) → records.0 ≡ x.records
@@ -168,7 +204,7 @@ capture_framed bytes m stop is_magic is format front format_is front_is records 
       size = ∥∥₁_elim is (hlevel props) (λ x. (framed_as x).size);
     }
 
-    counted : stop.count ≡ length records.0
+    counted : stop.so_far.count ≡ length records.0
     counted = ∥∥₁_elim is (hlevel props) (λ x. omega (arith, x.read.count_is, ap length (same x)))
 
 -- what is read there is what the bytes hold
@@ -181,7 +217,7 @@ stop_records bytes small stop records fault fault_is is =
     let ends : there.1 ≡ fault = ∥∥₁_elim is (fault_set there.1 fault) (λ x. (one_recording bytes there.2.0 x.0.records there.1 (stop_fault stop) held x.0.recording).1 ∙ sym fault_is) in
     subst (IsRecording bytes records) ends (subst (λ (rs : List Recorded). IsRecording bytes rs there.1) same held)
 
-pub capture_there : (bytes m : List ℕ) → All (λ b. b < 256) bytes → (stop : Stop) → m ≡ magic stop.format → ∥ IsStop bytes stop ∥₁ → (format : Format) (front : List ℕ) → format ≡ stop.format
+pub capture_there : (bytes m : List ℕ) → All (λ b. b < 256) bytes → (stop : Stop) → m ≡ magic stop.so_far.format → ∥ IsStop bytes stop ∥₁ → (format : Format) (front : List ℕ) → format ≡ stop.so_far.format
     → front ≡ take (stop.read - length m) (drop (length m) bytes) → (records : SpelledRecords format front) (fault : Option CaptureFault) → fault ≡ stop_fault stop → IsRecording bytes records.0 fault
 capture_there bytes m small stop is_magic is format front format_is front_is records fault fault_is =
     stop_records bytes small stop records.0 fault fault_is
@@ -192,7 +228,7 @@ pub stop_magic : (bytes : List ℕ) (stop : Stop) → ∥ IsStop bytes stop ∥�
 stop_magic bytes stop is =
     elim (magic_or_not bytes) [
       | inl has ↦ has
-      | inr without ↦ absurd (∥∥₁_elim is (λ x y. absurd x) (λ x. without (has_magic stop.format bytes x.records (drop stop.read bytes) x.read.spelled)))
+      | inr without ↦ absurd (∥∥₁_elim is (λ x y. absurd x) (λ x. without (has_magic stop.so_far.format bytes x.records (drop stop.read bytes) x.read.spelled)))
     ]
 
 -- and hold some records with the fault at the stop

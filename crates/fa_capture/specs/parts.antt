@@ -6,3 +6,5 @@ pub mod RecordsLaws
 pub mod Walks
 -- what a feed keeps of its pieces
 pub mod Fed
+-- and what is kept of one that is not
+pub mod Arrivals

@@ -220,7 +220,7 @@ fn decided_fault(bytes: &[u8], stop: Option<Stop>) -> Option<CaptureFault>
 }
 
 /// Whether a magic begins with these bytes.
-fn begins_magic(bytes: &[u8]) -> bool
+pub(crate) fn begins_magic(bytes: &[u8]) -> bool
     ensures begun { IsTrue result → IsMagicBegun bytes.now }
     ensures other { IsFalse result → (rest : List ℕ) → HasMagic (bytes.now ++ rest) → HasMagic bytes.now }
 {

@@ -1,8 +1,9 @@
 //! Captures of /dev/fuse traffic: from bytes to messages.
 //!
 //! [`read_capture`] splits the bytes of a capture in either [`Format`] into [`Packet`]s, whose bytes are slices of the
-//! capture, and tells the first fault of the framing; a [`Feed`] does so with a capture that comes in pieces. [`front`] gives the
-//! capture of its first messages, and [`migrate`] writes one anew in the format that has times.
+//! capture, and tells the first fault of the framing; a [`Feed`] does so with a capture that comes in pieces, and [`Incoming`] with one
+//! that comes in pieces and is not kept. [`front`] gives the capture of its first messages, and [`migrate`] writes one anew in the
+//! format that has times.
 //! [`Input`] and [`Output`] are where bytes come from and go to, and [`read_all`] reads the whole of an
 //! input.
 #![tactic(auto)]
@@ -13,6 +14,7 @@ mod device;
 mod fault;
 mod feed;
 mod format;
+mod incoming;
 mod input;
 pub mod laws;
 pub mod limits;
@@ -28,6 +30,7 @@ pub use device::Device;
 pub use fault::CaptureFault;
 pub use feed::{Feed, FeedError, Stored};
 pub use format::Format;
+pub use incoming::{Arrived, Incoming};
 pub use input::{Input, MAX_READ_LIMIT, Pull, ReadError, read_all};
 pub use migration::{MigrateError, migrate};
 pub use output::{Broken, Output};

@@ -27,10 +27,13 @@ impl<'a> Capture<'a> {
         requires { ∥ IsStop bytes.now stop.now ∥₁ }
         ensures { IsCaptureOf bytes.now result }
     {
-        let packets = Packets::of(stop.format, &bytes[stop.format.magic().len()..stop.read]);
+        let packets = Packets::of(
+            stop.so_far.format,
+            &bytes[stop.so_far.format.magic().len()..stop.read],
+        );
         Capture {
             packets,
-            messages: stop.count as u32,
+            messages: stop.so_far.count as u32,
             fault: stop.fault(),
         }
     }

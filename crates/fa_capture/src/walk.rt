@@ -6,7 +6,7 @@ ghost use Rattle.fa_capture.specs.Checks.{FirstFailure};
 ghost use Rattle.fa_capture.specs.Message.{Recorded, recorded};
 ghost use Rattle.fa_capture.specs.Framing.{magic, time_spelling, IsTime};
 ghost use Rattle.fa_capture.specs.Reading.{HasMagic, IsRecording, IsRecord, header_size, record_checks};
-ghost use Rattle.fa_capture.specs.parts.Walks.{HaveRead, HasRead, IsAt, IsStop, walk_at, stop_fault, fault_behind};
+ghost use Rattle.fa_capture.specs.parts.Walks.{HaveRead, HasRead, ReadsOn, IsWithinLimits, walk_behind, IsAt, IsStop, walk_at, stop_fault, fault_at, fault_behind};
 ghost use Rattle.fa_capture.specs.declared.limits.TheConstants.{MAX_CAPTURE_BYTES, MAX_MESSAGES};
 
 use crate::codes;
@@ -20,15 +20,35 @@ use std::marker::Model;
 /// many count for the limit on a capture.
 const COUNTED_HEADER: usize = 5;
 
-/// Where a walk over the records of a capture stopped: at the end of the bytes, or at a record that fails a check.
+/// How far a walk over the records of a capture has come.
 #[derive(Clone, Copy, Debug)]
-pub(crate) struct Stop {
+pub(crate) struct Progress {
     pub format: Format,
     /// How many records were read.
     pub count: usize,
     /// How many bytes count for the limit on a capture: the magic, and these records, without their times.
     counted: usize,
-    /// How many bytes the magic and these records are.
+}
+
+impl Progress {
+    /// The fault of a capture whose next record fails the check of this code, if one fails.
+    pub fn fault(&self, code: Option<u16>) -> Option<CaptureFault>
+        requires { self.now.count ≤ MAX_MESSAGES }
+        ensures { result ≡ fault_at self.now.count code }
+    {
+        let code = code?;
+        Some(CaptureFault {
+            whole: self.count as u32,
+            code,
+        })
+    }
+}
+
+/// Where a walk over the records of a capture stopped: at the end of the bytes, or at a record that fails a check.
+#[derive(Clone, Copy, Debug)]
+pub(crate) struct Stop {
+    pub so_far: Progress,
+    /// How many bytes the magic and the records that were read are.
     pub read: usize,
     /// The code of the check that the record behind them fails, if there is one.
     code: Option<u16>,
@@ -37,39 +57,31 @@ pub(crate) struct Stop {
 impl Stop {
     /// The framing fault of the bytes that were walked over.
     pub fn fault(&self) -> Option<CaptureFault>
-        requires { self.now.count ≤ MAX_MESSAGES }
+        requires { self.now.so_far.count ≤ MAX_MESSAGES }
         ensures { result ≡ stop_fault self.now }
     {
-        let code = self.code?;
-        Some(CaptureFault {
-            whole: self.count as u32,
-            code,
-        })
+        self.so_far.fault(self.code)
     }
 }
 
 /// A walk over the records of a capture.
 #[derive(Drop)]
 pub(crate) struct Walk<'a> {
-    format: Format,
-    /// How many were read.
-    count: usize,
-    /// How many bytes count for the limit on a capture: the magic, and the records that were read, without their times.
-    counted: usize,
-    /// What stands behind these records.
+    so_far: Progress,
+    /// What stands behind the records that were read.
     left: &'a [u8],
 }
 
 impl<'a> Model for Walk<'a> {
-    ghost use Rattle.std.specs.Prelude.{◌≤◌};
-    ghost use Rattle.fa_capture.specs.parts.Walks.{PlainWalk};
-    ghost use Rattle.fa_capture.specs.declared.limits.TheConstants.{MAX_CAPTURE_BYTES};
+    ghost use Rattle.fa_capture.specs.parts.Walks.{PlainWalk, IsWithinLimits};
 
     ghost Value = { PlainWalk };
 
-    ghost view = { λ w. record { format = w.format; count = w.count; counted = w.counted; left = w.left.now } };
+    ghost use Rattle.fa_capture.specs.parts.Walks.{walk_behind};
 
-    ghost invariant = { λ w. w.counted ≤ MAX_CAPTURE_BYTES };
+    ghost view = { λ w. walk_behind w.so_far w.left.now };
+
+    ghost invariant = { λ w. IsWithinLimits w.so_far };
 }
 
 impl<'a> Walk<'a> {
@@ -81,13 +93,12 @@ impl<'a> Walk<'a> {
         ensures none { IsNone result → HasMagic bytes.now → ⊥ }
     {
         let (format, left) = split_magic(bytes)?;
-        let counted = format.magic().len();
-        Some(Walk {
+        let so_far = Progress {
             format,
             count: 0,
-            counted,
-            left,
-        })
+            counted: format.magic().len(),
+        };
+        Some(Walk { so_far, left })
     }
 
     /// The next packet, whose bytes are a slice of the capture; `None` where no bytes are left.
@@ -106,6 +117,8 @@ impl<'a> Walk<'a> {
     pub fn next(&mut self) -> Result<Option<Packet<'a>>, u16>
         ensures packet { IfOk result (λ next. IfSome next (λ p. (bytes : List ℕ) (rs : List Recorded) →
             HaveRead bytes rs self.old → HaveRead bytes (rs ++ recorded p ∷ []) self.new)) }
+        ensures record { IfOk result (λ next. IfSome next (λ p. (self.new.format ≡ self.old.format) ×
+            IsRecord self.old.format self.old.count self.old.counted self.old.left (recorded p) self.new.left)) }
         ensures shorter { IfOk result (λ next. IfSome next (λ p. length self.new.left < length self.old.left)) }
         ensures end { IfOk result (λ next. IsNone next → (bytes : List ℕ) (rs : List Recorded) →
             HaveRead bytes rs self.old → IsRecording bytes rs None) }
@@ -117,9 +130,9 @@ impl<'a> Walk<'a> {
         if self.left.is_empty() {
             return Ok(None);
         }
-        let (packet, left) = read_record(self.format, self.count, self.counted, self.left)?;
-        self.count += 1;
-        self.counted += COUNTED_HEADER + packet.bytes.len();
+        let (packet, left) = read_record(&self.so_far, self.left)?;
+        self.so_far.count += 1;
+        self.so_far.counted += COUNTED_HEADER + packet.bytes.len();
         self.left = left;
         Ok(Some(packet))
     }
@@ -137,11 +150,25 @@ impl<'a> Walk<'a> {
         ensures { result ≡ walk_at bytes.now stop }
     {
         Walk {
-            format: stop.format,
-            count: stop.count,
-            counted: stop.counted,
+            so_far: stop.so_far,
             left: &bytes[stop.read..],
         }
+    }
+
+    /// A walk over the bytes that stand behind the records which another one read.
+    pub fn behind(so_far: Progress, left: &'a [u8]) -> Self
+        requires { IsWithinLimits so_far }
+        ensures { result ≡ walk_behind so_far left.now }
+    {
+        Walk { so_far, left }
+    }
+
+    /// How far it has come.
+    pub fn so_far(&self) -> Progress
+        ensures is { self.now ≡ walk_behind result self.now.left }
+        ensures within { IsWithinLimits result }
+    {
+        self.so_far
     }
 
     /// Where this walk over these bytes stops.
@@ -151,17 +178,25 @@ impl<'a> Walk<'a> {
     {
         let code = self.first_failure();
         Stop {
-            format: self.format,
-            count: self.count,
-            counted: self.counted,
+            so_far: self.so_far,
             read: bytes.len() - self.left.len(),
             code,
         }
     }
 
+    /// Reads on to the end, or to the first record that fails a check: the records that were read, and the code of that check.
+    pub fn read_on(&mut self) -> (&'a [u8], Option<u16>)
+        ensures read { (on : ReadsOn self.old self.new) × (result.0.now ≡ on.over) }
+        ensures fault { (bytes : List ℕ) (rs : List Recorded) → HaveRead bytes rs self.new → IsRecording bytes rs (fault_behind rs result.1) }
+    {
+        let left = self.left;
+        let code = self.first_failure();
+        (&left[..left.len() - self.left.len()], code)
+    }
+
     /// Reads on to the end, or to the first record that fails a check, and answers the code of that check.
     fn first_failure(&mut self) -> Option<u16>
-        ensures read { (bytes : List ℕ) → HasRead bytes self.old → HasRead bytes self.new }
+        ensures read { ReadsOn self.old self.new }
         ensures fault { (bytes : List ℕ) (rs : List Recorded) → HaveRead bytes rs self.new → IsRecording bytes rs (fault_behind rs result) }
     {
         loop {
@@ -229,34 +264,28 @@ pub(crate) fn read_header(format: Format, behind: &[u8]) -> Option<(u64, u32, &[
 
 /// The record at the front of the bytes that are left, and what stands behind it.
 ///
-/// `before` records came before it, and `counted` bytes before it count for the limit. The error is the code of the first check that
-/// the record fails.
+/// The error is the code of the first check that the record fails, behind those that were read.
 #[inline(always)]
-fn read_record(
-    format: Format,
-    before: usize,
-    counted: usize,
-    left: &[u8],
-) -> Result<(Packet<'_>, &[u8]), u16>
+fn read_record<'a>(so_far: &Progress, left: &'a [u8]) -> Result<(Packet<'a>, &'a [u8]), u16>
     requires some { 0 < length left.now }
-    requires within { counted ≤ MAX_CAPTURE_BYTES }
-    ensures whole { IfOk result (λ r. IsRecord format before counted left.now (recorded r.0) r.1.now) }
-    ensures fault { IfErr result (FirstFailure (record_checks format before counted left.now)) }
+    requires within { so_far.now.counted ≤ MAX_CAPTURE_BYTES }
+    ensures whole { IfOk result (λ r. IsRecord so_far.now.format so_far.now.count so_far.now.counted left.now (recorded r.0) r.1.now) }
+    ensures fault { IfErr result (FirstFailure (record_checks so_far.now.format so_far.now.count so_far.now.counted left.now)) }
 {
-    if before >= MAX_MESSAGES {
+    if so_far.count >= MAX_MESSAGES {
         return Err(codes::CAPTURE_TOO_LARGE);
     }
     let Some(direction) = Direction::from_byte(left[0]) else {
         return Err(codes::DIRECTION);
     };
-    let Some((time, length, body)) = read_header(format, &left[1..]) else {
+    let Some((time, length, body)) = read_header(so_far.format, &left[1..]) else {
         return Err(codes::CUT_OFF);
     };
     let length = length as usize;
     if length > MAX_MESSAGE_BYTES {
         return Err(codes::MESSAGE_TOO_LONG);
     }
-    if counted + COUNTED_HEADER + length > MAX_CAPTURE_BYTES {
+    if so_far.counted + COUNTED_HEADER + length > MAX_CAPTURE_BYTES {
         return Err(codes::CAPTURE_TOO_LARGE);
     }
     if body.len() < length {

@@ -1,6 +1,6 @@
-use Rattle.fa_capture.specs.parts.Walks.{walk_at}
-use Rattle.fa_capture.proofs.StopLemmas.{counted_within}
+use Rattle.std.proofs.Common.{drop}
+use Rattle.fa_capture.proofs.StopLemmas.{read_within}
 use Rattle.fa_capture.proofs.walk.Walk.from_stop.Goals as goal
 
 pub invariant_of-result : goal.invariant_of-result
-invariant_of-result c = counted_within c.args.bytes.now (walk_at c.args.bytes.now c.args.stop) c.requires.some
+invariant_of-result c = read_within c.args.bytes.now (drop c.args.stop.read c.args.bytes.now) c.args.stop.so_far c.requires.some
