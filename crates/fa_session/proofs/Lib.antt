@@ -4,6 +4,7 @@ pub mod RequestLemmas
 pub mod ShowsLemmas
 pub mod MessageLemmas
 pub mod WaitLemmas
+pub mod ParkedLemmas
 pub mod OutstandingLemmas
 pub mod TableLemmas
 pub mod LawsLemmas

@@ -1,5 +1,5 @@
 -- A request that waits, read again.
-use Rattle.std.proofs.Common.{◌≡◌, ℕ, List, Result, Ok, Err, refl, sym, subst, ap, ◌∙◌}
+use Rattle.std.proofs.Common.{◌≡◌, ℕ, List, Result, Ok, Err, refl, sym, subst}
 use Rattle.std.specs.Prelude.{IfErr, IfOk}
 use Rattle.std.specs.Result.{IsOk}
 use Rattle.std.proofs.Math.Logic.{∥∥₁_elim}
@@ -37,3 +37,14 @@ waits_of bytes r is = (r, ∥∥₁_elim is squash (λ here. ∣ (here, refl) �
 -- what waits under a message that is this request
 pub waits_one : (bytes : List ℕ) (unique : ℕ) (said : RequestSaid bytes unique) (message : List ℕ) (r : PlainRequest) → bytes ≡ message → ∥ IsRequest message r ∥₁ → said.0 ≡ r
 waits_one bytes unique said message r same is = ∥∥₁_elim is (request_set said.0 r) (λ here. sym (read_one bytes unique said r (subst (λ (b : List ℕ). IsRequest b r) (sym same) here)))
+
+-- bytes that are the same are the same request
+pub said_again : (bytes copy : List ℕ) (unique : ℕ) → copy ≡ bytes → RequestSaid bytes unique → RequestSaid copy unique
+said_again bytes copy unique same said = subst (λ (b : List ℕ). RequestSaid b unique) (sym same) said
+
+-- and no other
+pub same_said : (bytes copy : List ℕ) (unique : ℕ) → copy ≡ bytes → (said : RequestSaid bytes unique) (again : RequestSaid copy unique) → again.0 ≡ said.0
+same_said bytes copy unique same said again = waits_one copy unique again bytes said.0 same (∥∥₁_elim said.1 squash (λ here. ∣ here.0 ∣₁))
+  where
+    squash : IsProp ∥ IsRequest bytes said.0 ∥₁
+    squash = hlevel

@@ -8,10 +8,12 @@ mod error;
 mod event;
 pub mod laws;
 mod outstanding;
+mod parked;
 mod rules;
 mod session;
 mod waiting;
 
 pub use error::SessionError;
 pub use event::{Event, ReplyMessages, RequestMessage};
+pub use parked::Parked;
 pub use session::Session;

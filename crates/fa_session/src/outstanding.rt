@@ -1,14 +1,15 @@
 //! The outstanding requests by their uniques.
 
-ghost use Rattle.std.specs.Prelude.{◌≡◌, ℕ, nat_eq, cond, false, [], Some, None, OnOk, OnErr, IfSome, IfErr};
+ghost use Rattle.std.specs.Prelude.{◌≡◌, ℕ, nat_eq, cond, false, [], Some, None, OnOk, OnErr, IfOk, IfSome, IfErr, map};
 ghost use Rattle.std.specs.Map.{lookup};
 ghost use Rattle.std.specs.Option.{option_copied, option_map_or};
 ghost use Rattle.fa_session.specs.declared.error.SessionError.TheVariants.{Memory};
+ghost use Rattle.fa_session.specs.parts.View.{entries_shown, by_unique, owned_shown, owned_by_unique};
 
 use crate::error::SessionError;
-use crate::waiting::Waiting;
+use crate::waiting::{OwnedWaiting, Waiting};
 use indexmap::IndexMap;
-use std::alloc::Global;
+use std::alloc::{AllocError, Global};
 use std::marker::Model;
 
 /// The requests that wait for their answers, by their uniques.
@@ -105,6 +106,36 @@ impl<'a> Outstanding<'a> {
         } else {
             self.earlier.swap_remove(&unique);
         }
+    }
+
+    /// The same requests, each with a copy of its message.
+    ///
+    /// Takes memory for the copies and a row for each of them, in linear time.
+    pub fn to_owned(&self, alloc: Global) -> Result<Vec<OwnedWaiting>, AllocError>
+        ensures { IfOk result (λ owned. map owned_shown owned.items ≡ entries_shown self.now) }
+    {
+        let mut owned = Vec::with_capacity(alloc, self.earlier.len() + 1)?;
+        if let Some(newest) = &self.newest {
+            owned.push(newest.to_owned(alloc)?)?;
+        }
+        for waiting in self.earlier.values() {
+            owned.push(waiting.to_owned(alloc)?)?;
+        }
+        Ok(owned)
+    }
+
+    /// The same requests, which borrow the messages. `Memory` tells that memory was refused.
+    ///
+    /// Takes memory for the table, in expected linear time.
+    pub fn from_owned(alloc: Global, owned: &'a [OwnedWaiting]) -> Result<Self, SessionError>
+        ensures { IfOk result (λ outstanding. by_unique outstanding ≡ owned_by_unique owned.now) }
+    {
+        let mut outstanding = Outstanding::new(alloc);
+        // The last first: were there two with one unique, the first would stand, which a look-up finds.
+        for waiting in owned.iter().rev() {
+            outstanding.insert(waiting.as_waiting())?;
+        }
+        Ok(outstanding)
     }
 }
 

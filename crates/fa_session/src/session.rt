@@ -28,11 +28,11 @@ use std::marker::Model;
 #[derive(Drop)]
 pub struct Session<'a> {
     /// How many messages came.
-    messages: u32,
+    pub(crate) messages: u32,
     /// The flags that both sides set at INIT, once it was answered.
-    negotiated: Option<u32>,
+    pub(crate) negotiated: Option<u32>,
     /// The outstanding requests.
-    waiting: Outstanding<'a>,
+    pub(crate) waiting: Outstanding<'a>,
 }
 
 impl<'a> Model for Session<'a> {

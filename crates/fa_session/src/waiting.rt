@@ -1,12 +1,13 @@
 //! Outstanding requests.
 
-ghost use Rattle.std.specs.Prelude.{◌≡◌};
+ghost use Rattle.std.specs.Prelude.{◌≡◌, IfOk};
 ghost use Rattle.fa_bodies.specs.Requests.{request_shown};
 ghost use Rattle.fa_session.specs.parts.RequestSaid.{RequestSaid, RequestSaid-prop};
 
 use crate::event::RequestMessage;
 use fa_bodies::request;
 use fa_capture::{Direction, Packet};
+use std::alloc::{AllocError, Global};
 use std::mem::size_of;
 
 /// A request that waits for its answer. What it asks for is read again when that comes.
@@ -53,6 +54,48 @@ impl<'a> Waiting<'a> {
         RequestMessage {
             bytes: self.bytes,
             request: request(&packet).unwrap(),
+        }
+    }
+
+    /// The same request, with a copy of its message.
+    pub fn to_owned(&self, alloc: Global) -> Result<OwnedWaiting, AllocError>
+        ensures at { IfOk result (λ owned. owned.at ≡ self.now.at) }
+        ensures unique { IfOk result (λ owned. owned.unique ≡ self.now.unique) }
+        ensures request { IfOk result (λ owned. owned.said.0 ≡ self.now.said.0) }
+    {
+        let bytes = self.bytes.to_vec(alloc)?;
+        Ok(OwnedWaiting {
+            at: self.at,
+            unique: self.unique,
+            bytes,
+        })
+    }
+}
+
+/// A request that waits for its answer, with its message in memory of its own.
+#[derive(Drop)]
+pub(crate) struct OwnedWaiting {
+    /// The number of its message.
+    pub at: u32,
+    /// Its unique.
+    pub unique: u64,
+    /// Its message.
+    pub bytes: Vec<u8>,
+    // Which request, with this unique, the message is.
+    pub ghost said: { RequestSaid bytes.items unique } by { RequestSaid-prop bytes.items unique },
+}
+
+impl OwnedWaiting {
+    /// The same request, which borrows the message.
+    pub fn as_waiting(&self) -> Waiting<'_>
+        ensures at { result.at ≡ self.now.at }
+        ensures unique { result.unique ≡ self.now.unique }
+        ensures request { result.said.0 ≡ self.now.said.0 }
+    {
+        Waiting {
+            at: self.at,
+            unique: self.unique,
+            bytes: self.bytes.as_slice(),
         }
     }
 }

@@ -6,7 +6,9 @@ use Rattle.std.specs.FinMap.{entries, from_entries}
 use Rattle.fa_bodies.specs.Requests.{request_shown}
 use Rattle.fa_session.specs.declared.event.RequestMessage.{RequestMessage}
 use Rattle.fa_session.specs.declared.waiting.Waiting.{Waiting}
+use Rattle.fa_session.specs.declared.waiting.OwnedWaiting.{OwnedWaiting}
 use Rattle.fa_session.specs.declared.session.Session.TheInside.{Inside}
+use Rattle.fa_session.specs.declared.parked.Parked.TheInside.{Inside as Parked}
 use Rattle.fa_session.specs.declared.outstanding.Outstanding.TheInside.{Inside as Outstanding}
 use Rattle.fa_session.specs.Plain.{PlainSession, PlainWaiting}
 
@@ -42,7 +44,20 @@ pub record AreOutstanding (o : Outstanding) : Type 0 where
   pub within : (unique : ℕ) → o.highest < unique → lookup (nat_eq unique) o.earlier.entries ≡ None
   pub newest_within : (w : Waiting) → o.newest ≡ Some w → w.unique ≤ o.highest
 
+-- what a request with its message in memory of its own shows, as an entry
+abbrev pub owned_shown : OwnedWaiting → ℕ × PlainWaiting
+owned_shown w = (w.unique, record { at = w.at; request = w.said.0 })
+
+-- what such requests show, by rising uniques
+abbrev pub owned_by_unique : List OwnedWaiting → List (ℕ × PlainWaiting)
+owned_by_unique ws = entries (from_entries {R = nat_cmp} (map owned_shown ws))
+
 -- what the fields of a session show
 abbrev pub session_shown : Inside → PlainSession
 session_shown s =
     record { messages = s.messages; negotiated = s.negotiated; waiting = by_unique s.waiting }
+
+-- what the fields of a session that is put aside show
+abbrev pub parked_shown : Parked → PlainSession
+parked_shown s =
+    record { messages = s.messages; negotiated = s.negotiated; waiting = owned_by_unique s.waiting.items }
