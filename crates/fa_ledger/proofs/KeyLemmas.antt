@@ -6,6 +6,7 @@ use Rattle.std.proofs.lemmas.Bool.Decides.{nat_tests}
 use Rattle.std.proofs.lemmas.Option.{slice_get_within, same_Some}
 use Rattle.std.proofs.lemmas.List.{take_all, length-append}
 use Rattle.fa_capture.proofs.CallerLemmas.{get_kept, get_back, get_last, get_cases, take_before, take_all_before}
+use Rattle.fa_capture.specs.declared.limits.TheConstants.{MAX_MESSAGES}
 use Rattle.fa_bodies.specs.declared.handles.OpenOut.{OpenOut}
 use Rattle.fa_bodies.specs.FlagBits.{fopen_direct_io}
 use Rattle.fa_bodies.specs.Flags.{HasFlag, fopen_bits}
@@ -307,3 +308,12 @@ module _ (es : List PlainEvent) (e : PlainEvent) (key : Key) where
             (λ has. (is.named.since, length es, out, since, omega (arith, below), opens_last out opens, has))
             (direct_cases out is.named.since opens below since);
       }
+
+-- ---- how often a key is open
+
+-- a key is open less often than there may be messages
+pub openings_few : (es : List PlainEvent) (key : Key) (x : Option Handle) (h : Handle) → IsKeyOf es key x → x ≡ Some h → length es < MAX_MESSAGES → h.openings < MAX_MESSAGES
+openings_few es key None h is there few = absurd cc
+openings_few es key (Some k) h is there few =
+    let same : k ≡ h = cc in
+    omega (arith, is.left, opened_within es key, few, ap (λ (x : Handle). x.openings) same)

@@ -37,7 +37,8 @@ use Rattle.fa_ledger.specs.Shows.{ShowsEvents, Shows, IsNodeOf, place_in}
 use Rattle.fa_ledger.specs.declared.listings.Place.{Place}
 use Rattle.fa_ledger.specs.parts.ListingParts.{place_of, listed_shown}
 use Rattle.fa_ledger.specs.Refusals.{IsNext, IsRefusal, IsMoreKept}
-use Rattle.fa_ledger.specs.parts.BookParts.{BooksShow, Stands, AreSame, asked_checks, IsAskedRefusal, IsAnsweredRefusal, IsLedgerRefusal}
+use Rattle.fa_ledger.specs.parts.TableParts.{asked_checks, IsAskedRefusal, IsAnsweredRefusal, IsLedgerRefusal}
+use Rattle.fa_ledger.specs.parts.BookParts.{BooksShow, Stands, AreSame}
 use Rattle.fa_ledger.specs.parts.View.{by_id, ledger_shown}
 use Rattle.fa_ledger.proofs.EventLemmas.{events_are_one, notice_no_reply}
 use Rattle.fa_ledger.proofs.CallStepLemmas.{events_more, calls_kept}
@@ -77,8 +78,8 @@ shown_parts : (s : Inside) (es : List PlainEvent) → BooksShow es s.books → s
 shown_parts s es books counted = record {
   counted = counted;
   truncating = books.truncating;
-  nodes = λ node. subst (IsNodeOf es node) (sym (find_by_id node s.books.nodes.known.entries)) (books.nodes node);
-  rising = holds_true (is_sorted nat_cmp (by_id s.books.nodes.known.entries)) (entries_sorted (from_entries {R = nat_cmp} s.books.nodes.known.entries));
+  nodes = λ node. subst (IsNodeOf es node) (sym (find_by_id node s.books.tables.nodes.known.entries)) (books.nodes node);
+  rising = holds_true (is_sorted nat_cmp (by_id s.books.tables.nodes.known.entries)) (entries_sorted (from_entries {R = nat_cmp} s.books.tables.nodes.known.entries));
   handles = books.keys;
   listed = places_alike es (place_of s.books.listings.by_key.entries) (place_in (listed_shown s.books.listings.by_key.entries)) (place_shown s.books.listings.by_key.entries) books.places;
   calls = books.calls;
@@ -87,7 +88,7 @@ shown_parts s es books counted = record {
 books_show : (s : Inside) (es : List PlainEvent) → ShowsEvents es (ledger_shown s) → BooksShow es s.books
 books_show s es shown = record {
   truncating = shown.truncating;
-  nodes = λ node. subst (IsNodeOf es node) (find_by_id node s.books.nodes.known.entries) (shown.nodes node);
+  nodes = λ node. subst (IsNodeOf es node) (find_by_id node s.books.tables.nodes.known.entries) (shown.nodes node);
   keys = shown.handles;
   places = places_alike es (place_in (listed_shown s.books.listings.by_key.entries)) (place_of s.books.listings.by_key.entries) (λ key offset. sym (place_shown s.books.listings.by_key.entries key offset)) shown.listed;
   calls = shown.calls;
@@ -193,9 +194,9 @@ pub same_shown : (s t : Inside) → AreSame s.books t.books → t.messages ≡ s
 same_shown s t same counted =
     let made : ℕ → Bool → List (ℕ × Lookups) → List (Key × Handle) → List (Key × List (ℕ × Place)) → List PlainCall → PlainLedger =
     λ n b k h p l. record { messages = n; truncating = b; nodes = k; handles = h; listed = p; calls = l } in
-    let whole : made t.messages t.books.truncating (by_id t.books.nodes.known.entries) t.books.handles.opened.entries (listed_shown t.books.listings.by_key.entries) t.books.calls
-    ≡ made s.messages s.books.truncating (by_id s.books.nodes.known.entries) s.books.handles.opened.entries (listed_shown s.books.listings.by_key.entries) s.books.calls =
-    rw (counted, same.truncating, same_by_id s.books.nodes.known.entries t.books.nodes.known.entries same.nodes, same.keys, same.listed, same.calls) refl in
+    let whole : made t.messages t.books.truncating (by_id t.books.tables.nodes.known.entries) t.books.tables.handles.opened.entries (listed_shown t.books.listings.by_key.entries) t.books.calls
+    ≡ made s.messages s.books.truncating (by_id s.books.tables.nodes.known.entries) s.books.tables.handles.opened.entries (listed_shown s.books.listings.by_key.entries) s.books.calls =
+    rw (counted, same.truncating, same_by_id s.books.tables.nodes.known.entries t.books.tables.nodes.known.entries same.nodes, same.keys, same.listed, same.calls) refl in
     whole
 
 -- no messages
@@ -226,8 +227,8 @@ notice_shows c m es at b stands = let shown = stands.shown in record {
   truncating =
       let kept = flag_kept es (Notice at) atomic_o_trunc (λ n asked r reply i answer is. absurd cc) in
       ((λ yes. kept.1 (shown.truncating.0 yes)), (λ has. shown.truncating.1 (kept.0 has)));
-  nodes = λ node. node_kept es (Notice at) node (lookup (nat_eq node) b.nodes.known.entries) refl refl (shown.nodes node);
-  keys = λ key. key_unmoved es (Notice at) key (lookup (key_eq key) b.handles.opened.entries) refl refl (shown.keys key);
+  nodes = λ node. node_kept es (Notice at) node (lookup (nat_eq node) b.tables.nodes.known.entries) refl refl (shown.nodes node);
+  keys = λ key. key_unmoved es (Notice at) key (lookup (key_eq key) b.tables.handles.opened.entries) refl refl (shown.keys key);
   places = unlisted_places c m es (Notice at) stands.are stands.event (λ n p r ds is. absurd cc) (λ key stood. omega (arith, stood, opened_more es (Notice at) key, closed_more es (Notice at) key))
       (place_of b.listings.by_key.entries) shown.places;
   calls = calls_kept es (Notice at) b.calls shown.calls (λ p r is. absurd cc) (λ n p r reply is. absurd cc);

@@ -30,6 +30,7 @@ pub mod PlaceLemmas
 pub mod LedgerLemmas
 pub mod ReplyLemmas
 pub mod ReplyBookLemmas
+pub mod RequestLemmas
 pub mod RequestBookLemmas
 pub mod SaidLemmas
 pub mod CallerLemmas

@@ -7,6 +7,7 @@ use Rattle.std.proofs.lemmas.Bool.{cases_lt}
 use Rattle.std.proofs.lemmas.Bool.Decides.{nat_tests}
 use Rattle.std.proofs.lemmas.Option.{slice_get_within}
 use Rattle.std.proofs.lemmas.List.Sums.{count_by-le-length, sum_by-cons}
+use Rattle.fa_capture.specs.declared.limits.TheConstants.{MAX_MESSAGES}
 use Rattle.fa_capture.specs.Message.{Message}
 use Rattle.fa_bodies.specs.declared.entry.EntryOut.{EntryOut}
 use Rattle.fa_bodies.specs.declared.requests.TheConstants.{ROOT_ID}
@@ -27,7 +28,7 @@ use Rattle.fa_ledger.specs.Mentions.{node_of, mentions}
 use Rattle.fa_ledger.specs.Counts.{is_dots, nodes_of_entry, nodes_of_listing, nodes_given, times_given, times_taken, lookups_given, lookups_taken, IsKnown}
 use Rattle.fa_ledger.specs.Names.{name_at}
 use Rattle.fa_ledger.specs.Shows.{IsLookups, IsNodeOf}
-use Rattle.fa_ledger.specs.parts.Steps.{is_named, given_again, IsTakenFrom}
+use Rattle.fa_ledger.specs.parts.Steps.{is_named, given_again, count_left, IsTakenFrom}
 use Rattle.fa_ledger.proofs.NameLemmas.{not_root}
 use Rattle.fa_ledger.proofs.GrowthLemmas.{given_more, taken_more, counted_named, uncounted_unnamed, name_kept, name_new}
 use Rattle.fa_ledger.proofs.EventLemmas.{element_at}
@@ -282,3 +283,16 @@ given_within c es node are =
     let within : i < length es = slice_get_within es i e there in
     let message = element_at c i (omega (arith, within, are.counted)) in
     times_within (take i c) message.0 e node (are.each i message.0 e message.1 there))
+
+-- ---- what is left
+
+-- no more is left of a node than was given
+pub left_within : (es : List PlainEvent) (node : ℕ) (x : Option Lookups) → IsNodeOf es node x → count_left x ≤ lookups_given es node
+left_within es node None is = omega arith
+left_within es node (Some l) is = omega (arith, is.left)
+
+-- what is left of a node fits
+pub left_few : (c : List Message) (es : List PlainEvent) (node : ℕ) (x : Option Lookups) → AreEvents c es → length c < MAX_MESSAGES → IsNodeOf es node x → count_left x < 18446744073709551616
+left_few c es node x are below is =
+    let few : length c < 16777216 = below in
+    omega (arith, few, are.counted, left_within es node x is, given_within c es node are)

@@ -14,7 +14,7 @@ use Rattle.fa_bodies.specs.Replies.{PlainReply}
 use Rattle.fa_bodies.specs.Replies.PlainReply.{Refused, Listed}
 use Rattle.fa_session.specs.Events.{PlainEvent, IsEvent}
 use Rattle.fa_session.specs.Events.PlainEvent.{Asked, Answered}
-use Rattle.fa_ledger.specs.declared.books.Used.{Used}
+use Rattle.fa_ledger.specs.declared.tables.Used.{Used}
 use Rattle.fa_ledger.specs.declared.call.Listing.{Listing}
 use Rattle.fa_ledger.specs.declared.handles.Handle.{Handle}
 use Rattle.fa_ledger.specs.declared.key.HandleKind.{HandleKind}
@@ -32,7 +32,7 @@ use Rattle.fa_ledger.specs.Listings.{UsesHandle, IsListingIfAny, IsListedSoFar, 
 use Rattle.fa_ledger.specs.Calls.{PlainCall, IsAskedCall, IsHandleUsed, AreCallsOf}
 use Rattle.fa_ledger.specs.Refusals.{ListsOn}
 use Rattle.fa_ledger.specs.Shows.{IsKeyOf, IsOpenAs, IsPlaceOf, ArePlaces, place_in}
-use Rattle.fa_ledger.specs.parts.BookParts.{KeysShow, IsUsedIfAny}
+use Rattle.fa_ledger.specs.parts.TableParts.{KeysShow, IsUsedIfAny}
 use Rattle.fa_ledger.specs.parts.CallParts.{WaitsAt, waiting_of}
 use Rattle.fa_ledger.specs.parts.ListingParts.{place_of, listed_shown, listing_by, ListsNew, ListsStill, ListsStillIfAny, IsNotedBy}
 use Rattle.fa_ledger.specs.parts.Steps.{closed_once}

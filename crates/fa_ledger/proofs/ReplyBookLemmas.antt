@@ -1,8 +1,7 @@
 -- The books, and the answer to a request.
-use Rattle.std.proofs.Common.{◌≡◌, ◌≢◌, ℕ, ◌+◌, ◌<◌, ◌≤◌, Bool, cond, List, [], ◌∷◌, ◌++◌, length, take, Option, None, Some, refl, sym, ap, subst, ◌∙◌, inl, inr, arith}
+use Rattle.std.proofs.Common.{◌≡◌, ◌≢◌, ℕ, ◌<◌, ◌≤◌, Bool, cond, List, [], ◌∷◌, ◌++◌, length, take, Option, None, Some, refl, sym, ap, subst, ◌∙◌, inr, arith}
 use Rattle.std.specs.Prelude.{◌↔◌, ◌||◌, ◌==◌, nat_eq, map, count_by, All, IsTrue, IfSome}
 use Rattle.std.specs.Map.{lookup}
-use Rattle.std.proofs.lemmas.List.{length-map}
 use Rattle.fa_capture.specs.declared.limits.TheConstants.{MAX_MESSAGES}
 use Rattle.fa_capture.specs.Message.{Message}
 use Rattle.fa_bodies.specs.declared.handles.OpenOut.{OpenOut}
@@ -23,9 +22,8 @@ use Rattle.fa_ledger.specs.declared.listings.Listings.{Listings}
 use Rattle.fa_ledger.specs.declared.listings.Offsets.{Offsets}
 use Rattle.fa_ledger.specs.declared.listings.Place.{Place}
 use Rattle.fa_ledger.specs.declared.name.NodeName.{NodeName}
-use Rattle.fa_ledger.specs.declared.handles.Handles.{Handles}
 use Rattle.fa_ledger.specs.declared.nodes.Lookups.{Lookups}
-use Rattle.fa_ledger.specs.declared.nodes.Nodes.{Nodes}
+use Rattle.fa_ledger.specs.declared.tables.Tables.{Tables}
 use Rattle.fa_ledger.specs.Counts.{nodes_given}
 use Rattle.fa_ledger.specs.Names.{name_at}
 use Rattle.fa_ledger.specs.Keys.{key_eq}
@@ -35,31 +33,25 @@ use Rattle.fa_ledger.specs.Passing.{MayBeGiven}
 use Rattle.fa_ledger.specs.Calls.{PlainCall, PlainAnswer, IsNegotiatedFlag, OpensAnew, AreCallsOf}
 use Rattle.fa_ledger.specs.Shows.{IsNodeOf, IsKeyOf, ArePlaces}
 use Rattle.fa_ledger.specs.Refusals.{IsMoreKept}
-use Rattle.fa_ledger.specs.parts.Steps.{given_to, given_again, times_named, count_left, opened_with, opens_new, some_new, with_answer, IsOpenedBy, IsListedReply, SettlesTruncation}
+use Rattle.fa_ledger.specs.parts.Steps.{given_to, given_again, times_named, opened_with, opens_new, with_answer, IsOpenedBy, SettlesTruncation}
 use Rattle.fa_ledger.specs.parts.CallParts.{WaitsAt, waiting_of}
 use Rattle.fa_ledger.specs.parts.ListingParts.{place_of, noted, ListsNew, ListsStillIfAny, IsNotedBy}
 use Rattle.fa_ledger.specs.Listings.{count_to}
-use Rattle.fa_ledger.specs.parts.BookParts.{BooksShow, Stands, IsAnsweredRefusal}
+use Rattle.fa_ledger.specs.parts.TableParts.{IsAnsweredRefusal}
+use Rattle.fa_ledger.specs.parts.BookParts.{BooksShow, Stands}
 use Rattle.fa_ledger.specs.Operations.{PlainOperation, operation_of}
 use Rattle.fa_ledger.proofs.OperationLemmas.{reply_done}
 use Rattle.fa_ledger.proofs.CallStepLemmas.{calls_kept, calls_answered, call_waits, waiting_call}
-use Rattle.fa_ledger.proofs.KeyLemmas.{opened_within, key_unmoved, none_unopened}
-use Rattle.fa_ledger.proofs.NodeLemmas.{node_kept, given_within, reply_few}
+use Rattle.fa_ledger.proofs.KeyLemmas.{openings_few, key_unmoved, none_unopened}
+use Rattle.fa_ledger.proofs.NodeLemmas.{node_kept}
 use Rattle.fa_ledger.proofs.ListingLemmas.{answered_anew}
 use Rattle.fa_ledger.proofs.PlaceBookLemmas.{places_answered, places_replied, lists_on, count_fits}
-use Rattle.fa_ledger.proofs.ReplyLemmas.{nodes_answered, names_answered, opening_answered, keys_answered, opens_answered, new_is_uncounted, some_is_listed, flag_kept, flag_settled, plain_gives_nothing}
-use Rattle.fa_ledger.proofs.RequestBookLemmas.{left_within}
+use Rattle.fa_ledger.proofs.ReplyLemmas.{nodes_answered, names_answered, opening_answered, keys_answered, opens_answered, opens_more, flag_kept, flag_settled, plain_gives_nothing}
 
--- a key is open less often than there may be messages
-openings_few : (es : List PlainEvent) (key : Key) (x : Option Handle) (h : Handle) → IsKeyOf es key x → x ≡ Some h → length es < MAX_MESSAGES → h.openings < MAX_MESSAGES
-openings_few es key None h is there few = absurd cc
-openings_few es key (Some k) h is there few =
-    let same : k ≡ h = cc in
-    omega (arith, is.left, opened_within es key, few, ap (λ (x : Handle). x.openings) same)
-
-pub open_fits : (c : List Message) (m : Message) (es : List PlainEvent) (e : PlainEvent) (old : Books) → Stands c m es e old → (key : Key) (h : Handle) → lookup (key_eq key) old.handles.opened.entries ≡ Some h → h.openings < MAX_MESSAGES
+-- an open key can be opened once more
+pub open_fits : (c : List Message) (m : Message) (es : List PlainEvent) (e : PlainEvent) (old : Books) → Stands c m es e old → (key : Key) (h : Handle) → lookup (key_eq key) old.tables.handles.opened.entries ≡ Some h → h.openings < MAX_MESSAGES
 open_fits c m es e old stands key h there =
-    openings_few es key (lookup (key_eq key) old.handles.opened.entries) h (stands.shown.keys key) there (omega (arith, stands.few, stands.are.counted))
+    openings_few es key (lookup (key_eq key) old.tables.handles.opened.entries) h (stands.shown.keys key) there (omega (arith, stands.few, stands.are.counted))
 
 -- no tree request is INIT
 tree_not_init : (es : List PlainEvent) (at asked : ℕ) (r : PlainRequest) (reply : PlainReply) → IsTreeRequest r.body
@@ -79,21 +71,14 @@ pub record IsPrepared (c : List Message) (m : Message) (es : List PlainEvent) (a
   pub call : PlainCall
   pub waits : WaitsAt old.calls asked place call
   pub own : waiting ≡ waiting_of call
-  pub named : names ≡ map (λ id. given_to id at (lookup (nat_eq id) old.nodes.known.entries)) (nodes_given r.body reply)
+  pub named : names ≡ map (λ id. given_to id at (lookup (nat_eq id) old.tables.nodes.known.entries)) (nodes_given r.body reply)
   pub opens : which ≡ opened_with waiting.node names r.body reply
 
 -- a table of nodes in which these are given
 abbrev pub IsGiven : ℕ → List NodeName → List (ℕ × Lookups) → List (ℕ × Lookups) → Type 0
 IsGiven at names old new = (node : ℕ) → lookup (nat_eq node) new ≡ given_again at (times_named node names) (lookup (nat_eq node) old)
 
--- ---- memory
-
-pub names_more : (es : List PlainEvent) (at asked : ℕ) (r : PlainRequest) (reply : PlainReply) → IsListedReply reply × ((nodes_given r.body reply ≡ []) → ⊥) → IsMoreKept es (Answered at asked r reply)
-names_more es at asked r reply why = inr (inl (some_is_listed r reply why.0 why.1))
-
-pub nodes_more : (es : List PlainEvent) (at asked : ℕ) (r : PlainRequest) (reply : PlainReply) (old : Books) (names : List NodeName) → BooksShow es old
-    → names ≡ map (λ id. given_to id at (lookup (nat_eq id) old.nodes.known.entries)) (nodes_given r.body reply) → IsTrue (some_new old.nodes.known.entries names) → IsMoreKept es (Answered at asked r reply)
-nodes_more es at asked r reply old names shown named new = inl (new_is_uncounted es r reply at old.nodes.known.entries names shown.nodes named new)
+-- ---- what it lists
 
 -- how many entries it has
 pub listed_counted : (c : List Message) (m : Message) (at asked : ℕ) (r : PlainRequest) (reply : PlainReply) → IsEvent c m (Answered at asked r reply) → (opened : List (Key × Handle)) (waiting : WaitingCall) (call : PlainCall) → waiting ≡ waiting_of call
@@ -109,19 +94,9 @@ noted_also asked None old kept new same noted_so = λ other offset. noted_so oth
 noted_also asked (Some l) old kept new same noted_so = λ other offset.
     noted_so other offset ∙ ap (λ place. cond (key_eq l.key other) (noted asked l.adrift (count_to offset (entries_left l.entries)) place) place) (same other offset)
 
--- ---- bounds
+-- ---- the answer to a tree request
 
 module _ (c : List Message) (m : Message) (es : List PlainEvent) (at asked : ℕ) (r : PlainRequest) (reply : PlainReply) (old : Books) where
-  -- there is room in the count for one more reply
-  pub give_fits : (names : List NodeName) → Stands c m es (Answered at asked r reply) old
-      → names ≡ map (λ id. given_to id at (lookup (nat_eq id) old.nodes.known.entries)) (nodes_given r.body reply) → (node : ℕ) → count_left (lookup (nat_eq node) old.nodes.known.entries) + length names ≤ 18446744073709551615
-  give_fits names stands is node =
-      let long : length names ≡ length (nodes_given r.body reply) = ap length is ∙ length-map (nodes_given r.body reply) (λ id. given_to id at (lookup (nat_eq id) old.nodes.known.entries)) in
-      let few : length es < 16777216 = omega (arith, stands.few, stands.are.counted) in
-      omega (arith, long, few, reply_few c m at asked r reply stands.event, left_within es node (lookup (nat_eq node) old.nodes.known.entries) (stands.shown.nodes node), given_within c es node stands.are)
-
-  -- ---- the answer to a tree request
-
   -- an answer to a call makes its operation
   pub operation_there : Stands c m es (Answered at asked r reply) old → (place : ℕ) (call : PlainCall) → WaitsAt old.calls asked place call → (o : PlainOperation) × (operation_of r.body (Some reply) ≡ Some o)
   operation_there stands place call waits =
@@ -147,20 +122,20 @@ module _ (c : List Message) (m : Message) (es : List PlainEvent) (at asked : ℕ
 
   -- the books show the answer
   pub answer_shows : (new : Books) (names : List NodeName) (which : Option (Key × OpenOut)) (opens : Bool) (o : PlainOperation)
-      → (p : IsPrepared c m es at asked r reply old names which) → operation_of r.body (Some reply) ≡ Some o → opens ≡ opens_new old.handles.opened.entries which → new.truncating ≡ old.truncating
-      → IsGiven at names old.nodes.known.entries new.nodes.known.entries → IsOpenedBy asked which old.handles.opened.entries new.handles.opened.entries
-      → (listed : Option ListedOn) → ListsStillIfAny old.handles.opened.entries p.waiting r.body reply listed → IsNotedBy asked listed old.listings.by_key.entries new.listings.by_key.entries
+      → (p : IsPrepared c m es at asked r reply old names which) → operation_of r.body (Some reply) ≡ Some o → opens ≡ opens_new old.tables.handles.opened.entries which → new.truncating ≡ old.truncating
+      → IsGiven at names old.tables.nodes.known.entries new.tables.nodes.known.entries → IsOpenedBy asked which old.tables.handles.opened.entries new.tables.handles.opened.entries
+      → (listed : Option ListedOn) → ListsStillIfAny old.tables.handles.opened.entries p.waiting r.body reply listed → IsNotedBy asked listed old.listings.by_key.entries new.listings.by_key.entries
       → new.calls ≡ with_answer old.calls asked o (record { at = at; given = names; opens = opens }) → BooksShow (es ++ Answered at asked r reply ∷ []) new
   answer_shows new names which opens o p does opens_is settled gave noted listed lists listed_so answered =
       let place = event_place p.stands in
       let shown = p.stands.shown in
-      let named = names_answered es at asked r reply old.nodes.known.entries names place shown.nodes p.may p.named in
+      let named = names_answered es at asked r reply old.tables.nodes.known.entries names place shown.nodes p.may p.named in
       let opening_is : opening es (Answered at asked r reply) ≡ which =
       opening_answered es at asked r reply p.waiting.node names (asked_name names which p) named ∙ sym p.opens in
       let flag = tree_not_init es at asked r reply (tree_asked names which p) in
       let answer : PlainAnswer = record { at = at; given = names; opens = opens } in
       let here : ℕ → List PlainEvent = λ n. es ++ Answered n asked r reply ∷ [] in
-      let anew : IsTrue opens ↔ OpensAnew (here at) (length es) = opens_answered es at asked r reply old.handles.opened.entries place shown.keys which opening_is opens opens_is in
+      let anew : IsTrue opens ↔ OpensAnew (here at) (length es) = opens_answered es at asked r reply old.tables.handles.opened.entries place shown.keys which opening_is opens opens_is in
       let calls : AreCallsOf (here (length es)) (with_answer old.calls asked o answer) =
       calls_answered c m es p.stands.are asked r reply (subst (λ n. IsEvent c m (Answered n asked r reply)) place p.stands.event) old.calls o answer shown.calls place does
       (subst (λ n. map (λ node. name_at (here n) node) (nodes_given r.body reply) ≡ map (λ name. Some name) names) place named)
@@ -170,40 +145,39 @@ module _ (c : List Message) (m : Message) (es : List PlainEvent) (at asked : ℕ
           (λ yes. flag.1 (shown.truncating.0 (subst IsTrue settled yes))),
           (λ has. subst IsTrue (sym settled) (shown.truncating.1 (flag.0 has))),
         );
-        nodes = nodes_answered es at asked r reply old.nodes.known.entries new.nodes.known.entries names place shown.nodes p.may p.named gave;
-        keys = keys_answered es at asked r reply old.handles.opened.entries new.handles.opened.entries place shown.keys which opening_is noted;
-        places = places_answered c m es at asked r reply p.stands.are p.stands.event old.calls shown.calls p.place p.call p.waits old.handles.opened.entries shown.keys listed
-            (subst (λ x. ListsStillIfAny old.handles.opened.entries x r.body reply listed) p.own lists) old.listings.by_key.entries new.listings.by_key.entries listed_so shown.places;
+        nodes = nodes_answered es at asked r reply old.tables.nodes.known.entries new.tables.nodes.known.entries names place shown.nodes p.may p.named gave;
+        keys = keys_answered es at asked r reply old.tables.handles.opened.entries new.tables.handles.opened.entries place shown.keys which opening_is noted;
+        places = places_answered c m es at asked r reply p.stands.are p.stands.event old.calls shown.calls p.place p.call p.waits old.tables.handles.opened.entries shown.keys listed
+            (subst (λ x. ListsStillIfAny old.tables.handles.opened.entries x r.body reply listed) p.own lists) old.listings.by_key.entries new.listings.by_key.entries listed_so shown.places;
         calls = subst (AreCallsOf (here at)) (sym answered) (subst (λ n. AreCallsOf (here n) (with_answer old.calls asked o answer)) (sym place) calls);
       }
 
   -- what opens a key anew is more to be kept
   pub keys_more : (names : List NodeName) (which : Option (Key × OpenOut))
-      → IsPrepared c m es at asked r reply old names which → IsTrue (opens_new old.handles.opened.entries which) → IsMoreKept es (Answered at asked r reply)
+      → IsPrepared c m es at asked r reply old names which → IsTrue (opens_new old.tables.handles.opened.entries which) → IsMoreKept es (Answered at asked r reply)
   keys_more names which p new =
       let place = event_place p.stands in
       let shown = p.stands.shown in
-      let named = names_answered es at asked r reply old.nodes.known.entries names place shown.nodes p.may p.named in
+      let named = names_answered es at asked r reply old.tables.nodes.known.entries names place shown.nodes p.may p.named in
       let opening_is : opening es (Answered at asked r reply) ≡ which =
       opening_answered es at asked r reply p.waiting.node names (asked_name names which p) named ∙ sym p.opens in
-      let anew = opens_answered es at asked r reply old.handles.opened.entries place shown.keys which opening_is (opens_new old.handles.opened.entries which) refl in
-      inr (inr (inl (subst (OpensAnew (es ++ Answered at asked r reply ∷ [])) (sym place) (anew.0 new))))
+      opens_more es at asked r reply old.tables.handles.opened.entries which place shown.keys opening_is new
 
   -- and so is where a listing has its offsets
   pub listed_more : (place : ℕ) (call : PlainCall) (waiting : WaitingCall) (listed : Option ListedOn)
-      → Stands c m es (Answered at asked r reply) old → WaitsAt old.calls asked place call → waiting ≡ waiting_of call → ListsStillIfAny old.handles.opened.entries waiting r.body reply listed → ListsNew old.listings.by_key.entries listed
+      → Stands c m es (Answered at asked r reply) old → WaitsAt old.calls asked place call → waiting ≡ waiting_of call → ListsStillIfAny old.tables.handles.opened.entries waiting r.body reply listed → ListsNew old.listings.by_key.entries listed
       → IsMoreKept es (Answered at asked r reply)
   listed_more place call waiting None stands waits own lists new = absurd new
   listed_more place call waiting (Some l) stands waits own lists new =
-      inr (inr (inr (lists_on c m es at asked r reply stands.are stands.event old.calls stands.shown.calls place call waits old.handles.opened.entries stands.shown.keys l
-      (subst (λ x. ListsStillIfAny old.handles.opened.entries x r.body reply (Some l)) own lists) old.listings.by_key.entries stands.shown.places new)))
+      inr (inr (inr (lists_on c m es at asked r reply stands.are stands.event old.calls stands.shown.calls place call waits old.tables.handles.opened.entries stands.shown.keys l
+      (subst (λ x. ListsStillIfAny old.tables.handles.opened.entries x r.body reply (Some l)) own lists) old.listings.by_key.entries stands.shown.places new)))
 
   -- no place that the books have is of this request
   pub listed_anew : Stands c m es (Answered at asked r reply) old
       → (table : List (Key × Offsets)) → ((key : Key) (offset : ℕ) → place_of table key offset ≡ place_of old.listings.by_key.entries key offset)
       → (key : Key) (offset : ℕ) (place : Place) → place_of table key offset ≡ Some place → place.asked ≢ asked
   listed_anew stands table same key offset place there =
-      answered_anew c m es at asked r reply stands.are stands.event old.handles.opened.entries stands.shown.keys (place_of old.listings.by_key.entries) stands.shown.places key offset place (sym (same key offset) ∙ there)
+      answered_anew c m es at asked r reply stands.are stands.event old.tables.handles.opened.entries stands.shown.keys (place_of old.listings.by_key.entries) stands.shown.places key offset place (sym (same key offset) ∙ there)
 
   -- ---- the answer to any other request
 
@@ -217,17 +191,17 @@ module _ (c : List Message) (m : Message) (es : List PlainEvent) (at asked : ℕ
 
   pub plain_shows : (new : Books) (settles : Bool)
       → Stands c m es (Answered at asked r reply) old → (IsTreeRequest r.body → ⊥) → IsTrue settles ↔ SettlesTruncation r.body reply → new.truncating ≡ (old.truncating || settles)
-      → new.nodes ≡ old.nodes → new.handles ≡ old.handles → new.listings ≡ old.listings → new.calls ≡ old.calls → BooksShow (es ++ Answered at asked r reply ∷ []) new
-  plain_shows new settles stands no_tree settled truncates nodes keys listings calls =
+      → new.tables ≡ old.tables → new.listings ≡ old.listings → new.calls ≡ old.calls → BooksShow (es ++ Answered at asked r reply ∷ []) new
+  plain_shows new settles stands no_tree settled truncates tables listings calls =
       let e : PlainEvent = Answered at asked r reply in
       let nothing = plain_gives_nothing c m at asked r reply stands.event no_tree in
       let flag = flag_settled es at asked r reply (event_place stands) old.truncating settles stands.shown.truncating settled in
       record {
         truncating = ((λ yes. flag.0 (subst IsTrue truncates yes)), (λ has. subst IsTrue (sym truncates) (flag.1 has)));
-        nodes = λ node. subst (λ (n : Nodes). IsNodeOf (es ++ e ∷ []) node (lookup (nat_eq node) n.known.entries)) (sym nodes)
-            (node_kept es e node (lookup (nat_eq node) old.nodes.known.entries) (ap (count_by (λ given. given == node)) nothing.0) refl (stands.shown.nodes node));
-        keys = λ key. subst (λ (h : Handles). IsKeyOf (es ++ e ∷ []) key (lookup (key_eq key) h.opened.entries)) (sym keys)
-            (key_unmoved es e key (lookup (key_eq key) old.handles.opened.entries) (none_unopened es e key (nothing.1 es)) refl (stands.shown.keys key));
+        nodes = λ node. subst (λ (t : Tables). IsNodeOf (es ++ e ∷ []) node (lookup (nat_eq node) t.nodes.known.entries)) (sym tables)
+            (node_kept es e node (lookup (nat_eq node) old.tables.nodes.known.entries) (ap (count_by (λ given. given == node)) nothing.0) refl (stands.shown.nodes node));
+        keys = λ key. subst (λ (t : Tables). IsKeyOf (es ++ e ∷ []) key (lookup (key_eq key) t.handles.opened.entries)) (sym tables)
+            (key_unmoved es e key (lookup (key_eq key) old.tables.handles.opened.entries) (none_unopened es e key (nothing.1 es)) refl (stands.shown.keys key));
         places = subst (λ (l : Listings). ArePlaces (es ++ e ∷ []) (place_of l.by_key.entries)) (sym listings)
             (places_replied c m es at asked r reply stands.are stands.event no_tree (place_of old.listings.by_key.entries) stands.shown.places);
         calls = subst (AreCallsOf (es ++ e ∷ [])) (sym calls) (calls_kept es e old.calls stands.shown.calls (λ p s is tree. absurd cc)

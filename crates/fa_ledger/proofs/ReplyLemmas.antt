@@ -1,5 +1,5 @@
 -- What an answer does to the books, by what it gives, opens and settles.
-use Rattle.std.proofs.Common.{◌≡◌, ◌≢◌, ℕ, zero, suc, ◌<◌, ◌⊎◌, Bool, true, false, cond, List, [], ◌∷◌, ◌++◌, length, take, Option, Some, None, refl, sym, ap, subst, ◌∙◌, inl, inr, arith}
+use Rattle.std.proofs.Common.{◌≡◌, ◌≢◌, ℕ, zero, suc, ◌+◌, ◌<◌, ◌≤◌, ◌⊎◌, Bool, true, false, cond, List, [], ◌∷◌, ◌++◌, length, take, Option, Some, None, refl, sym, ap, subst, ◌∙◌, inl, inr, arith}
 use Rattle.std.specs.Prelude.{◌↔◌, ◌==◌, ◌||◌, if◌then◌else◌, slice_get, nat_eq, is_none, map, option_map, count_by, IsTrue, All, Contains}
 use Rattle.std.specs.List.{list_any}
 use Rattle.std.specs.Map.{lookup}
@@ -8,6 +8,8 @@ use Rattle.std.proofs.lemmas.Bool.Decides.{nat_tests}
 use Rattle.std.proofs.lemmas.List.Elements.{All-contains}
 use Rattle.std.proofs.lemmas.List.Sums.{sum_by-cons}
 use Rattle.std.proofs.lemmas.Option.{same_Some}
+use Rattle.std.proofs.lemmas.List.{length-map}
+use Rattle.fa_capture.specs.declared.limits.TheConstants.{MAX_MESSAGES}
 use Rattle.fa_capture.specs.Message.{Message}
 use Rattle.fa_capture.proofs.CallerLemmas.{contains_first, contains_behind, counted_there, get_kept, get_back, get_last, get_cases, take_all_before}
 use Rattle.fa_bodies.specs.declared.handles.OpenOut.{OpenOut}
@@ -27,6 +29,7 @@ use Rattle.fa_ledger.specs.declared.key.Key.{Key}
 use Rattle.fa_ledger.specs.declared.name.NodeName.{NodeName}
 use Rattle.fa_ledger.specs.declared.name.NodeName.TheVariants.{Root, Given}
 use Rattle.fa_ledger.specs.declared.nodes.Lookups.{Lookups}
+use Rattle.fa_ledger.specs.Events.{AreEvents}
 use Rattle.fa_ledger.specs.Counts.{nodes_given, nodes_of_listing, times_given, IsCounted}
 use Rattle.fa_ledger.specs.Names.{name_at}
 use Rattle.fa_ledger.specs.Keys.{key_eq}
@@ -35,11 +38,11 @@ use Rattle.fa_ledger.specs.Handles.{opened_by, opening, times_opened, times_clos
 use Rattle.fa_ledger.specs.Passing.{MayBeGiven}
 use Rattle.fa_ledger.specs.Calls.{IsNegotiatedFlag, OpensAnew}
 use Rattle.fa_ledger.specs.Shows.{IsNodeOf, IsKeyOf}
-use Rattle.fa_ledger.specs.Refusals.{GivesNew, ListsNodes}
-use Rattle.fa_ledger.specs.parts.BookParts.{NodesShow, KeysShow}
-use Rattle.fa_ledger.specs.parts.Steps.{IsListedReply, opened_with, SettlesTruncation, given_again, given_to, times_named, is_new, some_new, opened_again, IsOpenedBy}
+use Rattle.fa_ledger.specs.Refusals.{GivesNew, ListsNodes, IsMoreKept}
+use Rattle.fa_ledger.specs.parts.TableParts.{NodesShow, KeysShow}
+use Rattle.fa_ledger.specs.parts.Steps.{IsListedReply, opened_with, SettlesTruncation, given_again, given_to, times_named, count_left, opens_new, is_new, some_new, opened_again, IsOpenedBy}
 use Rattle.fa_ledger.proofs.NameLemmas.{not_root}
-use Rattle.fa_ledger.proofs.NodeLemmas.{node_given, name_of_node, names_counted}
+use Rattle.fa_ledger.proofs.NodeLemmas.{node_given, name_of_node, names_counted, given_within, left_within, reply_few}
 use Rattle.fa_ledger.proofs.HandleLemmas.{key_same}
 use Rattle.fa_ledger.proofs.KeyLemmas.{either_mark, other_unopened, none_unopened, key_unmoved, key_opened, open_is_some}
 
@@ -354,3 +357,29 @@ module _ (es : List PlainEvent) (at asked : ℕ) (r : PlainRequest) (reply : Pla
             let request : r ≡ last.2 = cc in
             inr (so_settled r.body reply last.3 last.4 (ap (λ (x : PlainRequest). x.body) request ∙ last.6) says last.7 last.8)
       ])
+
+-- ---- bounds
+
+-- what is left of a node and what an answer gives fit
+pub give_fits : (c : List Message) (m : Message) (es : List PlainEvent) (at asked : ℕ) (r : PlainRequest) (reply : PlainReply) (known : List (ℕ × Lookups)) (names : List NodeName)
+    → AreEvents c es → length c < MAX_MESSAGES → IsEvent c m (Answered at asked r reply) → NodesShow es known
+    → names ≡ map (λ id. given_to id at (lookup (nat_eq id) known)) (nodes_given r.body reply) → (node : ℕ) → count_left (lookup (nat_eq node) known) + length names ≤ 18446744073709551615
+give_fits c m es at asked r reply known names are below event shown is node =
+    let long : length names ≡ length (nodes_given r.body reply) = ap length is ∙ length-map (nodes_given r.body reply) (λ id. given_to id at (lookup (nat_eq id) known)) in
+    let few : length es < 16777216 = omega (arith, below, are.counted) in
+    omega (arith, long, few, reply_few c m at asked r reply event, left_within es node (lookup (nat_eq node) known) (shown node), given_within c es node are)
+
+-- ---- what more is to be kept
+
+pub names_more : (es : List PlainEvent) (at asked : ℕ) (r : PlainRequest) (reply : PlainReply) → IsListedReply reply × ((nodes_given r.body reply ≡ []) → ⊥) → IsMoreKept es (Answered at asked r reply)
+names_more es at asked r reply why = inr (inl (some_is_listed r reply why.0 why.1))
+
+pub nodes_more : (es : List PlainEvent) (at asked : ℕ) (r : PlainRequest) (reply : PlainReply) (known : List (ℕ × Lookups)) (names : List NodeName) → NodesShow es known
+    → names ≡ map (λ id. given_to id at (lookup (nat_eq id) known)) (nodes_given r.body reply) → IsTrue (some_new known names) → IsMoreKept es (Answered at asked r reply)
+nodes_more es at asked r reply known names shown named new = inl (new_is_uncounted es r reply at known names shown named new)
+
+pub opens_more : (es : List PlainEvent) (at asked : ℕ) (r : PlainRequest) (reply : PlainReply) (opened : List (Key × Handle)) (which : Option (Key × OpenOut))
+    → at ≡ length es → KeysShow es opened → opening es (Answered at asked r reply) ≡ which → IsTrue (opens_new opened which) → IsMoreKept es (Answered at asked r reply)
+opens_more es at asked r reply opened which place shown opening_is new =
+    let anew = opens_answered es at asked r reply opened place shown which opening_is (opens_new opened which) refl in
+    inr (inr (inl (subst (OpensAnew (es ++ Answered at asked r reply ∷ [])) (sym place) (anew.0 new))))

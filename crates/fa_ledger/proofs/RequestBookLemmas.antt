@@ -1,23 +1,17 @@
 -- A request that is noted in the books: what it leaves, what it takes, what it closes and what it adds.
-use Rattle.std.proofs.Common.{◌≡◌, ℕ, ◌<◌, ◌≤◌, Bool, true, false, cond, List, [], ◌∷◌, ◌++◌, length, Option, None, Some, refl, sym, ap, subst, ◌∙◌, inl, inr, arith}
-use Rattle.std.specs.Prelude.{◌↔◌, nat_eq, All, IsTrue, IsSome, MatchOption, IsSomeAnd, is_none, is_some, slice_get, option_map, option_and_then}
-use Rattle.std.specs.Borrow.{Bor}
+use Rattle.std.proofs.Common.{◌≡◌, ℕ, Bool, true, false, cond, List, [], ◌∷◌, ◌++◌, length, Option, None, Some, refl, sym, ap, subst, ◌∙◌, inl, inr}
+use Rattle.std.specs.Prelude.{◌↔◌, nat_eq, IsTrue, MatchOption, IsSomeAnd, is_none, slice_get, option_map, option_and_then}
 use Rattle.std.specs.Map.{lookup}
-use Rattle.fa_capture.specs.declared.codes.TheConstants.{FORGOTTEN_TOO_OFTEN, CLOSED_HANDLE}
-use Rattle.fa_capture.specs.Checks.{AllHold, FirstFailure}
 use Rattle.fa_capture.specs.Message.{Message}
 use Rattle.fa_capture.proofs.CallerLemmas.{get_kept, get_back, get_cases}
 use Rattle.fa_bodies.specs.FlagBits.{atomic_o_trunc}
-use Rattle.fa_bodies.specs.declared.requests.RequestBody.{RequestBody}
-use Rattle.fa_bodies.specs.declared.requests.RequestBody.TheVariants as declared
-use Rattle.fa_bodies.specs.Requests.{PlainRequest, PlainBody, body_shown}
-use Rattle.fa_bodies.specs.Requests.PlainBody.{Forget, Release, Init, Releasedir, BatchForget, Passed}
+use Rattle.fa_bodies.specs.Requests.{PlainRequest, PlainBody}
 use Rattle.fa_bodies.specs.Replies.PlainReply.{InitAnswer}
 use Rattle.fa_session.specs.Events.{PlainEvent}
 use Rattle.fa_session.specs.Events.PlainEvent.{Asked, Answered}
 use Rattle.fa_ledger.specs.declared.books.Books.{Books}
-use Rattle.fa_ledger.specs.declared.books.Names.{Names}
-use Rattle.fa_ledger.specs.declared.books.Used.{Used}
+use Rattle.fa_ledger.specs.declared.tables.Names.{Names}
+use Rattle.fa_ledger.specs.declared.tables.Used.{Used}
 use Rattle.fa_ledger.specs.declared.call.Listing.{Listing}
 use Rattle.fa_ledger.specs.declared.call_list.CallList.{CallList}
 use Rattle.fa_ledger.specs.declared.handles.Handle.{Handle}
@@ -26,57 +20,32 @@ use Rattle.fa_ledger.specs.declared.key.Key.{Key}
 use Rattle.fa_ledger.specs.declared.listings.Listings.{Listings}
 use Rattle.fa_ledger.specs.declared.listings.Place.{Place}
 use Rattle.fa_ledger.specs.declared.name.NodeName.{NodeName}
-use Rattle.fa_ledger.specs.declared.nodes.Lookups.{Lookups}
 use Rattle.fa_ledger.specs.declared.nodes.Nodes.{Nodes}
 use Rattle.fa_ledger.specs.Mentions.{mentions}
-use Rattle.fa_ledger.specs.Counts.{request_takes, total_taken, lookups_given, IsKnown}
+use Rattle.fa_ledger.specs.Counts.{request_takes, total_taken}
 use Rattle.fa_ledger.specs.Names.{name_at, nodes_named}
-use Rattle.fa_ledger.specs.Keys.{key_eq, key_at, key_used, handle_used}
+use Rattle.fa_ledger.specs.Keys.{key_eq, key_at, key_used}
 use Rattle.fa_ledger.specs.Kinds.{IsTreeRequest}
-use Rattle.fa_ledger.specs.Handles.{is_closing, closing, IsDirect}
-use Rattle.fa_ledger.specs.declared.operation.Operation.{Operation}
-use Rattle.fa_ledger.specs.Operations.{PlainOperation, operation_of, operation_shown}
+use Rattle.fa_ledger.specs.Handles.{is_closing, IsDirect}
+use Rattle.fa_ledger.specs.Operations.{PlainOperation, operation_of}
 use Rattle.fa_ledger.proofs.OperationLemmas.{operation_asked}
 use Rattle.fa_ledger.specs.Calls.{PlainCall, IsNegotiatedFlag, Truncates, IsHandleUsed, IsMark, IsAskedCall, AreCallsOf}
-use Rattle.fa_ledger.specs.Passing.{NamesKnown, TakesWithin, UsesOpen}
 use Rattle.fa_ledger.specs.Listings.{IsListingIfAny, offset_asked}
-use Rattle.fa_ledger.specs.Shows.{IsNodeOf, IsKeyOf, ArePlaces}
+use Rattle.fa_ledger.specs.Shows.{ArePlaces}
 use Rattle.fa_ledger.specs.parts.ListingParts.{place_of, listing_by}
 use Rattle.fa_ledger.specs.parts.RowParts.{AreNotBoth}
-use Rattle.fa_ledger.specs.parts.BookParts.{NodesShow, KeysShow, BooksShow, Stands, AreNames, AreNamesIfAny, IsUsed, IsUsedIfAny, asked_checks}
-use Rattle.fa_ledger.specs.parts.Steps.{closed_once, but_root, AreWithin, IsTakenFrom, count_left}
-use Rattle.fa_ledger.proofs.HandleLemmas.{key_same}
-use Rattle.fa_ledger.proofs.KeyLemmas.{other_unclosed, none_unopened, none_unclosed, open_is_some, key_unmoved, key_closed}
-use Rattle.fa_ledger.proofs.NodeLemmas.{node_kept, node_taken, within_now, given_within}
+use Rattle.fa_ledger.specs.parts.TableParts.{AreNames, IsUsed, IsUsedIfAny}
+use Rattle.fa_ledger.specs.parts.BookParts.{BooksShow, Stands}
+use Rattle.fa_ledger.specs.parts.Steps.{closed_once, but_root, IsTakenFrom}
+use Rattle.fa_ledger.proofs.NodeLemmas.{node_taken}
 use Rattle.fa_ledger.proofs.PlaceBookLemmas.{places_asked, places_closed, none_gone, listing_asked, IsClosedOnce}
-use Rattle.fa_ledger.proofs.TakingLemmas.{no_item}
+use Rattle.fa_ledger.proofs.RequestLemmas.{NamesNone, names_none, tree_not_closing, nodes_kept, keys_kept, keys_closed}
 use Rattle.fa_ledger.proofs.CallStepLemmas.{calls_kept, calls_asked}
 
 -- what follows of a value, and else what holds of none
 pub match_then : {A : Type 0} (o : Option A) (P : Type 0) {Q : A → Type 0} (R : A → Type 0) → MatchOption o P Q → ((x : A) → Q x → R x) → MatchOption o P R
 match_then None P R is follows = is
 match_then (Some x) P R is follows = follows x is
-
--- ---- kinds of requests
-
--- a tree request closes nothing
-tree_not_closing : (b : PlainBody) → IsTreeRequest b → is_closing b ≡ false
-tree_not_closing (Release r) tree = absurd cc
-tree_not_closing (Releasedir r) tree = absurd cc
-tree_not_closing other tree = refl
-
--- a request that names no nodes is no tree request, closes nothing and uses no handle
-record NamesNone (b : PlainBody) : Type 0 where
-  no_tree : IsTreeRequest b → ⊥
-  leaves : is_closing b ≡ false
-  uses : handle_used b ≡ None
-
-names_none : (node : ℕ) (b : PlainBody) → (mentions b).names node ≡ [] → NamesNone b
-names_none node (Forget nlookup) none = record { no_tree = λ tree. absurd cc; leaves = refl; uses = refl }
-names_none node (Init i) none = record { no_tree = λ tree. absurd cc; leaves = refl; uses = refl }
-names_none node (BatchForget count items) none = record { no_tree = λ tree. absurd cc; leaves = refl; uses = refl }
-names_none node Passed none = record { no_tree = λ tree. absurd cc; leaves = refl; uses = refl }
-names_none node other none = absurd cc
 
 -- a request that lists names one node
 names_one : (node : ℕ) (b : PlainBody) (offset : ℕ) → offset_asked b ≡ Some offset → slice_get ((mentions b).names node) 1 ≡ None
@@ -95,12 +64,6 @@ listing_apart es r names used place are = by names.other are.other (offset_asked
         let clash : None ≡ Some (Some other) = sym (ap (option_map (λ node. name_at es node)) (names_one r.node r.body offset asks)) ∙ is in
         absurd cc
 
--- only FORGET and BATCH_FORGET take
-pub takes_none : (node : ℕ) (b : RequestBody) → ((nlookup : ℕ) → b ≡ declared.Forget nlookup → ⊥) → ((count : ℕ) (items : Bor (List ℕ)) → b ≡ declared.BatchForget count items → ⊥) → but_root ((mentions (body_shown b)).takes node) ≡ []
-takes_none node (declared.Forget nlookup) no_forget no_batch = absurd (no_forget nlookup refl)
-takes_none node (declared.BatchForget count items) no_forget no_batch = absurd (no_batch count items refl)
-takes_none node other no_forget no_batch = refl
-
 -- ---- what any request leaves
 
 -- the flags of INIT
@@ -118,41 +81,12 @@ mark_kept es at r flag mark is =
     let kept = flag_kept es at r flag in
     (λ marked. kept.1 (is.0 marked), λ has. is.1 (kept.0 has))
 
--- the nodes, where it takes nothing
-nodes_kept : (es : List PlainEvent) (at : ℕ) (r : PlainRequest) (known : List (ℕ × Lookups)) → request_takes r ≡ [] → NodesShow es known → NodesShow (es ++ Asked at r ∷ []) known
-nodes_kept es at r known none show node = node_kept es (Asked at r) node (lookup (nat_eq node) known) refl (ap (total_taken node) none) (show node)
-
--- the keys, where it closes none
-keys_kept : (es : List PlainEvent) (at : ℕ) (r : PlainRequest) (opened : List (Key × Handle)) → is_closing r.body ≡ false → KeysShow es opened → KeysShow (es ++ Asked at r ∷ []) opened
-keys_kept es at r opened leaves show key =
-    let none : closing es (Asked at r) ≡ None = rw leaves refl in
-    key_unmoved es (Asked at r) key (lookup (key_eq key) opened) (none_unopened es (Asked at r) key refl) (none_unclosed es (Asked at r) key none) (show key)
-
 -- the calls, where it is no tree request
 others_kept : (es : List PlainEvent) (at : ℕ) (r : PlainRequest) (calls : List PlainCall) → (IsTreeRequest r.body → ⊥) → AreCallsOf es calls → AreCallsOf (es ++ Asked at r ∷ []) calls
 others_kept es at r calls no_tree are =
     calls_kept es (Asked at r) calls are
     (λ p s same tree. no_tree (let requests : s ≡ r = cc in subst (λ (q : PlainRequest). IsTreeRequest q.body) requests tree))
     (λ n p s reply same tree. absurd cc)
-
--- ---- a closing request
-
--- the keys, where one is closed once
-keys_closed : (es : List PlainEvent) (at : ℕ) (r : PlainRequest) (old new : List (Key × Handle)) (used : Used) → is_closing r.body ≡ true → IsUsed es r old used
-    → ((other : Key) → lookup (key_eq other) new ≡ cond (key_eq used.key other) (closed_once (lookup (key_eq used.key) old)) (lookup (key_eq other) old))
-    → KeysShow es old → KeysShow (es ++ Asked at r ∷ []) new
-keys_closed es at r old new used closes is wrote show other =
-    let e : PlainEvent = Asked at r in
-    let closed : closing es e ≡ Some used.key = rw closes is.key in
-    elim (key_eq used.key other) as (λ b. key_eq used.key other ≡ b → lookup (key_eq other) new ≡ cond b (closed_once (lookup (key_eq used.key) old)) (lookup (key_eq other) old) → IsKeyOf (es ++ e ∷ []) other (lookup (key_eq other) new)) [
-      | true ↦ λ test now.
-          let same : used.key ≡ other = key_same used.key other test in
-          let now_closed = key_closed es e used.key (lookup (key_eq used.key) old) closed (open_is_some es used.key used.handle is.«open») (show used.key) in
-          subst (IsKeyOf (es ++ e ∷ []) other) (sym now) (subst (λ k. IsKeyOf (es ++ e ∷ []) k (closed_once (lookup (key_eq used.key) old))) same now_closed)
-      | false ↦ λ test now.
-          subst (IsKeyOf (es ++ e ∷ []) other) (sym now)
-          (key_unmoved es e other (lookup (key_eq other) old) (none_unopened es e other refl) (other_unclosed es e used.key other closed test) (show other))
-    ] refl (wrote other)
 
 -- ---- a tree request
 
@@ -190,74 +124,6 @@ new_call at o names handle direct truncates listing = record {
   answer = None;
 }
 
--- ---- what is taken
-
--- items take no more than is left exactly where the table says so
-takes_within : (es : List PlainEvent) (r : PlainRequest) (known : List (ℕ × Lookups)) (items : List (ℕ × ℕ)) → request_takes r ≡ but_root items → NodesShow es known
-    → AreWithin known (but_root items) → TakesWithin es r
-takes_within es r known items takes show within earlier later node nlookup is =
-    (within_now es node (lookup (nat_eq node) known) (total_taken node earlier) nlookup (show node)).1 (within earlier later node nlookup (sym takes ∙ is))
-
-within_takes : (es : List PlainEvent) (r : PlainRequest) (known : List (ℕ × Lookups)) (items : List (ℕ × ℕ)) → request_takes r ≡ but_root items → NodesShow es known
-    → TakesWithin es r → AreWithin known (but_root items)
-within_takes es r known items takes show within earlier later node nlookup is =
-    (within_now es node (lookup (nat_eq node) known) (total_taken node earlier) nlookup (show node)).0 (within earlier later node nlookup (takes ∙ is))
-
--- no more is left of a node than was given
-pub left_within : (es : List PlainEvent) (node : ℕ) (x : Option Lookups) → IsNodeOf es node x → count_left x ≤ lookups_given es node
-left_within es node None is = omega arith
-left_within es node (Some l) is = omega (arith, is.left)
-
--- what is left of a node fits
-pub left_few : (c : List Message) (m : Message) (es : List PlainEvent) (e : PlainEvent) (b : Books) → Stands c m es e b → (node : ℕ) → count_left (lookup (nat_eq node) b.nodes.known.entries) < 18446744073709551616
-left_few c m es e b stands node =
-    let few : length c < 16777216 = stands.few in
-    omega (arith, few, stands.are.counted, left_within es node (lookup (nat_eq node) b.nodes.known.entries) (stands.shown.nodes node), given_within c es node stands.are)
-
--- where no node is named, each that is named is known
-none_known : (es : List PlainEvent) (r : PlainRequest) → nodes_named r ≡ [] → NamesKnown es r
-none_known es r none = subst (All (IsKnown es)) (sym none) (λ k d within. absurd (omega (arith, within)))
-
--- the rules hold of what takes no more than is left
-pub takes_keep : (es : List PlainEvent) (r : PlainRequest) (known : List (ℕ × Lookups)) (items : List (ℕ × ℕ)) → nodes_named r ≡ [] → request_takes r ≡ but_root items → NodesShow es known
-    → AreWithin known (but_root items) → AllHold (asked_checks es r)
-takes_keep es r known items none takes show within =
-    (none_known es r none, (takes_within es r known items takes show within, (inl (names_none r.node r.body none).uses, tt)))
-
--- what takes more breaks the second
-pub takes_fail : (es : List PlainEvent) (r : PlainRequest) (known : List (ℕ × Lookups)) (items : List (ℕ × ℕ)) (code : ℕ) → nodes_named r ≡ [] → request_takes r ≡ but_root items → NodesShow es known
-    → (AreWithin known (but_root items) → ⊥) → code ≡ FORGOTTEN_TOO_OFTEN → FirstFailure (asked_checks es r) code
-takes_fail es r known items code none takes show over is =
-    inr (none_known es r none, inl ((λ within. over (within_takes es r known items takes show within)), is))
-
--- ---- requests that take nothing
-
--- where nothing is taken, no more is than is left
-nothing_taken : (es : List PlainEvent) (r : PlainRequest) → request_takes r ≡ [] → TakesWithin es r
-nothing_taken es r takes earlier later node nlookup is = absurd (no_item earlier (node, nlookup) later (sym takes ∙ is))
-
--- a request that names no nodes and takes nothing keeps the rules
-pub none_keep : (es : List PlainEvent) (r : PlainRequest) → nodes_named r ≡ [] → request_takes r ≡ [] → AllHold (asked_checks es r)
-none_keep es r none takes = (none_known es r none, (nothing_taken es r takes, (inl (names_none r.node r.body none).uses, tt)))
-
--- the names of the nodes of a request that names some
-pub names_there : {o : Option Names} (es : List PlainEvent) (r : PlainRequest) (names : Names) → o ≡ Some names → AreNamesIfAny es r o → AreNames es r names
-names_there es r names is are = subst (AreNamesIfAny es r) is are
-
--- a handle that is used is open
-used_stands : (es : List PlainEvent) (r : PlainRequest) (opened : List (Key × Handle)) (used : Option Used) → IsUsedIfAny es r opened used → UsesOpen es r
-used_stands es r opened None is = inl is
-used_stands es r opened (Some used) is = inr (used.key, is.key, open_is_some es used.key used.handle is.«open»)
-
--- a request that names known nodes and uses an open handle keeps the rules
-pub uses_keep : (es : List PlainEvent) (r : PlainRequest) (opened : List (Key × Handle)) (names : Names) (used : Option Used) → AreNames es r names → request_takes r ≡ [] → IsUsedIfAny es r opened used
-    → AllHold (asked_checks es r)
-uses_keep es r opened names used are takes is = (are.known, (nothing_taken es r takes, (used_stands es r opened used is, tt)))
-
--- one whose handle is not open breaks the third
-pub uses_fail : (es : List PlainEvent) (r : PlainRequest) (names : Names) (code : ℕ) → AreNames es r names → request_takes r ≡ [] → (UsesOpen es r → ⊥) → code ≡ CLOSED_HANDLE → FirstFailure (asked_checks es r) code
-uses_fail es r names code are takes not_open is = inr (are.known, inr (nothing_taken es r takes, inl (not_open, is)))
-
 -- ---- the books behind a request that names nodes
 
 module _ (c : List Message) (m : Message) (es : List PlainEvent) (at : ℕ) (r : PlainRequest) (b : Books) where
@@ -265,7 +131,7 @@ module _ (c : List Message) (m : Message) (es : List PlainEvent) (at : ℕ) (r :
   places_kept : Stands c m es (Asked at r) b → is_closing r.body ≡ false
       → ArePlaces (es ++ Asked at r ∷ []) (place_of b.listings.by_key.entries)
   places_kept stands leaves =
-      let opened = b.handles.opened.entries in
+      let opened = b.tables.handles.opened.entries in
       places_asked c m es at r stands.are stands.event opened opened stands.shown.keys (keys_kept es at r opened leaves stands.shown.keys) (λ key stood. stood) (place_of b.listings.by_key.entries) stands.shown.places
 
   -- one that is no tree request and closes nothing leaves them as they are
@@ -273,25 +139,25 @@ module _ (c : List Message) (m : Message) (es : List PlainEvent) (at : ℕ) (r :
       → BooksShow (es ++ Asked at r ∷ []) b
   shows_left none leaves no_tree stands = let shown = stands.shown in record {
     truncating = mark_kept es at r atomic_o_trunc b.truncating shown.truncating;
-    nodes = nodes_kept es at r b.nodes.known.entries none shown.nodes;
-    keys = keys_kept es at r b.handles.opened.entries leaves shown.keys;
+    nodes = nodes_kept es at r b.tables.nodes.known.entries none shown.nodes;
+    keys = keys_kept es at r b.tables.handles.opened.entries leaves shown.keys;
     places = places_kept stands leaves;
     calls = others_kept es at r b.calls no_tree shown.calls;
   }
 
   -- a closing closes its key once, which stays open
   pub shows_closed : (handles : Handles) (used : Used) → request_takes r ≡ [] → is_closing r.body ≡ true → (IsTreeRequest r.body → ⊥)
-      → IsUsed es r b.handles.opened.entries used → IsClosedOnce used.key b.handles.opened.entries handles.opened.entries
-      → false ≡ is_none (closed_once (lookup (key_eq used.key) b.handles.opened.entries))
-      → Stands c m es (Asked at r) b → BooksShow (es ++ Asked at r ∷ []) (record b { handles = handles })
+      → IsUsed es r b.tables.handles.opened.entries used → IsClosedOnce used.key b.tables.handles.opened.entries handles.opened.entries
+      → false ≡ is_none (closed_once (lookup (key_eq used.key) b.tables.handles.opened.entries))
+      → Stands c m es (Asked at r) b → BooksShow (es ++ Asked at r ∷ []) (record b { tables = record b.tables { handles = handles } })
   shows_closed handles used none closes no_tree is wrote left stands =
       let shown = stands.shown in
-      let old = b.handles.opened.entries in
+      let old = b.tables.handles.opened.entries in
       let new = handles.opened.entries in
       let keys = keys_closed es at r old new used closes is wrote shown.keys in
       record {
         truncating = mark_kept es at r atomic_o_trunc b.truncating shown.truncating;
-        nodes = nodes_kept es at r b.nodes.known.entries none shown.nodes;
+        nodes = nodes_kept es at r b.tables.nodes.known.entries none shown.nodes;
         keys = keys;
         places = places_asked c m es at r stands.are stands.event old new shown.keys keys (none_gone used.key old new wrote left) (place_of b.listings.by_key.entries) shown.places;
         calls = others_kept es at r b.calls no_tree shown.calls;
@@ -299,18 +165,18 @@ module _ (c : List Message) (m : Message) (es : List PlainEvent) (at : ℕ) (r :
 
   -- or which is closed for good: then its places are forgotten
   pub shows_gone : (handles : Handles) (listings : Listings) (used : Used) → request_takes r ≡ [] → is_closing r.body ≡ true → (IsTreeRequest r.body → ⊥)
-      → IsUsed es r b.handles.opened.entries used → IsClosedOnce used.key b.handles.opened.entries handles.opened.entries
-      → true ≡ is_none (closed_once (lookup (key_eq used.key) b.handles.opened.entries))
+      → IsUsed es r b.tables.handles.opened.entries used → IsClosedOnce used.key b.tables.handles.opened.entries handles.opened.entries
+      → true ≡ is_none (closed_once (lookup (key_eq used.key) b.tables.handles.opened.entries))
       → ((other : Key) (offset : ℕ) → place_of listings.by_key.entries other offset ≡ cond (key_eq used.key other) None (place_of b.listings.by_key.entries other offset))
-      → Stands c m es (Asked at r) b → BooksShow (es ++ Asked at r ∷ []) (record b { handles = handles; listings = listings })
+      → Stands c m es (Asked at r) b → BooksShow (es ++ Asked at r ∷ []) (record b { tables = record b.tables { handles = handles }; listings = listings })
   shows_gone handles listings used none closes no_tree is wrote gone forgot stands =
       let shown = stands.shown in
-      let old = b.handles.opened.entries in
+      let old = b.tables.handles.opened.entries in
       let new = handles.opened.entries in
       let keys = keys_closed es at r old new used closes is wrote shown.keys in
       record {
         truncating = mark_kept es at r atomic_o_trunc b.truncating shown.truncating;
-        nodes = nodes_kept es at r b.nodes.known.entries none shown.nodes;
+        nodes = nodes_kept es at r b.tables.nodes.known.entries none shown.nodes;
         keys = keys;
         places = places_closed c m es at r stands.are stands.event used.key old new shown.keys keys wrote gone (place_of b.listings.by_key.entries) (place_of listings.by_key.entries) forgot shown.places;
         calls = others_kept es at r b.calls no_tree shown.calls;
@@ -318,7 +184,7 @@ module _ (c : List Message) (m : Message) (es : List PlainEvent) (at : ℕ) (r :
 
   -- a tree request is one more call
   pub shows_called : (o : PlainOperation) (names : Names) (used : Option Used) (handle : Option ℕ) (direct truncates : Bool) (listing : Option Listing) (calls : CallList)
-      → Stands c m es (Asked at r) b → AreNames es r names → IsUsedIfAny es r b.handles.opened.entries used → request_takes r ≡ [] → operation_of r.body None ≡ Some o
+      → Stands c m es (Asked at r) b → AreNames es r names → IsUsedIfAny es r b.tables.handles.opened.entries used → request_takes r ≡ [] → operation_of r.body None ≡ Some o
       → MatchOption used (handle ≡ None) (λ u. IsSomeAnd handle (λ name. name ≡ u.handle.name)) → MatchOption used (direct ≡ false) (λ u. direct ≡ u.handle.direct)
       → ((before : List PlainEvent) → IsTrue b.truncating ↔ IsNegotiatedFlag before atomic_o_trunc → IsTrue truncates ↔ Truncates before r.body)
       → listing ≡ listing_by (offset_asked r.body) used (place_of b.listings.by_key.entries)
@@ -332,16 +198,16 @@ module _ (c : List Message) (m : Message) (es : List PlainEvent) (at : ℕ) (r :
         tree = tree;
         node = are.node;
         other = are.other;
-        handle = handle_named es r b.handles.opened.entries used handle uses named;
-        direct = direct_marked es r b.handles.opened.entries used direct uses marked;
+        handle = handle_named es r b.tables.handles.opened.entries used handle uses named;
+        direct = direct_marked es r b.tables.handles.opened.entries used direct uses marked;
         truncates = empties es stands.shown.truncating;
-        listing = subst (IsListingIfAny es r) (sym further) (listing_asked es r b.handles.opened.entries used (place_of b.listings.by_key.entries) uses stands.shown.places);
+        listing = subst (IsListingIfAny es r) (sym further) (listing_asked es r b.tables.handles.opened.entries used (place_of b.listings.by_key.entries) uses stands.shown.places);
       } in
       let more : AreCallsOf (es ++ Asked (length es) r ∷ []) (b.calls ++ call ∷ []) = calls_asked c es stands.are r b.calls call stands.shown.calls number does refl says in
       record {
         truncating = mark_kept es at r atomic_o_trunc b.truncating stands.shown.truncating;
-        nodes = nodes_kept es at r b.nodes.known.entries none stands.shown.nodes;
-        keys = keys_kept es at r b.handles.opened.entries (tree_not_closing r.body tree) stands.shown.keys;
+        nodes = nodes_kept es at r b.tables.nodes.known.entries none stands.shown.nodes;
+        keys = keys_kept es at r b.tables.handles.opened.entries (tree_not_closing r.body tree) stands.shown.keys;
         places = places_kept stands (tree_not_closing r.body tree);
         calls = subst (λ n. AreCallsOf (es ++ Asked n r ∷ []) calls) (sym number) (subst (AreCallsOf (es ++ Asked (length es) r ∷ [])) (sym pushed) more);
       }
@@ -350,15 +216,15 @@ module _ (c : List Message) (m : Message) (es : List PlainEvent) (at : ℕ) (r :
 
   -- the books behind a request that takes these items
   pub shows_taken : (nodes : Nodes) (items : List (ℕ × ℕ)) → nodes_named r ≡ [] → request_takes r ≡ but_root items
-      → ((node : ℕ) → IsTakenFrom (total_taken node (but_root items)) (lookup (nat_eq node) b.nodes.known.entries) (lookup (nat_eq node) nodes.known.entries))
-      → Stands c m es (Asked at r) b → BooksShow (es ++ Asked at r ∷ []) (record b { nodes = nodes })
+      → ((node : ℕ) → IsTakenFrom (total_taken node (but_root items)) (lookup (nat_eq node) b.tables.nodes.known.entries) (lookup (nat_eq node) nodes.known.entries))
+      → Stands c m es (Asked at r) b → BooksShow (es ++ Asked at r ∷ []) (record b { tables = record b.tables { nodes = nodes } })
   shows_taken nodes items none takes took stands =
       let shown = stands.shown in
       let is : NamesNone r.body = names_none r.node r.body none in
       record {
         truncating = mark_kept es at r atomic_o_trunc b.truncating shown.truncating;
-        nodes = λ node. node_taken es (Asked at r) node (total_taken node (but_root items)) (lookup (nat_eq node) b.nodes.known.entries) (lookup (nat_eq node) nodes.known.entries) refl (ap (total_taken node) takes) (took node) (shown.nodes node);
-        keys = keys_kept es at r b.handles.opened.entries is.leaves shown.keys;
+        nodes = λ node. node_taken es (Asked at r) node (total_taken node (but_root items)) (lookup (nat_eq node) b.tables.nodes.known.entries) (lookup (nat_eq node) nodes.known.entries) refl (ap (total_taken node) takes) (took node) (shown.nodes node);
+        keys = keys_kept es at r b.tables.handles.opened.entries is.leaves shown.keys;
         places = places_kept stands is.leaves;
         calls = others_kept es at r b.calls is.no_tree shown.calls;
       }

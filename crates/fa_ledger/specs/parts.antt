@@ -12,6 +12,8 @@ pub mod RowParts
 pub mod CallParts
 -- the table of the offsets that were reached
 pub mod ListingParts
+-- the tables of nodes and of file handles
+pub mod TableParts
 -- the books of a ledger
 pub mod BookParts
 -- what a ledger's fields show

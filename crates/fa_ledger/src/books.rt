@@ -1,7 +1,6 @@
 //! What a ledger keeps, and how one event changes it.
 
 ghost use Rattle.std.specs.Prelude.{◌≡◌, ◌<◌, ◌≤◌, ◌∷◌, ◌++◌, [], ℕ, List, All, None, Some, IfOk, IfErr, OnOk, OnErr, nat_eq, map, length};
-ghost use Rattle.fa_capture.specs.declared.codes.TheConstants.{FORGOTTEN_NODE, CLOSED_HANDLE};
 ghost use Rattle.fa_capture.specs.Checks.{AllHold};
 ghost use Rattle.fa_capture.specs.Message.{Message};
 ghost use Rattle.fa_bodies.specs.Requests.{request_shown, body_shown};
@@ -11,8 +10,7 @@ ghost use Rattle.fa_session.specs.Events.PlainEvent.{Asked, Answered};
 ghost use Rattle.fa_ledger.specs.declared.error.LedgerError.TheVariants.{Memory};
 ghost use Rattle.fa_ledger.specs.Counts.{nodes_given, request_takes};
 ghost use Rattle.fa_ledger.specs.Kinds.{IsTreeRequest};
-ghost use Rattle.fa_ledger.specs.Names.{name_at};
-ghost use Rattle.fa_ledger.specs.Passing.{NamesKnown, UsesOpen, MayBeGiven, ledger_checks};
+ghost use Rattle.fa_ledger.specs.Passing.{MayBeGiven, ledger_checks};
 ghost use Rattle.fa_ledger.specs.Calls.{PlainCall};
 ghost use Rattle.fa_ledger.specs.Refusals.{IsMoreKept};
 ghost use Rattle.fa_ledger.specs.Listings.{offset_asked};
@@ -23,16 +21,13 @@ use crate::call::{Call, Listing};
 use crate::call_list::{CallList, WaitingCall};
 use crate::error::LedgerError;
 use crate::giving::{may_be_given, names_given, opened, settles_truncation};
-use crate::handles::{Handle, Handles};
 use crate::key::Key;
 use crate::listings::{ListedOn, Listings, entries_count};
 use crate::messages::CallMessages;
 use crate::name::NodeName;
-use crate::naming::{
-    handle_used, is_closing, is_tree_request, nodes_named, offset_asked, truncates,
-};
-use crate::nodes::Nodes;
-use fa_bodies::{Reply, Request, RequestBody};
+use crate::naming::{handle_used, is_closing, is_tree_request, offset_asked, truncates};
+use crate::tables::{Names, Tables, Used};
+use fa_bodies::{Reply, RequestBody};
 use fa_capture::codes;
 use fa_session::{Event, ReplyMessages, RequestMessage};
 use std::alloc::Global;
@@ -44,34 +39,17 @@ pub(crate) struct Books<'a> {
     pub alloc: Global,
     /// Whether both sides set `FUSE_ATOMIC_O_TRUNC` at INIT.
     pub truncating: bool,
-    /// The nodes that are known.
-    pub nodes: Nodes,
-    /// The keys that are open.
-    pub handles: Handles,
+    /// The nodes that are known and the keys that are open.
+    pub tables: Tables,
     /// Where the offsets of the directories that are open were last reached.
     pub listings: Listings,
     /// The calls so far.
     pub calls: CallList<'a>,
 }
 
-/// The names of the nodes that a request names.
-#[derive(Clone, Copy, Debug)]
-pub(crate) struct Names {
-    /// That of the node of its header.
-    pub node: NodeName,
-    /// That of the new directory of RENAME and RENAME2, and of the file of LINK.
-    pub other: Option<NodeName>,
-}
-
-/// The key of the file handle that a request uses, and how it is open.
-#[derive(Clone, Copy, Debug)]
-pub(crate) struct Used {
-    pub key: Key,
-    pub handle: Handle,
-}
-
 impl<'a> Books<'a> {
-    ghost use Rattle.fa_ledger.specs.parts.BookParts.{NodesShow, KeysShow, BooksShow, StandBefore, Stands, WhereStands, ShowNext, AreSame, AreNames, AreNamesIfAny, IsUsedIfAny, asked_checks, IsAskedRefusal, IsAnsweredRefusal, IsLedgerRefusal};
+    ghost use Rattle.fa_ledger.specs.parts.BookParts.{BooksShow, StandBefore, Stands, WhereStands, ShowNext, AreSame};
+    ghost use Rattle.fa_ledger.specs.parts.TableParts.{AreNames, IsUsedIfAny, asked_checks, IsAskedRefusal, IsAnsweredRefusal, IsLedgerRefusal};
 
     /// Books of no events. What they store later takes memory from `alloc`.
     pub fn new(alloc: Global) -> Self
@@ -80,8 +58,7 @@ impl<'a> Books<'a> {
         Books {
             alloc,
             truncating: false,
-            nodes: Nodes::new(alloc),
-            handles: Handles::new(alloc),
+            tables: Tables::new(alloc),
             listings: Listings::new(alloc),
             calls: CallList::new(alloc),
         }
@@ -118,11 +95,11 @@ impl<'a> Books<'a> {
     {
         let request = &message.request;
         match &request.body {
-            RequestBody::Forget { nlookup } => self.nodes.forget(request.node, *nlookup)?,
-            RequestBody::BatchForget { items, .. } => self.nodes.forget_all(items)?,
+            RequestBody::Forget { nlookup } => self.tables.nodes.forget(request.node, *nlookup)?,
+            RequestBody::BatchForget { items, .. } => self.tables.nodes.forget_all(items)?,
             _ => {
-                if let Some(names) = self.names_of(request)? {
-                    let used = self.handle_of(names.node, request)?;
+                if let Some(names) = self.tables.names_of(request)? {
+                    let used = self.tables.handle_of(names.node, request)?;
                     self.note_use(at, message, names, used)?;
                 }
             }
@@ -156,44 +133,6 @@ impl<'a> Books<'a> {
         }
     }
 
-    /// The names of the nodes that a request names, if it names any. The error is the code where one of them is not known.
-    #[inline(always)]
-    fn names_of(&self, request: &Request<'_>) -> Result<Option<Names>, u16>
-        ensures named { IfOk result (λ names. (es : List PlainEvent) → NodesShow es self.now.nodes.known.entries → AreNamesIfAny es (request_shown request.now) names) }
-        ensures unknown { IfErr result (λ code. (code ≡ FORGOTTEN_NODE) × ((es : List PlainEvent) → NodesShow es self.now.nodes.known.entries → NamesKnown es (request_shown request.now) → ⊥)) }
-    {
-        let Some(named) = nodes_named(request) else {
-            return Ok(None);
-        };
-        let Some(node) = self.nodes.name_of(named.node) else {
-            return Err(codes::FORGOTTEN_NODE);
-        };
-        let Some(id) = named.other else {
-            return Ok(Some(Names { node, other: None }));
-        };
-        let other = self.nodes.name_of(id);
-        if other.is_none() {
-            return Err(codes::FORGOTTEN_NODE);
-        }
-        Ok(Some(Names { node, other }))
-    }
-
-    /// The file handle that a request on a node of this name uses, if any. The error is the code where it is not open.
-    #[inline(always)]
-    fn handle_of(&self, node: NodeName, request: &Request<'_>) -> Result<Option<Used>, u16>
-        ensures used { IfOk result (λ used. (es : List PlainEvent) → KeysShow es self.now.handles.opened.entries → name_at es request.now.node ≡ Some node → IsUsedIfAny es (request_shown request.now) self.now.handles.opened.entries used) }
-        ensures closed { IfErr result (λ code. (code ≡ CLOSED_HANDLE) × ((es : List PlainEvent) → KeysShow es self.now.handles.opened.entries → name_at es request.now.node ≡ Some node → UsesOpen es (request_shown request.now) → ⊥)) }
-    {
-        let Some((fh, kind)) = handle_used(&request.body) else {
-            return Ok(None);
-        };
-        let key = Key { node, fh, kind };
-        match self.handles.get(&key) {
-            Some(handle) => Ok(Some(Used { key, handle })),
-            None => Err(codes::CLOSED_HANDLE),
-        }
-    }
-
     /// Notes a request that names these nodes and uses this file handle: a tree request is one more call, and a closing
     /// closes its handle once; where no opening is left, the offsets that were reached on it go.
     #[inline(always)]
@@ -204,8 +143,8 @@ impl<'a> Books<'a> {
         names: Names,
         used: Option<Used>,
     ) -> Result<(), LedgerError>
-        requires { (c : List Message) × (m : Message) × (es : List PlainEvent) × Stands c m es (Asked at (request_shown message.now.request)) self.old × AreNames es (request_shown message.now.request) names × IsUsedIfAny es (request_shown message.now.request) self.old.handles.opened.entries used × (request_takes (request_shown message.now.request) ≡ []) }
-        ensures shows { OnOk result (WhereStands (Asked at (request_shown message.now.request)) self.old (λ c m es. AreNames es (request_shown message.now.request) names → IsUsedIfAny es (request_shown message.now.request) self.old.handles.opened.entries used → BooksShow (es ++ Asked at (request_shown message.now.request) ∷ []) self.new)) }
+        requires { (c : List Message) × (m : Message) × (es : List PlainEvent) × Stands c m es (Asked at (request_shown message.now.request)) self.old × AreNames es (request_shown message.now.request) names × IsUsedIfAny es (request_shown message.now.request) self.old.tables.handles.opened.entries used × (request_takes (request_shown message.now.request) ≡ []) }
+        ensures shows { OnOk result (WhereStands (Asked at (request_shown message.now.request)) self.old (λ c m es. AreNames es (request_shown message.now.request) names → IsUsedIfAny es (request_shown message.now.request) self.old.tables.handles.opened.entries used → BooksShow (es ++ Asked at (request_shown message.now.request) ∷ []) self.new)) }
         ensures memory { IfErr result (λ error. (error ≡ Memory) × IsTreeRequest (body_shown message.now.request.body)) }
         ensures unchanged { OnErr result (AreSame self.old self.new) }
     {
@@ -224,7 +163,7 @@ impl<'a> Books<'a> {
             self.calls.push(call)?;
         } else if is_closing(&message.request.body) {
             if let Some(used) = used {
-                if self.handles.close(&used.key) {
+                if self.tables.handles.close(&used.key) {
                     self.listings.close(&used.key);
                 }
             }
@@ -249,7 +188,7 @@ impl<'a> Books<'a> {
         body: &RequestBody<'_>,
         reply: &Reply<'b>,
     ) -> Option<ListedOn<'b>>
-        ensures { ListsStillIfAny self.now.handles.opened.entries waiting (body_shown body.now) (reply_shown reply.now) result }
+        ensures { ListsStillIfAny self.now.tables.handles.opened.entries waiting (body_shown body.now) (reply_shown reply.now) result }
     {
         let Reply::Listed(entries) = reply else {
             return None;
@@ -260,7 +199,7 @@ impl<'a> Books<'a> {
             fh,
             kind,
         };
-        let handle = self.handles.get(&key)?;
+        let handle = self.tables.handles.get(&key)?;
         if waiting.handle != Some(handle.name) {
             return None;
         }
@@ -293,7 +232,7 @@ impl<'a> Books<'a> {
     {
         let given = names_given(
             self.alloc,
-            &self.nodes,
+            &self.tables.nodes,
             at,
             &messages.to.request.body,
             &messages.reply,
@@ -307,12 +246,12 @@ impl<'a> Books<'a> {
         );
         let listed = self.listed(waiting, &messages.to.request.body, &messages.reply);
         // All room first.
-        self.nodes.reserve(names)?;
-        self.handles.reserve(&opened)?;
+        self.tables.nodes.reserve(names)?;
+        self.tables.handles.reserve(&opened)?;
         self.listings.reserve(&listed)?;
         // Nothing fails from here on.
-        self.nodes.give(names, at);
-        let opens = self.handles.note_opened(asked, opened);
+        self.tables.nodes.give(names, at);
+        let opens = self.tables.handles.note_opened(asked, opened);
         self.listings.note(asked, listed);
         let both = CallMessages::answered(messages);
         self.calls.answer(asked, both, at, given, opens);

@@ -21,6 +21,7 @@ mod nodes;
 mod operation;
 mod placing;
 mod row;
+mod tables;
 mod waiting_places;
 
 pub use call::{Answer, Call, GivenNodes, Listing};

@@ -18,8 +18,8 @@ abbrev pub ledger_shown : Inside → PlainLedger
 ledger_shown s = record {
   messages = s.messages;
   truncating = s.books.truncating;
-  nodes = by_id s.books.nodes.known.entries;
-  handles = s.books.handles.opened.entries;
+  nodes = by_id s.books.tables.nodes.known.entries;
+  handles = s.books.tables.handles.opened.entries;
   listed = listed_shown s.books.listings.by_key.entries;
   calls = s.books.calls;
 }

@@ -8,7 +8,8 @@ use Rattle.fa_ledger.specs.declared.name.NodeName.{NodeName}
 use Rattle.fa_ledger.specs.Keys.{key_eq}
 use Rattle.fa_ledger.specs.parts.Steps.{given_again, times_named, count_left, opened_with, opens_new, some_new, IsOpenedBy, given_names_shown}
 use Rattle.fa_ledger.proofs.OperationLemmas.{operation_asked}
-use Rattle.fa_ledger.proofs.ReplyBookLemmas.{operation_there, give_fits, open_fits, answer_shows, names_more, nodes_more, keys_more, listed_more, listed_counted, listed_anew, noted_also}
+use Rattle.fa_ledger.proofs.ReplyLemmas.{give_fits, names_more, nodes_more}
+use Rattle.fa_ledger.proofs.ReplyBookLemmas.{operation_there, open_fits, answer_shows, keys_more, listed_more, listed_counted, listed_anew, noted_also}
 use Rattle.fa_ledger.proofs.books.Books.note_answer.Goals as goal
 
 pub returns-in_err-given-clause-memory : goal.returns-in_err-given-clause-memory
@@ -23,7 +24,7 @@ returns-in_err-reserve-clause-memory c =
     rw p.1 (
       p.2,
       λ before m es stands.
-          nodes_more es c.args.at c.args.asked (request_shown c.args.messages.now.to.request) (reply_shown c.args.messages.now.reply) c.args.self.now c.as_slice-names.result.now stands.shown named c.in_err-reserve.ensures.wanted,
+          nodes_more es c.args.at c.args.asked (request_shown c.args.messages.now.to.request) (reply_shown c.args.messages.now.reply) c.args.self.now.tables.nodes.known.entries c.as_slice-names.result.now stands.shown.nodes named c.in_err-reserve.ensures.wanted,
     )
 
 pub returns-in_err-reserve-2-clause-memory : goal.returns-in_err-reserve-2-clause-memory
@@ -52,7 +53,8 @@ give-requires-clause-room c = λ new.
 pub give-requires-clause-few : goal.give-requires-clause-few
 give-requires-clause-few c = λ node.
     let stands = c.requires.stands in
-    let fits = give_fits stands.0 stands.1 stands.2 c.args.at c.args.asked (request_shown c.args.messages.now.to.request) (reply_shown c.args.messages.now.reply) c.args.self.now c.as_slice-names.result.now stands.3 (c.as_slice-names.ensures ∙ c.in_ok-given.ensures.named) node in
+    let fits = give_fits stands.0 stands.1 stands.2 c.args.at c.args.asked (request_shown c.args.messages.now.to.request) (reply_shown c.args.messages.now.reply) c.args.self.now.tables.nodes.known.entries c.as_slice-names.result.now
+    stands.3.are stands.3.few stands.3.event stands.3.shown.nodes (c.as_slice-names.ensures ∙ c.in_ok-given.ensures.named) node in
     subst (λ known. count_left (lookup (nat_eq node) known) + length c.as_slice-names.result.now ≤ 18446744073709551615) (sym c.in_ok-reserve.ensures.kept) fits
 
 pub note_opened-opens-requires-clause-few : goal.note_opened-opens-requires-clause-few
@@ -78,12 +80,12 @@ note-requires-clause-fresh c =
 pub note-requires-clause-counted : goal.note-requires-clause-counted
 note-requires-clause-counted c =
     let stands = c.requires.stands in
-    (listed_counted stands.0 stands.1 c.args.at c.args.asked (request_shown c.args.messages.now.to.request) (reply_shown c.args.messages.now.reply) stands.3.event c.args.self.now.handles.opened.entries c.args.waiting c.requires.waits.1 c.requires.waits.3 c.listed-listed.result c.listed-listed.ensures).0
+    (listed_counted stands.0 stands.1 c.args.at c.args.asked (request_shown c.args.messages.now.to.request) (reply_shown c.args.messages.now.reply) stands.3.event c.args.self.now.tables.handles.opened.entries c.args.waiting c.requires.waits.1 c.requires.waits.3 c.listed-listed.result c.listed-listed.ensures).0
 
 pub note-requires-clause-few : goal.note-requires-clause-few
 note-requires-clause-few c =
     let stands = c.requires.stands in
-    (listed_counted stands.0 stands.1 c.args.at c.args.asked (request_shown c.args.messages.now.to.request) (reply_shown c.args.messages.now.reply) stands.3.event c.args.self.now.handles.opened.entries c.args.waiting c.requires.waits.1 c.requires.waits.3 c.listed-listed.result c.listed-listed.ensures).1
+    (listed_counted stands.0 stands.1 c.args.at c.args.asked (request_shown c.args.messages.now.to.request) (reply_shown c.args.messages.now.reply) stands.3.event c.args.self.now.tables.handles.opened.entries c.args.waiting c.requires.waits.1 c.requires.waits.3 c.listed-listed.result c.listed-listed.ensures).1
 
 pub answered-both-requires : goal.answered-both-requires
 answered-both-requires c =

@@ -14,4 +14,4 @@ pub returns-in-None-clause-shows : goal.returns-in-None-clause-shows
 returns-in-None-clause-shows c = λ before m es stands.
     plain_shows before m es c.args.at c.args.asked (request_shown c.args.messages.now.to.request) (reply_shown c.args.messages.now.reply) c.args.self.now _ c.settles_truncation.result stands
     (no_call_waits before m es c.args.at c.args.asked (request_shown c.args.messages.now.to.request) (reply_shown c.args.messages.now.reply) c.args.self.now stands c.in-None.ensures.none)
-    c.settles_truncation.ensures refl refl refl refl refl
+    c.settles_truncation.ensures refl refl refl refl

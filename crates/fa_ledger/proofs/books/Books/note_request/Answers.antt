@@ -1,12 +1,16 @@
 use Rattle.std.proofs.Common.{Option, ap, inl, subst, ◌∷◌, []}
+use Rattle.std.specs.Prelude.{nat_eq}
+use Rattle.std.specs.Map.{lookup}
 use Rattle.std.proofs.lemmas.Result.{err_from_is_err_and}
 use Rattle.fa_bodies.specs.Items.{items_in}
 use Rattle.fa_bodies.specs.Requests.{request_shown, body_shown}
-use Rattle.fa_ledger.specs.declared.books.Names.{Names}
+use Rattle.fa_ledger.specs.declared.tables.Names.{Names}
 use Rattle.fa_ledger.specs.Mentions.{mentions}
-use Rattle.fa_ledger.specs.parts.BookParts.{AreNamesIfAny}
+use Rattle.fa_ledger.specs.parts.TableParts.{AreNamesIfAny}
 use Rattle.fa_ledger.specs.parts.Steps.{but_root}
-use Rattle.fa_ledger.proofs.RequestBookLemmas.{left_few, shows_taken, takes_keep, takes_fail, takes_none, none_keep, none_shows, names_there, uses_keep, uses_fail}
+use Rattle.fa_ledger.proofs.RequestBookLemmas.{shows_taken, none_shows}
+use Rattle.fa_ledger.proofs.RequestLemmas.{takes_keep, takes_fail, takes_none, none_keep, names_there, uses_keep, uses_fail}
+use Rattle.fa_ledger.proofs.NodeLemmas.{left_few}
 use Rattle.fa_ledger.proofs.books.Books.note_request.Goals as goal
 
 pub returns-in_err-forget-in-Forget-clause-refused : goal.returns-in_err-forget-in-Forget-clause-refused
@@ -15,11 +19,13 @@ returns-in_err-forget-in-Forget-clause-refused c =
     let body = ap body_shown c.in-Forget.is in
     let p = err_from_is_err_and c.from_residual.result c.from_residual.ensures.1 in
     rw (p.1, p.2) (λ before m es stands.
-    takes_fail es r c.args.self.now.nodes.known.entries ((r.node, c.in-Forget.nlookup) ∷ []) _ (ap (λ b. (mentions b).names r.node) body) (ap (λ b. but_root ((mentions b).takes r.node)) body) stands.shown.nodes
+    takes_fail es r c.args.self.now.tables.nodes.known.entries ((r.node, c.in-Forget.nlookup) ∷ []) _ (ap (λ b. (mentions b).names r.node) body) (ap (λ b. but_root ((mentions b).takes r.node)) body) stands.shown.nodes
     c.in_err-forget-in-Forget.ensures.refused.1 c.in_err-forget-in-Forget.ensures.refused.0)
 
 pub forget_all-requires-clause-few : goal.forget_all-requires-clause-few
-forget_all-requires-clause-few c = λ node. left_few c.requires.0 c.requires.1 c.requires.2 _ c.args.self.now c.requires.3 node
+forget_all-requires-clause-few c = λ node.
+    let stands = c.requires.3 in
+    left_few c.requires.0 c.requires.2 node (lookup (nat_eq node) c.args.self.now.tables.nodes.known.entries) stands.are stands.few (stands.shown.nodes node)
 
 pub returns-in_err-forget_all-in-BatchForget-clause-refused : goal.returns-in_err-forget_all-in-BatchForget-clause-refused
 returns-in_err-forget_all-in-BatchForget-clause-refused c =
@@ -27,7 +33,7 @@ returns-in_err-forget_all-in-BatchForget-clause-refused c =
     let body = ap body_shown c.in-BatchForget.is in
     let p = err_from_is_err_and c.from_residual-in_err-forget_all-in-BatchForget.result c.from_residual-in_err-forget_all-in-BatchForget.ensures.1 in
     rw (p.1, p.2) (λ before m es stands.
-    takes_fail es r c.args.self.now.nodes.known.entries (items_in c.in-BatchForget.items.now) _ (ap (λ b. (mentions b).names r.node) body) (ap (λ b. but_root ((mentions b).takes r.node)) body) stands.shown.nodes
+    takes_fail es r c.args.self.now.tables.nodes.known.entries (items_in c.in-BatchForget.items.now) _ (ap (λ b. (mentions b).names r.node) body) (ap (λ b. but_root ((mentions b).takes r.node)) body) stands.shown.nodes
     c.in_err-forget_all-in-BatchForget.ensures.refused.1 c.in_err-forget_all-in-BatchForget.ensures.refused.0)
 
 pub returns-in_err-names-in_default-clause-refused : goal.returns-in_err-names-in_default-clause-refused
@@ -61,13 +67,13 @@ returns-in_err-note_use-in_default-clause-refused c =
     let takes = takes_none r.node c.args.message.now.request.body c.in_default.not-Forget c.in_default.not-BatchForget in
     rw (p.1, p.2, c.in_err-note_use-in_default.ensures.memory.0) (λ before m es stands.
     let are = names_there es r c.in-Some.names c.in-Some.is (c.in_ok-names-in_default.ensures.named es stands.shown.nodes) in
-    (uses_keep es r c.args.self.now.handles.opened.entries c.in-Some.names c.in_ok-used-in_default.used are takes (c.in_ok-used-in_default.ensures.used es stands.shown.keys are.node), c.in_err-note_use-in_default.ensures.memory.1))
+    (uses_keep es r c.args.self.now.tables.handles.opened.entries c.in-Some.names c.in_ok-used-in_default.used are takes (c.in_ok-used-in_default.ensures.used es stands.shown.keys are.node), c.in_err-note_use-in_default.ensures.memory.1))
 
 pub returns-in_ok-forget-in-Forget-clause-keeps : goal.returns-in_ok-forget-in-Forget-clause-keeps
 returns-in_ok-forget-in-Forget-clause-keeps c = λ before m es stands.
     let r = request_shown c.args.message.now.request in
     let body = ap body_shown c.in-Forget.is in
-    takes_keep es r c.args.self.now.nodes.known.entries ((r.node, c.in-Forget.nlookup) ∷ []) (ap (λ b. (mentions b).names r.node) body) (ap (λ b. but_root ((mentions b).takes r.node)) body) stands.shown.nodes
+    takes_keep es r c.args.self.now.tables.nodes.known.entries ((r.node, c.in-Forget.nlookup) ∷ []) (ap (λ b. (mentions b).names r.node) body) (ap (λ b. but_root ((mentions b).takes r.node)) body) stands.shown.nodes
     c.in_ok-forget-in-Forget.ensures.within
 
 pub returns-in_ok-forget-in-Forget-clause-shows : goal.returns-in_ok-forget-in-Forget-clause-shows
@@ -81,7 +87,7 @@ pub returns-in_ok-forget_all-in-BatchForget-clause-keeps : goal.returns-in_ok-fo
 returns-in_ok-forget_all-in-BatchForget-clause-keeps c = λ before m es stands.
     let r = request_shown c.args.message.now.request in
     let body = ap body_shown c.in-BatchForget.is in
-    takes_keep es r c.args.self.now.nodes.known.entries (items_in c.in-BatchForget.items.now) (ap (λ b. (mentions b).names r.node) body) (ap (λ b. but_root ((mentions b).takes r.node)) body) stands.shown.nodes
+    takes_keep es r c.args.self.now.tables.nodes.known.entries (items_in c.in-BatchForget.items.now) (ap (λ b. (mentions b).names r.node) body) (ap (λ b. but_root ((mentions b).takes r.node)) body) stands.shown.nodes
     c.in_ok-forget_all-in-BatchForget.ensures.within
 
 pub returns-in_ok-forget_all-in-BatchForget-clause-shows : goal.returns-in_ok-forget_all-in-BatchForget-clause-shows
@@ -96,7 +102,7 @@ returns-in_ok-note_use-in_default-clause-keeps c = λ before m es stands.
     let r = request_shown c.args.message.now.request in
     let takes = takes_none r.node c.args.message.now.request.body c.in_default.not-Forget c.in_default.not-BatchForget in
     let are = names_there es r c.in-Some.names c.in-Some.is (c.in_ok-names-in_default.ensures.named es stands.shown.nodes) in
-    uses_keep es r c.args.self.now.handles.opened.entries c.in-Some.names c.in_ok-used-in_default.used are takes (c.in_ok-used-in_default.ensures.used es stands.shown.keys are.node)
+    uses_keep es r c.args.self.now.tables.handles.opened.entries c.in-Some.names c.in_ok-used-in_default.used are takes (c.in_ok-used-in_default.ensures.used es stands.shown.keys are.node)
 
 pub returns-in_ok-note_use-in_default-clause-shows : goal.returns-in_ok-note_use-in_default-clause-shows
 returns-in_ok-note_use-in_default-clause-shows c = λ before m es stands.

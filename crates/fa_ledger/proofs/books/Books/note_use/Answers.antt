@@ -1,10 +1,9 @@
-use Rattle.std.proofs.Common.{None, Option, false, ◌≡◌, sym, ap, subst, rules, ◌∙◌}
-use Rattle.std.specs.Prelude.{option_map}
+use Rattle.std.proofs.Common.{None, Option, false, ◌≡◌, sym, subst, rules}
 use Rattle.std.specs.Option.{IsSomeAnd}
-use Rattle.fa_bodies.specs.Requests.{request_shown, body_shown}
-use Rattle.fa_ledger.specs.declared.books.Used.{Used}
+use Rattle.fa_bodies.specs.Requests.{request_shown}
+use Rattle.fa_ledger.specs.declared.tables.Used.{Used}
 use Rattle.fa_ledger.specs.declared.call.Listing.{Listing}
-use Rattle.fa_ledger.specs.parts.BookParts.{IsUsedIfAny}
+use Rattle.fa_ledger.specs.parts.TableParts.{IsUsedIfAny}
 use Rattle.fa_ledger.specs.parts.ListingParts.{place_of}
 use Rattle.fa_ledger.specs.parts.RowParts.{AreNotBoth}
 use Rattle.fa_ledger.proofs.RequestBookLemmas.{match_then, listing_apart, shows_left, shows_closed, shows_gone, shows_called}
@@ -29,13 +28,13 @@ returns-in_ok-push-clause-shows c = λ before m es stands names used.
 pub returns-then-close-clause-shows : goal.returns-then-close-clause-shows
 returns-then-close-clause-shows c = λ before m es stands names used.
     shows_gone before m es c.args.at (request_shown c.args.message.now.request) c.args.self.now c.close.new.self c.close-then-close.new.self c.in-Some.used c.requires.6 (sym c.if-is_closing.ensures) (λ tree. let yes = c.is_tree_request.ensures.1 tree in let no = c.if-is_tree_request.false in absurd cc)
-    (subst (λ (u : Option Used). IsUsedIfAny es (request_shown c.args.message.now.request) c.args.self.now.handles.opened.entries u) c.in-Some.is used)
+    (subst (λ (u : Option Used). IsUsedIfAny es (request_shown c.args.message.now.request) c.args.self.now.tables.handles.opened.entries u) c.in-Some.is used)
     c.close.ensures.closed c.if-close.ensures.gone c.close-then-close.ensures stands
 
 pub returns-else-close-clause-shows : goal.returns-else-close-clause-shows
 returns-else-close-clause-shows c = λ before m es stands names used.
     shows_closed before m es c.args.at (request_shown c.args.message.now.request) c.args.self.now c.close.new.self c.in-Some.used c.requires.6 (sym c.if-is_closing.ensures) (λ tree. let yes = c.is_tree_request.ensures.1 tree in let no = c.if-is_tree_request.false in absurd cc)
-    (subst (λ (u : Option Used). IsUsedIfAny es (request_shown c.args.message.now.request) c.args.self.now.handles.opened.entries u) c.in-Some.is used)
+    (subst (λ (u : Option Used). IsUsedIfAny es (request_shown c.args.message.now.request) c.args.self.now.tables.handles.opened.entries u) c.in-Some.is used)
     c.close.ensures.closed c.if-close.ensures.gone stands
 
 pub returns-else-is_closing-clause-shows : goal.returns-else-is_closing-clause-shows
