@@ -66,8 +66,12 @@ holds_true : (b : Bool) → T b → b ≡ true
 holds_true true holds = refl
 holds_true false holds = absurd holds
 
+-- the ids rise
+pub by_id_rises : (known : List (ℕ × Lookups)) → is_sorted nat_cmp (by_id known) ≡ true
+by_id_rises known = holds_true (is_sorted nat_cmp (by_id known)) (entries_sorted (from_entries {R = nat_cmp} known))
+
 -- tables that have the same at each id show the same
-same_by_id : (old new : List (ℕ × Lookups)) → ((node : ℕ) → lookup (nat_eq node) new ≡ lookup (nat_eq node) old) → by_id new ≡ by_id old
+pub same_by_id : (old new : List (ℕ × Lookups)) → ((node : ℕ) → lookup (nat_eq node) new ≡ lookup (nat_eq node) old) → by_id new ≡ by_id old
 same_by_id old new same =
     ap entries (same_map nat_cmp_total nat_cmp-IsAntisymmetric (from_entries {R = nat_cmp} new) (from_entries {R = nat_cmp} old)
     (λ node. get-entries (from_entries {R = nat_cmp} new) node ∙ find_by_id node new ∙ same node ∙ sym (find_by_id node old) ∙ sym (get-entries (from_entries {R = nat_cmp} old) node)))
@@ -79,7 +83,7 @@ shown_parts s es books counted = record {
   counted = counted;
   truncating = books.truncating;
   nodes = λ node. subst (IsNodeOf es node) (sym (find_by_id node s.books.tables.nodes.known.entries)) (books.nodes node);
-  rising = holds_true (is_sorted nat_cmp (by_id s.books.tables.nodes.known.entries)) (entries_sorted (from_entries {R = nat_cmp} s.books.tables.nodes.known.entries));
+  rising = by_id_rises s.books.tables.nodes.known.entries;
   handles = books.keys;
   listed = places_alike es (place_of s.books.listings.by_key.entries) (place_in (listed_shown s.books.listings.by_key.entries)) (place_shown s.books.listings.by_key.entries) books.places;
   calls = books.calls;

@@ -30,6 +30,9 @@ pub mod PlaceLemmas
 pub mod LedgerLemmas
 pub mod ReplyLemmas
 pub mod ReplyBookLemmas
+pub mod OpeningLemmas
+pub mod LiveLemmas
+pub mod StandingLemmas
 pub mod RequestLemmas
 pub mod RequestBookLemmas
 pub mod SaidLemmas

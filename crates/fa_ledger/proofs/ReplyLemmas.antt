@@ -36,11 +36,12 @@ use Rattle.fa_ledger.specs.Keys.{key_eq}
 use Rattle.fa_ledger.specs.Kinds.{IsTreeRequest}
 use Rattle.fa_ledger.specs.Handles.{opened_by, opening, times_opened, times_closed}
 use Rattle.fa_ledger.specs.Passing.{MayBeGiven}
+use Rattle.fa_ledger.specs.Standing.{OpensItsNode}
 use Rattle.fa_ledger.specs.Calls.{IsNegotiatedFlag, OpensAnew}
 use Rattle.fa_ledger.specs.Shows.{IsNodeOf, IsKeyOf}
 use Rattle.fa_ledger.specs.Refusals.{GivesNew, ListsNodes, IsMoreKept}
 use Rattle.fa_ledger.specs.parts.TableParts.{NodesShow, KeysShow}
-use Rattle.fa_ledger.specs.parts.Steps.{IsListedReply, opened_with, SettlesTruncation, given_again, given_to, times_named, count_left, opens_new, is_new, some_new, opened_again, IsOpenedBy}
+use Rattle.fa_ledger.specs.parts.Steps.{IsListedReply, created_with, opened_with, SettlesTruncation, given_again, given_to, times_named, count_left, opens_new, is_new, some_new, opened_again, IsOpenedBy}
 use Rattle.fa_ledger.proofs.NameLemmas.{not_root}
 use Rattle.fa_ledger.proofs.NodeLemmas.{node_given, name_of_node, names_counted, given_within, left_within, reply_few}
 use Rattle.fa_ledger.proofs.HandleLemmas.{key_same}
@@ -123,16 +124,25 @@ some_is_listed r other listing some = absurd listing
 
 -- ---- keys that are opened
 
+-- what CREATE opens, by the names that are known
+pub created_named : (before more : List PlainEvent) (id : ℕ) (names : List NodeName) (body : PlainBody) (reply : PlainReply) → (OpensItsNode body → ⊥)
+    → map (λ n. name_at more n) (nodes_given body reply) ≡ map (λ name. Some name) names → opened_by before more id body reply ≡ created_with body reply names
+created_named before more id names (Open o) reply other given = absurd (other tt)
+created_named before more id names (Opendir o) reply other given = absurd (other tt)
+created_named before more id [] (Create flags mode umask name) (Created entry out) other given = absurd cc
+created_named before more id (first ∷ []) (Create flags mode umask name) (Created entry out) other given =
+    let own : name_at more entry.nodeid ≡ Some first = cc in
+    rw own refl
+created_named before more id (first ∷ (second ∷ names)) (Create flags mode umask name) (Created entry out) other given = absurd cc
+created_named before more id names body reply other given = refl
+
 -- what a success opens, by the names that are known
 opened_named : (before more : List PlainEvent) (id : ℕ) (node : NodeName) (names : List NodeName) (body : PlainBody) (reply : PlainReply) → name_at before id ≡ Some node
     → map (λ n. name_at more n) (nodes_given body reply) ≡ map (λ name. Some name) names → opened_by before more id body reply ≡ opened_with node names body reply
 opened_named before more id node names (Open o) (Opened out) named given = rw named refl
 opened_named before more id node names (Opendir o) (Opened out) named given = rw named refl
-opened_named before more id node [] (Create flags mode umask name) (Created entry out) named given = absurd cc
-opened_named before more id node (first ∷ []) (Create flags mode umask name) (Created entry out) named given =
-    let own : name_at more entry.nodeid ≡ Some first = cc in
-    rw own refl
-opened_named before more id node (first ∷ (second ∷ names)) (Create flags mode umask name) (Created entry out) named given = absurd cc
+opened_named before more id node names (Create flags mode umask name) (Created entry out) named given =
+    created_named before more id names (Create flags mode umask name) (Created entry out) (λ opens. absurd opens) given
 opened_named before more id node names body reply named given = refl
 
 -- the test of a flag

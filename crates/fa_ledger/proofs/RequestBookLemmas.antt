@@ -37,9 +37,8 @@ use Rattle.fa_ledger.specs.parts.RowParts.{AreNotBoth}
 use Rattle.fa_ledger.specs.parts.TableParts.{AreNames, IsUsed, IsUsedIfAny}
 use Rattle.fa_ledger.specs.parts.BookParts.{BooksShow, Stands}
 use Rattle.fa_ledger.specs.parts.Steps.{closed_once, but_root, IsTakenFrom}
-use Rattle.fa_ledger.proofs.NodeLemmas.{node_taken}
 use Rattle.fa_ledger.proofs.PlaceBookLemmas.{places_asked, places_closed, none_gone, listing_asked, IsClosedOnce}
-use Rattle.fa_ledger.proofs.RequestLemmas.{NamesNone, names_none, tree_not_closing, nodes_kept, keys_kept, keys_closed}
+use Rattle.fa_ledger.proofs.RequestLemmas.{NamesNone, names_none, tree_not_closing, nodes_kept, nodes_taken, keys_kept, keys_closed}
 use Rattle.fa_ledger.proofs.CallStepLemmas.{calls_kept, calls_asked}
 
 -- what follows of a value, and else what holds of none
@@ -223,7 +222,7 @@ module _ (c : List Message) (m : Message) (es : List PlainEvent) (at : ℕ) (r :
       let is : NamesNone r.body = names_none r.node r.body none in
       record {
         truncating = mark_kept es at r atomic_o_trunc b.truncating shown.truncating;
-        nodes = λ node. node_taken es (Asked at r) node (total_taken node (but_root items)) (lookup (nat_eq node) b.tables.nodes.known.entries) (lookup (nat_eq node) nodes.known.entries) refl (ap (total_taken node) takes) (took node) (shown.nodes node);
+        nodes = nodes_taken es at r b.tables.nodes.known.entries nodes.known.entries items takes took shown.nodes;
         keys = keys_kept es at r b.tables.handles.opened.entries is.leaves shown.keys;
         places = places_kept stands is.leaves;
         calls = others_kept es at r b.calls is.no_tree shown.calls;

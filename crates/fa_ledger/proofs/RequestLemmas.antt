@@ -25,10 +25,10 @@ use Rattle.fa_ledger.specs.Handles.{is_closing, closing}
 use Rattle.fa_ledger.specs.Passing.{NamesKnown, TakesWithin, UsesOpen}
 use Rattle.fa_ledger.specs.Shows.{IsKeyOf}
 use Rattle.fa_ledger.specs.parts.TableParts.{NodesShow, KeysShow, AreNames, AreNamesIfAny, IsUsed, IsUsedIfAny, asked_checks}
-use Rattle.fa_ledger.specs.parts.Steps.{closed_once, but_root, AreWithin}
+use Rattle.fa_ledger.specs.parts.Steps.{closed_once, but_root, AreWithin, IsTakenFrom}
 use Rattle.fa_ledger.proofs.HandleLemmas.{key_same}
 use Rattle.fa_ledger.proofs.KeyLemmas.{other_unclosed, none_unopened, none_unclosed, open_is_some, key_unmoved, key_closed}
-use Rattle.fa_ledger.proofs.NodeLemmas.{node_kept, within_now}
+use Rattle.fa_ledger.proofs.NodeLemmas.{node_kept, node_taken, within_now}
 use Rattle.fa_ledger.proofs.TakingLemmas.{no_item}
 
 -- ---- kinds of requests
@@ -69,6 +69,14 @@ pub keys_kept : (es : List PlainEvent) (at : ℕ) (r : PlainRequest) (opened : L
 keys_kept es at r opened leaves show key =
     let none : closing es (Asked at r) ≡ None = rw leaves refl in
     key_unmoved es (Asked at r) key (lookup (key_eq key) opened) (none_unopened es (Asked at r) key refl) (none_unclosed es (Asked at r) key none) (show key)
+
+-- ---- a request that takes
+
+-- the nodes, where it takes these items
+pub nodes_taken : (es : List PlainEvent) (at : ℕ) (r : PlainRequest) (old new : List (ℕ × Lookups)) (items : List (ℕ × ℕ)) → request_takes r ≡ but_root items
+    → ((node : ℕ) → IsTakenFrom (total_taken node (but_root items)) (lookup (nat_eq node) old) (lookup (nat_eq node) new)) → NodesShow es old → NodesShow (es ++ Asked at r ∷ []) new
+nodes_taken es at r old new items takes took show node =
+    node_taken es (Asked at r) node (total_taken node (but_root items)) (lookup (nat_eq node) old) (lookup (nat_eq node) new) refl (ap (total_taken node) takes) (took node) (show node)
 
 -- ---- a closing request
 

@@ -26,6 +26,8 @@ pub mod SoFar
 pub mod Plain
 pub mod Shows
 pub mod Refusals
+-- what stands behind messages of which nothing is kept
+pub mod Standing
 -- what follows from the definitions alone
 pub mod Laws
 -- what private contracts alone speak of

@@ -16,5 +16,9 @@ pub mod ListingParts
 pub mod TableParts
 -- the books of a ledger
 pub mod BookParts
+-- what is alive behind events
+pub mod LiveParts
 -- what a ledger's fields show
 pub mod View
+-- what the fields of a standing show
+pub mod StandingView

@@ -10,7 +10,7 @@ ghost use Rattle.fa_ledger.specs.Mentions.{node_of};
 ghost use Rattle.fa_ledger.specs.Counts.{nodes_given, nodes_of_entry, nodes_of_listing};
 ghost use Rattle.fa_ledger.specs.Passing.{MayBeGiven};
 ghost use Rattle.std.specs.Option.{option_to_list};
-ghost use Rattle.fa_ledger.specs.parts.Steps.{opened_with, given_to, SettlesTruncation, IsListedReply, given_names_shown};
+ghost use Rattle.fa_ledger.specs.parts.Steps.{created_with, opened_with, given_to, SettlesTruncation, IsListedReply, given_names_shown};
 
 use crate::key::{HandleKind, Key};
 use crate::name::NodeName;
@@ -172,6 +172,20 @@ pub(crate) fn opened(
         (RequestBody::Opendir(_), Reply::Opened(open)) => {
             Some((key(node, open, HandleKind::Directory), *open))
         }
+        (RequestBody::Create { .. }, Reply::Created { .. }) => created(given, body, reply),
+        _ => None,
+    }
+}
+
+/// The key that CREATE opens, and how, where the reply gives these.
+pub(crate) fn created(
+    given: &[NodeName],
+    body: &RequestBody<'_>,
+    reply: &Reply<'_>,
+) -> Option<(Key, OpenOut)>
+    ensures { result ≡ created_with (body_shown body.now) (reply_shown reply.now) given.now }
+{
+    match (body, reply) {
         (RequestBody::Create { .. }, Reply::Created { open, .. }) => {
             let [name] = given else { return None };
             Some((key(*name, open, HandleKind::File), *open))

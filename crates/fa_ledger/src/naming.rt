@@ -11,6 +11,7 @@ ghost use Rattle.fa_ledger.specs.Listings.{offset_asked};
 ghost use Rattle.fa_ledger.specs.Keys.{handle_used};
 ghost use Rattle.fa_ledger.specs.Kinds.{IsTreeRequest};
 ghost use Rattle.fa_ledger.specs.Names.{nodes_named};
+ghost use Rattle.fa_ledger.specs.Standing.{OpensItsNode};
 ghost use Rattle.fa_ledger.specs.parts.Steps.{named_list};
 
 use crate::key::HandleKind;
@@ -119,6 +120,13 @@ pub(crate) fn is_closing(body: &RequestBody<'_>) -> bool
     ensures { result ≡ is_closing (body_shown body.now) }
 {
     matches!(body, RequestBody::Release(_) | RequestBody::Releasedir(_))
+}
+
+/// Whether its success opens a handle under the name that the node of its header had when it was asked.
+pub(crate) fn opens_its_node(body: &RequestBody<'_>) -> bool
+    ensures { IsTrue result ↔ OpensItsNode (body_shown body.now) }
+{
+    matches!(body, RequestBody::Open(_) | RequestBody::Opendir(_))
 }
 
 /// Whether success empties a file that is there, where OPEN may do so or not.

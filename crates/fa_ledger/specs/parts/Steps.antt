@@ -40,11 +40,16 @@ given_names_shown Nothing = []
 given_names_shown (One name) = name ∷ []
 given_names_shown (Several names) = names.value.items
 
+-- the key that CREATE opens, and how, where the reply gives these
+abbrev pub created_with : PlainBody → PlainReply → List NodeName → Option (Key × OpenOut)
+created_with (Create flags mode umask name) (Created entry out) (given ∷ []) = Some (record { node = given; fh = out.fh; kind = File }, out)
+created_with body reply given = None
+
 -- the key that a success opens, and how, where its request named this node and the reply gives these
 abbrev pub opened_with : NodeName → List NodeName → PlainBody → PlainReply → Option (Key × OpenOut)
 opened_with node given (Open o) (Opened out) = Some (record { node = node; fh = out.fh; kind = File }, out)
 opened_with node given (Opendir o) (Opened out) = Some (record { node = node; fh = out.fh; kind = Directory }, out)
-opened_with node (given ∷ []) (Create flags mode umask name) (Created entry out) = Some (record { node = given; fh = out.fh; kind = File }, out)
+opened_with node given (Create flags mode umask name) (Created entry out) = created_with (Create flags mode umask name) (Created entry out) given
 opened_with node given body reply = None
 
 -- both sides of INIT set FUSE_ATOMIC_O_TRUNC
