@@ -6,8 +6,10 @@ pub use Rattle.fa_capture.proofs.ChecksLemmas.{no_failure, one_failure, checks_e
 pub use Rattle.fa_capture.proofs.ReadingLemmas.{one_reading_lem as one_reading}
 -- bytes that do not begin as a capture hold no record
 pub use Rattle.fa_capture.proofs.ReadingLemmas.{reads_without}
--- where a framing fault is decided, what came is the capture of all that comes; and how much comes before one is
-pub use Rattle.fa_capture.proofs.PieceLemmas.{decided_capture, open_is_short}
+-- where a framing fault is decided, what came is the capture of all that comes; how much comes before one is; and what follows
+pub use Rattle.fa_capture.proofs.PieceLemmas.{decided_capture, open_is_short, recording_is_short, records_stay}
+-- two recordings of the same bytes agree
+pub use Rattle.fa_capture.proofs.ReadingLemmas.{one_recording}
 -- as many messages as records, and one record more
 pub use Rattle.fa_capture.proofs.ReadingLemmas.{records_length, messages_on}
 -- a migrated capture and the one that it was made of hold the same messages

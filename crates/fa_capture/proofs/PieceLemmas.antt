@@ -22,11 +22,12 @@ use Rattle.fa_capture.specs.declared.limits.TheConstants.{MAX_MESSAGES, MAX_MESS
 use Rattle.fa_capture.specs.Checks.{FirstFailure}
 use Rattle.fa_capture.specs.Message.{Message, Recorded, without_times}
 use Rattle.fa_capture.specs.Framing.{magic, record_spelling, capture_spelling, counted_bytes}
-use Rattle.fa_capture.specs.Reading.{IsInFormat, HasMagic, header_size, stated_length, record_checks, IsRecording, IsReading}
+use Rattle.fa_capture.specs.Reading.{IsInFormat, HasMagic, header_size, stated_length, record_checks, IsRecording}
 use Rattle.fa_capture.specs.Pieces.{IsDecided, IsOpen, IsToldOf}
 use Rattle.fa_capture.specs.parts.Walks.{IsMagicBegun}
 use Rattle.std.proofs.lemmas.Option.{same_Some}
-use Rattle.fa_capture.proofs.ReadingLemmas.{IsSoFar, one_recording, reads_whole, reads_fault, reads_without, none_so_far, record_length, records_length, magic_or_not}
+use Rattle.fa_capture.proofs.ReadingLemmas.{IsSoFar, one_recording, reads_whole, reads_fault, reads_without, none_so_far, record_length, records_length, magic_or_not, framed_fit, in_format, behind_magic}
+use Rattle.fa_capture.specs.parts.RecordsLaws.{next_record, same_records}
 
 -- ---- a check that fails, where more bytes follow
 
@@ -278,23 +279,51 @@ short_at bytes rs fault (format, here) r cut =
     omega (arith, ap length at.2, length-append (capture_spelling format rs) at.0, capture_length format rs, left.0, left.1)
 
 -- bytes of which no fault is decided are within the limit, but for the times and a record that is cut off
+pub recording_is_short : (bytes : List ℕ) (rs : List Recorded) (fault : Option CaptureFault) → IsRecording bytes rs fault → IsOpen bytes → length bytes < MAX_READ_LIMIT + 65536
+recording_is_short bytes rs None r opens = omega (arith, ap length r.ended.1, capture_length r.ended.0 rs, r.records.framed.size, r.records.framed.count, records_length rs)
+recording_is_short bytes rs (Some fault) r opens =
+    elim (magic_or_not bytes) [
+      | inr without ↦ elim (cases_lt (length bytes) 8) [
+        | inl few ↦ omega (arith, few)
+        | inr many ↦ absurd (opens (record { whole = 0; code = NO_MAGIC }) (other_decides bytes without (magic_in_eight bytes many)))
+      ]
+      | inl has ↦ elim (cases_eq fault.code CUT_OFF) [
+        | inl cut ↦ short_at bytes rs fault has r cut
+        | inr whole ↦ absurd (opens fault (reading_decides bytes rs fault has r whole))
+      ]
+    ]
+
 pub open_is_short : (bytes : List ℕ) → All (λ b. b < 256) bytes → IsOpen bytes → length bytes < MAX_READ_LIMIT + 65536
-open_is_short bytes small opens = short_of (reading_is_there bytes small)
-  where
-    short_of : (ms : List Message) × (fault : Option CaptureFault) × IsReading bytes ms fault → length bytes < MAX_READ_LIMIT + 65536
-    short_of (ms, None, (rs, is, r)) =
-        omega (arith, ap length r.ended.1, capture_length r.ended.0 rs, r.records.framed.size, r.records.framed.count, records_length rs)
-    short_of (ms, Some fault, (rs, is, r)) =
-        elim (magic_or_not bytes) [
-          | inr without ↦ elim (cases_lt (length bytes) 8) [
-            | inl few ↦ omega (arith, few)
-            | inr many ↦ absurd (opens (record { whole = 0; code = NO_MAGIC }) (other_decides bytes without (magic_in_eight bytes many)))
+open_is_short bytes small opens =
+    let there = reading_is_there bytes small in
+    recording_is_short bytes there.2.0 there.1 there.2.2 opens
+
+-- ---- what follows
+
+-- the records of the first bytes are the first of all
+pub records_stay : (bytes rest : List ℕ) (rs others : List Recorded) (fault other : Option CaptureFault) → IsRecording bytes rs fault → IsRecording (bytes ++ rest) others other
+    → (more : List Recorded) × (others ≡ rs ++ more)
+records_stay bytes rest rs others fault other r o =
+    elim (magic_or_not bytes) [
+      | inr without ↦ (others, ap (λ (x : List Recorded). x ++ others) (sym (r.records.none without)))
+      | inl (format, here) ↦
+          let begins = r.records.spelled format here in
+          let spelled : bytes ++ rest ≡ capture_spelling format rs ++ (begins.rest ++ rest) =
+          ap (λ (x : List ℕ). x ++ rest) begins.spelled ∙ append_assoc (capture_spelling format rs) begins.rest rest in
+          let more = o.records.spelled format (in_format format (bytes ++ rest) rs (begins.rest ++ rest) spelled) in
+          let no_longer : length rs ≤ length others =
+          o.records.longest format rs r.records.framed (record { times = begins.times; rest = begins.rest ++ rest; spelled = spelled }) in
+          let behind = behind_magic format rs others (begins.rest ++ rest) more.rest (sym spelled ∙ more.spelled) in
+          elim (cases_lt (length rs) (length others)) [
+            | inl longer ↦
+                let next = next_record format rs others (begins.rest ++ rest) more.rest (framed_fit format rs r.records.framed begins.times) (framed_fit format others o.records.framed more.times) longer behind in
+                (next.0 ∷ next.1, next.2)
+            | inr le ↦
+                let as_many : length rs ≡ length others = omega (arith, le, no_longer) in
+                let same = same_records format rs others (begins.rest ++ rest) more.rest (framed_fit format rs r.records.framed begins.times) (framed_fit format others o.records.framed more.times) as_many behind in
+                ([], sym same.0 ∙ sym (append-nil rs))
           ]
-          | inl has ↦ elim (cases_eq fault.code CUT_OFF) [
-            | inl cut ↦ short_at bytes rs fault has r cut
-            | inr whole ↦ absurd (opens fault (reading_decides bytes rs fault has r whole))
-          ]
-        ]
+    ]
 
 -- nothing came yet
 no_magic_in_nothing : HasMagic [] → ⊥

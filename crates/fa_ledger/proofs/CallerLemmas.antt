@@ -25,6 +25,8 @@ pub use Rattle.fa_ledger.proofs.TableLemmas.{either_way, ok_also, err_also, wrot
 -- one handle, one listing
 pub use Rattle.fa_ledger.proofs.HandleLemmas.{handle_is_one}
 pub use Rattle.fa_ledger.proofs.ListedLemmas.{uses_is_one, listed_is_one, listing_is_one}
+-- good messages, and the first fault behind them
+pub use Rattle.fa_ledger.proofs.FaultLemmas.{refused_is_first, framing_is_first, good_is_whole}
 -- calls, and one event more
 pub use Rattle.fa_ledger.proofs.CallLemmas.{answers_at, call_at, call_with, call_is_one, calls_of_are_one, calls_are_one}
 pub use Rattle.fa_ledger.proofs.CallStepLemmas.{call_kept, calls_kept, calls_asked, calls_answered}

@@ -36,4 +36,5 @@ pub mod StandingLemmas
 pub mod RequestLemmas
 pub mod RequestBookLemmas
 pub mod SaidLemmas
+pub mod FaultLemmas
 pub mod CallerLemmas
