@@ -9,6 +9,8 @@ mod captures;
 #[cfg(test)]
 mod first;
 #[cfg(test)]
+mod generations;
+#[cfg(test)]
 mod ledgers;
 #[cfg(test)]
 mod listings;

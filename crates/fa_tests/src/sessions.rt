@@ -1,5 +1,6 @@
 //! Sessions of a few messages. Where two rules are broken at once, the row shows which of them is told.
 
+use crate::generations::Generations;
 use crate::paired::packets_of;
 use crate::sent::Sent::{self, *};
 use crate::sent::with;
@@ -29,6 +30,17 @@ fn seen_of_each(alloc: Global, sample: Sample) -> Option<Vec<Seen>> {
     tried.tell_each(&packets, &mut seen);
     drop(tried);
     Some(seen)
+}
+
+/// The same where the session is put aside behind each message, and taken up again for the next one.
+fn seen_of_each_apart(alloc: Global, sample: Sample) -> Option<Vec<Seen>> {
+    let bytes = sample.capture().ok()?;
+    let packets = packets_of(alloc, &bytes)?;
+    let mut seen = vec![in alloc; UNSEEN; packets.len()].ok()?;
+    let mut generations = Generations::new(alloc);
+    let is_seen = generations.tell_each(alloc, &packets, &mut seen);
+    drop(generations);
+    if is_seen { Some(seen) } else { None }
 }
 
 /// The code of what is told, 0 where the message is taken.
@@ -119,18 +131,34 @@ static REPEATED: Course = &[
     (Error(4, ENOENT), Refused(codes::NO_REQUEST_WAITS)),
 ];
 
-/// Whether a session tells this of each message.
-fn is_told(alloc: Global, course: &[(Sent, Told)]) -> Option<bool> {
+/// The messages of a course.
+fn sample_of(alloc: Global, course: &[(Sent, Told)]) -> Sample {
     let mut sample = Sample::new(alloc);
     for (message, _) in course {
         sample = with(sample, *message);
     }
-    let seen = seen_of_each(alloc, sample)?;
+    sample
+}
+
+/// Whether this is what a course tells of each message.
+fn is_as_told(seen: &[Seen], course: &[(Sent, Told)]) -> bool {
     let mut is_told = seen.len() == course.len();
     for (seen, (_, told)) in seen.iter().zip(course) {
         is_told = is_told && seen.told == *told;
     }
-    Some(is_told)
+    is_told
+}
+
+/// Whether a session tells this of each message.
+fn is_told(alloc: Global, course: &[(Sent, Told)]) -> Option<bool> {
+    let seen = seen_of_each(alloc, sample_of(alloc, course))?;
+    Some(is_as_told(&seen, course))
+}
+
+/// Whether a session that is put aside behind each message tells this of each.
+fn is_told_apart(alloc: Global, course: &[(Sent, Told)]) -> Option<bool> {
+    let seen = seen_of_each_apart(alloc, sample_of(alloc, course))?;
+    Some(is_as_told(&seen, course))
 }
 
 #[test]
@@ -146,6 +174,10 @@ fn each_message_of_a_session(rt: HostRuntime) {
         assert!(rt;
             is_told(rt.alloc(), course) == Some(true),
             "course {number}"
+        );
+        assert!(rt;
+            is_told_apart(rt.alloc(), course) == Some(true),
+            "course {number}, put aside behind each message"
         );
     }
 }
@@ -346,6 +378,44 @@ fn a_message_without_memory_is_handed_in_again(rt: HostRuntime) {
             seen[3 + 2 * place].told == Refused(codes::UNIQUE_IN_USE),
             "at {place}"
         );
+    }
+}
+
+/// The session alone takes memory here too, and is put aside behind each message. As above, only a run by
+/// `rt try --test --fail-alloc N` shows what it does without memory: it is put aside or taken up again at a second try, and what
+/// is told of each message is the same.
+#[test]
+fn a_session_without_memory_is_put_aside_again(rt: HostRuntime) {
+    let messages = readlinks();
+    let packets = [
+        packet(Direction::ToServer, INIT),
+        packet(Direction::FromServer, INIT_ANSWER),
+        packet(Direction::ToServer, &messages[0]),
+        packet(Direction::ToServer, &messages[2]),
+        packet(Direction::ToServer, &messages[1]),
+        packet(Direction::FromServer, REFUSAL),
+        packet(Direction::ToServer, &messages[2]),
+        packet(Direction::ToServer, &messages[0]),
+    ];
+    let expected = [
+        Asked(0),
+        Answered(1, 0),
+        Asked(2),
+        Asked(3),
+        Asked(4),
+        Answered(5, 2),
+        Refused(codes::UNIQUE_IN_USE),
+        Asked(6),
+    ];
+    let mut seen = [UNSEEN; 8];
+    let mut generations = Generations::new(rt.alloc());
+    let is_seen = generations.tell_each(rt.alloc(), &packets, &mut seen);
+    let bytes = generations.bytes();
+    drop(generations);
+    assert!(rt; is_seen);
+    assert_eq!(rt; bytes, 3 * READLINK.len());
+    for (seen, told) in seen.iter().zip(&expected) {
+        assert!(rt; seen.told == *told);
     }
 }
 

@@ -112,7 +112,7 @@ impl<'a> Tried<'a> {
     }
 
     /// Hands in a message, and again where memory was refused: what the session tells of it.
-    fn tell(&mut self, packet: &Packet<'a>) -> Seen
+    pub fn tell(&mut self, packet: &Packet<'a>) -> Seen
         requires { ShowsAtMost self.old.taken self.old.session }
         ensures { ShowsAtMost self.new.taken self.new.session }
     {
