@@ -1,0 +1,5 @@
+pub mod MessageLemmas
+pub mod StreamLemmas
+pub mod InputLemmas
+pub mod WatchLemmas
+pub mod CallerLemmas
