@@ -1,6 +1,6 @@
 //! What a ledger keeps, and how one event changes it.
 
-ghost use Rattle.std.specs.Prelude.{◌≡◌, ◌<◌, ◌≤◌, ◌∷◌, ◌++◌, [], ℕ, List, All, None, Some, IfOk, IfErr, OnOk, OnErr, nat_eq, map, length};
+ghost use Rattle.std.specs.Prelude.{◌≡◌, ◌<◌, ◌∷◌, ◌++◌, [], ℕ, List, All, None, Some, IfErr, OnOk, OnErr, map};
 ghost use Rattle.fa_capture.specs.Checks.{AllHold};
 ghost use Rattle.fa_capture.specs.Message.{Message};
 ghost use Rattle.fa_bodies.specs.Requests.{request_shown, body_shown};

@@ -1,6 +1,6 @@
 //! What is alive behind the messages of a stream, and how one event changes it.
 
-ghost use Rattle.std.specs.Prelude.{◌≡◌, ◌∷◌, ◌++◌, [], ℕ, List, All, cond, IfOk, IfErr, OnOk, OnErr, Some, None, nat_eq};
+ghost use Rattle.std.specs.Prelude.{◌≡◌, ◌∷◌, ◌++◌, [], List, All, IfErr, OnOk, OnErr, Some, nat_eq};
 ghost use Rattle.std.specs.Map.{lookup};
 ghost use Rattle.fa_capture.specs.Checks.{AllHold};
 ghost use Rattle.fa_capture.specs.Message.{Message};
@@ -8,7 +8,6 @@ ghost use Rattle.fa_bodies.specs.Requests.{request_shown, body_shown};
 ghost use Rattle.fa_bodies.specs.Replies.{reply_shown};
 ghost use Rattle.fa_session.specs.Events.{PlainEvent, event_shown};
 ghost use Rattle.fa_session.specs.Events.PlainEvent.{Asked, Answered};
-ghost use Rattle.fa_ledger.specs.declared.error.LedgerError.TheVariants.{Memory};
 ghost use Rattle.fa_ledger.specs.Counts.{nodes_given, request_takes};
 ghost use Rattle.fa_ledger.specs.Kinds.{IsTreeRequest};
 ghost use Rattle.fa_ledger.specs.Names.{name_at};

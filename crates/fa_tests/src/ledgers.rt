@@ -4,6 +4,7 @@ use crate::messages::{INIT, INIT_ANSWER, begun, packet, spelled, thirty};
 use crate::paired::{Paired, calls_in, handed_in, packets_of};
 use crate::sent::Sent::{self, *};
 use crate::sent::{CREAT, with, with_all};
+use crate::standings::taken;
 use Mark::*;
 use NodeName::{Given, Root};
 use bitflags::Flags;
@@ -49,13 +50,13 @@ fn ends_with(codes: &[u16], last: u16) -> bool {
 const TWICE: &[(u64, u64)] = &[(5, 1), (5, 1)];
 
 /// The node 5 is given, and opened with the file handle 7: the messages 2 to 5.
-static OPENED: &[Sent] = &[Lookup(2, 1), Entry(2, 5), Open(4, 5, 0), Opened(4, 7, 0)];
+pub(crate) static OPENED: &[Sent] = &[Lookup(2, 1), Entry(2, 5), Open(4, 5, 0), Opened(4, 7, 0)];
 
 /// The code of each message, 0 where it is taken. These stand behind INIT, its answer and `OPENED`, and those that are
 /// refused change nothing.
-type Course = &'static [(Sent, u16)];
+pub(crate) type Course = &'static [(Sent, u16)];
 
-static COURSES: [Course; 8] = [
+pub(crate) static COURSES: [Course; 10] = [
     &[
         (BatchForget(6, TWICE), FORGOTTEN_TOO_OFTEN),
         (Forget(6, 5, 1), 0),
@@ -106,6 +107,27 @@ static COURSES: [Course; 8] = [
         (DirentsOfTwo(8, 6, 6), 0),
         (Forget(10, 6, 2), 0),
         (Readlink(11, 6), FORGOTTEN_NODE),
+    ],
+    // An OPEN that waits opens under the name that its node had when it was asked.
+    &[
+        (Open(6, 5, 0), 0),
+        (Forget(7, 5, 1), 0),
+        (Lookup(8, 1), 0),
+        (Entry(8, 5), 0),
+        (Opened(6, 8, 0), 0),
+        (Read(11, 5, 8), CLOSED_HANDLE),
+        (Open(11, 5, 0), 0),
+        (Opened(11, 8, 0), 0),
+        (Read(13, 5, 8), 0),
+    ],
+    // One that fails opens nothing.
+    &[
+        (Open(6, 5, 0), 0),
+        (Opendir(7, 1), 0),
+        (Error(6, EACCES), 0),
+        (Opened(7, 8, 0), 0),
+        (Releasedir(10, 1, 8), 0),
+        (Read(11, 5, 8), CLOSED_HANDLE),
     ],
 ];
 
@@ -159,7 +181,7 @@ fn many_handles_opened_and_closed(rt: HostRuntime) {
 
 /// What a call shows besides its request and its node, where it is not none or false.
 #[derive(Clone, Copy)]
-enum Mark {
+pub(crate) enum Mark {
     Other(NodeName),
     Handle(u32),
     Direct,
@@ -174,13 +196,13 @@ enum Mark {
 }
 
 /// The number of a call's request, its node, and what else it shows.
-type Shows = (u32, NodeName, &'static [Mark]);
+pub(crate) type Shows = (u32, NodeName, &'static [Mark]);
 
 /// The node 5 by the reply 3.
 const FIVE: NodeName = Given { id: 5, by: 3 };
 
 /// Flags of INIT and of its answer, messages behind these, and their calls.
-type Called = ((u32, u32), &'static [Sent], &'static [Shows]);
+pub(crate) type Called = ((u32, u32), &'static [Sent], &'static [Shows]);
 
 /// The node 5 is forgotten and given again, while it is open.
 const GIVEN_AGAIN: Called = (
@@ -397,7 +419,7 @@ const BY_OPEN: &[Shows] = &[
     (6, Root, &[]),
 ];
 
-static CALLS: [Called; 10] = [
+pub(crate) static CALLS: [Called; 10] = [
     GIVEN_AGAIN,
     CREATED,
     OTHERS,
@@ -676,8 +698,8 @@ fn are_grown(calls: &Calls<'_>) -> bool {
     are_grown && gives(&listing, 125, &given) && further.listing == listed
 }
 
-/// The sessions and the ledger alone take memory here. An ordinary run has ample memory, so only a run by
-/// `rt try --test --fail-alloc N`, which refuses the Nth allocation, shows what the ledger does without it: the event is
+/// The sessions, the ledger and the standing alone take memory here. An ordinary run has ample memory, so only a run by
+/// `rt try --test --fail-alloc N`, which refuses the Nth allocation, shows what they do without it: the event is
 /// handed in again, and what is told of it and of the others is the same.
 #[test]
 fn an_event_without_memory_is_handed_in_again(rt: HostRuntime) {
@@ -712,6 +734,7 @@ fn an_event_without_memory_is_handed_in_again(rt: HostRuntime) {
     let are_grown = are_grown(&calls);
     drop(calls);
     assert!(rt; are_grown);
+    assert!(rt; taken(rt.alloc(), &packets) == (127, None));
 }
 
 #[test]

@@ -22,6 +22,8 @@ pub mod sent;
 #[cfg(test)]
 mod sessions;
 #[cfg(test)]
+mod standings;
+#[cfg(test)]
 mod streams;
 #[cfg(test)]
 mod tried;

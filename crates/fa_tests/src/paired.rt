@@ -23,7 +23,7 @@ use std::alloc::Global;
 pub const UNTOLD: u16 = 999;
 
 /// What a session says of the next message, which is handed in again where memory was refused.
-fn told<'a>(session: &mut Session<'a>, packet: &Packet<'a>) -> Result<Event<'a>, SessionError>
+pub fn told<'a>(session: &mut Session<'a>, packet: &Packet<'a>) -> Result<Event<'a>, SessionError>
     requires { session.old.messages < MAX_MESSAGES }
     ensures passes { OnOk result ((c : List Message) → Shows c session.old → IsAllowed c (message packet.now)) }
     ensures shows { OnOk result ((c : List Message) → Shows c session.old → Shows (c ++ message packet.now ∷ []) session.new) }
