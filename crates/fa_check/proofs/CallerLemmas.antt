@@ -12,15 +12,22 @@ use Rattle.fa_check.specs.Verdicts.{IsLegalWith, IsVerdict, Exactly}
 pub use Rattle.fa_check.proofs.VerdictLemmas.{verdict_is_one}
 -- and never none, where the messages are good
 pub use Rattle.fa_check.proofs.ThereLemmas.{verdict_is_there}
--- a run leads to one tree
-pub use Rattle.fa_check.proofs.RunLemmas.{run_is_one, run_more, run_at}
+-- an entry leads to one tree, and so does a run
+pub use Rattle.fa_check.proofs.RunLemmas.{entry_is_one, run_is_one, run_more, run_at}
 -- the calls of messages
-pub use Rattle.fa_check.proofs.MessageLemmas.{tree_is_call, call_answered, call_unanswered, call_of_message, asked_rise, one_place, one_answered}
+pub use Rattle.fa_check.proofs.MessageLemmas.{call_is_tree, tree_is_call, call_answered, call_unanswered, call_of_message, asked_rise, one_place, one_answered}
 -- an order is valid exactly where each entry passes the checks of its place
 pub use Rattle.fa_check.proofs.OrderLemmas.{valid_where_each_is_placed, placed_valid, number_more, number_still, number_now}
 -- one entry more, and an order without a fault
-pub use Rattle.fa_check.proofs.EntryLemmas.{each_more, choice_allowed}
+pub use Rattle.fa_check.proofs.EntryLemmas.{each_more, allowed_choice, choice_allowed}
 pub use Rattle.fa_check.proofs.FaultLemmas.{placed_no_fault}
+-- a step that is taken fails no check, and the first that one fails is one
+pub use Rattle.fa_check.proofs.FaultLemmas.{no_step_failure, one_step_failure}
+-- a legal order explains the replies before each message, what explains all replies is legal, and what explains those before a message is
+-- so when it is cut there
+pub use Rattle.fa_check.proofs.CutRunLemmas.{explained_is_legal_cut, legal_explains, explains_all_is_legal}
+-- messages whose first ones have no order have none
+pub use Rattle.fa_check.proofs.CutAgainLemmas.{no_order_stays}
 -- an order has one cut, of good messages never none, with numbers in range where the order's are
 pub use Rattle.fa_check.proofs.CutOneLemmas.{cut_is_one}
 pub use Rattle.fa_check.proofs.CutThereLemmas.{cut_is_there}

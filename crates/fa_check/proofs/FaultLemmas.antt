@@ -16,7 +16,7 @@ use Rattle.fa_check.proofs.RunLemmas.{call_one, run_is_one, run_at}
 -- ---- one entry
 
 -- a step that is taken fails no check
-no_step_failure : (c : List Message) (old new : TreeState) (e : Entry) (code : ℕ) → EntrySteps old new c e → StepFails old c e code → ⊥
+pub no_step_failure : (c : List Message) (old new : TreeState) (e : Entry) (code : ℕ) → EntrySteps old new c e → StepFails old c e code → ⊥
 no_step_failure c old new e code is fails =
     let same = call_one c e.at is.call fails.call is.so_far fails.so_far is.of_request fails.of_request in
     let hold : AllHold (step_checks old fails.call e.wrote fails.so_far) =
@@ -24,7 +24,7 @@ no_step_failure c old new e code is fails =
     no_failure (step_checks old fails.call e.wrote fails.so_far) code hold fails.fails
 
 -- the first check that a step fails is one
-one_step_failure : (c : List Message) (tree : TreeState) (e : Entry) (a b : ℕ) → StepFails tree c e a → StepFails tree c e b → a ≡ b
+pub one_step_failure : (c : List Message) (tree : TreeState) (e : Entry) (a b : ℕ) → StepFails tree c e a → StepFails tree c e b → a ≡ b
 one_step_failure c tree e a b is too =
     let same = call_one c e.at is.call too.call is.so_far too.so_far is.of_request too.of_request in
     let moved : FirstFailure (step_checks tree too.call e.wrote too.so_far) a =

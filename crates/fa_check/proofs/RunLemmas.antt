@@ -44,7 +44,7 @@ call_one c p call other so_far listed is too =
 -- ---- steps
 
 -- an entry leads from a tree to one other
-entry_is_one : (c : List Message) (old new other : TreeState) (e : Entry) → EntrySteps old new c e → EntrySteps old other c e → new ≡ other
+pub entry_is_one : (c : List Message) (old new other : TreeState) (e : Entry) → EntrySteps old new c e → EntrySteps old other c e → new ≡ other
 entry_is_one c old new other e is too =
     let same = call_one c e.at is.call too.call is.so_far too.so_far is.of_request too.of_request in
     step_is_one old new other too.call e.wrote too.so_far

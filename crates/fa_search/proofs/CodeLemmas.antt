@@ -1,0 +1,65 @@
+-- With which codes the request is refused that the message answers past which no order goes: by the configurations in which it is not
+-- placed, whose trees are all to which entries lead that explain the replies before.
+use Rattle.std.proofs.Common.{◌≡◌, ℕ, List, None, refl, sym, subst, inl}
+use Rattle.std.specs.Prelude.{Contains}
+use Rattle.fa_capture.specs.Message.{Message}
+use Rattle.fa_session.specs.Answers.{IsAnsweredBy}
+use Rattle.fa_tree.specs.State.{TreeState}
+use Rattle.fa_order.specs.declared.entry.Entry.{Entry}
+use Rattle.fa_check.specs.Orders.{IsTreeRequestAt}
+use Rattle.fa_check.specs.Runs.{Runs}
+use Rattle.fa_check.proofs.CallerLemmas.{one_step_failure}
+use Rattle.fa_search.specs.Searches.{ComesTo, IsRefusedFrom, AreCodesAt}
+use Rattle.fa_search.specs.parts.Configurations.{PlainConfiguration, IsReached, AreHeld, AreSettling, AreSpent}
+use Rattle.fa_search.proofs.PendingLemmas.{one_answered, waits_still}
+use Rattle.fa_search.proofs.SettledLemmas.{all_waiting}
+
+-- entries that come to a configuration in which the request is not placed come to its reply
+pub reached_comes : (c : List Message) (first : TreeState) (at asked : ℕ) (x : PlainConfiguration) → IsTreeRequestAt c asked → IsAnsweredBy c asked at → (Contains x.placed asked → ⊥)
+    → IsReached c first at x → (es : List Entry) × ComesTo c first at es x.tree asked
+reached_comes c first at asked x tree by lacks reached = (
+  reached.entries,
+  record {
+    explains = record {
+      placed = reached.rightly;
+      last = x.tree;
+      run = reached.run;
+      held = λ p request answered. (reached.exact p).1 (inl (request, answered));
+    };
+    leads = refl;
+    tree_request = tree;
+    answered = by;
+    left_out = λ has. waits_still c at asked x.placed by lacks ((reached.exact asked).0 has);
+  },
+)
+
+module _ (c : List Message) (first : TreeState) (at asked : ℕ) (tree : IsTreeRequestAt c asked) (by : IsAnsweredBy c asked at)
+    (held work settled : List PlainConfiguration) (are : AreHeld c first at held) (settling : AreSettling c first at asked held work settled) (spent : AreSpent c at work work settled) where
+  -- each tree to which entries come is that of such a configuration
+  pub tree_is_there : (es : List Entry) (last : TreeState) → ComesTo c first at es last asked → (x : PlainConfiguration) × Contains work x × (last ≡ x.tree)
+  tree_is_there es last comes =
+      let run : Runs first last c es = subst (λ (t : TreeState). Runs first t c es) (sym comes.leads) comes.explains.run in
+      all_waiting c first at asked tree by held work settled settling spent es last comes.left_out (are.complete es last comes.explains run)
+
+  -- so the codes with which these refuse it are all
+  pub codes_are_all : (codes : List ℕ)
+      → ((code : ℕ) → Contains codes code → (x : PlainConfiguration) × Contains work x × IsRefusedFrom x.tree c asked code)
+      → ((x : PlainConfiguration) → Contains work x → (code : ℕ) × Contains codes code × IsRefusedFrom x.tree c asked code)
+      → AreCodesAt c first at codes
+  codes_are_all codes of each = record {
+    each = λ code has.
+        let found = of code has in
+        let x : PlainConfiguration = found.0 in
+        let comes = reached_comes c first at asked x tree by (settling.waiting x found.1) (settling.reached x (inl found.1)) in
+        (comes.0, x.tree, asked, comes.1, found.2);
+    complete = λ code refused. told code refused.0 refused.1 refused.2 refused.3 refused.4;
+  }
+    where
+      told : (code : ℕ) (es : List Entry) (last : TreeState) (other : ℕ) → ComesTo c first at es last other → IsRefusedFrom last c other code → Contains codes code
+      told code es last other comes refused =
+          let same : other ≡ asked = one_answered c other asked at comes.answered by in
+          let found = tree_is_there es last (subst (ComesTo c first at es last) same comes) in
+          let mine = each found.0 found.1 in
+          let here : IsRefusedFrom last c asked code = subst (λ (k : ℕ). IsRefusedFrom last c k code) same refused in
+          let there : IsRefusedFrom last c asked mine.0 = subst (λ (t : TreeState). IsRefusedFrom t c asked mine.0) (sym found.2) mine.2 in
+          subst (Contains codes) (one_step_failure c last (record { at = asked; wrote = None }) mine.0 code there here) mine.1

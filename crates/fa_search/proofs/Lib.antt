@@ -1,0 +1,10 @@
+pub mod StopLemmas
+pub mod FirstWithoutLemmas
+pub mod PendingLemmas
+pub mod RefusalLemmas
+pub mod GoingLemmas
+pub mod SettledLemmas
+pub mod SettlingLemmas
+pub mod HeldLemmas
+pub mod CodeLemmas
+pub mod TriedLemmas

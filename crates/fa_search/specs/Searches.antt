@@ -1,0 +1,56 @@
+-- What a search of all orders finds where none is legal: the message past which none goes, and why.
+use Rattle.std.specs.Prelude.{◌≡◌, ℕ, ◌+◌, ◌<◌, List, length, take, Contains, None}
+use Rattle.fa_capture.specs.Message.{Message}
+use Rattle.fa_session.specs.Answers.{IsAnsweredBy}
+use Rattle.fa_tree.specs.State.{TreeState}
+use Rattle.fa_order.specs.declared.entry.Entry.{Entry}
+use Rattle.fa_check.specs.Orders.{IsTreeRequestAt, numbers}
+use Rattle.fa_check.specs.Runs.{HasOrder}
+use Rattle.fa_check.specs.Faults.{StepFails}
+use Rattle.fa_check.specs.Cuts.{Explains}
+
+-- ---- no order
+
+-- No order of these messages is legal from this first tree. So it is of messages that are not good.
+abbrev pub HasNoOrder : List Message → TreeState → Type 0
+HasNoOrder c first = HasOrder c first → ⊥
+
+-- Some entries explain all replies before this message, and none explain its own and those before it. What entries hold is judged by
+-- its reply, whenever that came: of a request in flight at this message the reply that comes later is known.
+pub record IsStop (c : List Message) (first : TreeState) (at : ℕ) : Type 0 where
+  pub within : at < length c
+  pub before : (es : List Entry) × Explains c first at es
+  pub none : (es : List Entry) → Explains c first (at + 1) es → ⊥
+
+-- The messages before this one, as a capture of their own, have an order, and those up to and with it have none. There the replies of
+-- requests in flight are cut off, so this message may be a later one than that past which no order of all messages goes.
+pub record IsFirstWithout (c : List Message) (first : TreeState) (at : ℕ) : Type 0 where
+  pub within : at < length c
+  pub before : HasOrder (take at c) first
+  pub none : HasNoOrder (take (at + 1) c) first
+
+-- ---- the refusal
+
+-- Some entries come to the reply at this message: they explain all replies before it, lead to this tree, and leave out the tree request
+-- at `asked`, which it answers.
+pub record ComesTo (c : List Message) (first : TreeState) (at : ℕ) (es : List Entry) (tree : TreeState) (asked : ℕ) : Type 0 where
+  pub explains : Explains c first at es
+  pub leads : tree ≡ explains.last
+  pub tree_request : IsTreeRequestAt c asked
+  pub answered : IsAnsweredBy c asked at
+  pub left_out : Contains (numbers es) asked → ⊥
+
+-- from this tree the tree request at `asked`, which was answered, is refused with this code
+abbrev pub IsRefusedFrom : TreeState → List Message → (asked code : ℕ) → Type 0
+IsRefusedFrom tree c asked code = StepFails tree c (record { at = asked; wrote = None }) code
+
+-- the request that this message answers is refused with this code after some entries that come to it
+abbrev pub IsRefusedWith : List Message → TreeState → (at code : ℕ) → Type 0
+IsRefusedWith c first at code =
+    (es : List Entry) × (tree : TreeState) × (asked : ℕ) × ComesTo c first at es tree asked × IsRefusedFrom tree c asked code
+
+-- These are all codes with which it is refused, after whatever entries come to it. Where there is one alone, it is refused with that one in
+-- every order that explains all before.
+pub record AreCodesAt (c : List Message) (first : TreeState) (at : ℕ) (codes : List ℕ) : Type 0 where
+  pub each : (code : ℕ) → Contains codes code → IsRefusedWith c first at code
+  pub complete : (code : ℕ) → IsRefusedWith c first at code → Contains codes code

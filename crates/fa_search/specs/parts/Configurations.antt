@@ -1,0 +1,114 @@
+-- How far a search has come at a message: all tree requests that were answered before it are placed, in some order, and of those in flight
+-- some are. Only which of these are, and the tree, matters for what may come behind it.
+use Rattle.std.specs.Prelude.{◌≡◌, ◌≢◌, ◌↔◌, ◌⊎◌, ℕ, ◌<◌, List, Contains, Option}
+use Rattle.fa_capture.specs.Message.{Message}
+use Rattle.fa_session.specs.Answers.{IsAnsweredBy}
+use Rattle.fa_tree.specs.State.{TreeState}
+use Rattle.fa_order.specs.declared.entry.Entry.{Entry}
+use Rattle.fa_check.specs.Orders.{IsTreeRequestAt, IsChoice, numbers}
+use Rattle.fa_check.specs.Runs.{EntrySteps, Runs}
+use Rattle.fa_check.specs.Faults.{EachPlaced}
+use Rattle.fa_check.specs.Cuts.{IsAnsweredBefore, Explains}
+use Rattle.fa_search.specs.parts.Going.{GoesOn}
+
+-- Which requests in flight are placed, by the numbers of their messages, and the tree.
+pub record PlainConfiguration : Type 0 where
+  pub placed : List ℕ
+  pub tree : TreeState
+
+-- The tree request at p is done at this message: it was answered before, or it is one of those in flight that are placed.
+abbrev pub IsDoneAt : List Message → (at : ℕ) → (placed : List ℕ) → (p : ℕ) → Type 0
+IsDoneAt c at placed p = (IsTreeRequestAt c p × IsAnsweredBefore c at p) ⊎ Contains placed p
+
+-- ---- requests in flight
+
+-- The tree request at p was sent before this message, was not answered before it, and an order may name it: it does not only read, or an
+-- answer comes.
+pub record IsPending (c : List Message) (at p : ℕ) : Type 0 where
+  pub tree_request : IsTreeRequestAt c p
+  pub sent : p < at
+  pub waits : IsAnsweredBefore c at p → ⊥
+  pub named : (wrote : Option ℕ) × IsChoice c (record { at = p; wrote = wrote })
+
+-- these are all of them
+abbrev pub ArePending : List Message → (at : ℕ) → List ℕ → Type 0
+ArePending c at pending = (p : ℕ) → Contains pending p ↔ IsPending c at p
+
+-- an entry that names one of them, with a choice that is allowed
+pub record MayBeTried (c : List Message) (at : ℕ) (e : Entry) : Type 0 where
+  pub pending : IsPending c at e.at
+  pub choice : IsChoice c e
+
+-- the numbers and one more
+abbrev pub IsOneMore : (old : List ℕ) → (number : ℕ) → (new : List ℕ) → Type 0
+IsOneMore old number new = (p : ℕ) → Contains new p ↔ (Contains old p ⊎ (number ≡ p))
+
+-- the numbers without this one
+abbrev pub IsOneLess : (old : List ℕ) → (number : ℕ) → (new : List ℕ) → Type 0
+IsOneLess old number new = (p : ℕ) → Contains new p ↔ (Contains old p × (number ≢ p))
+
+-- this message answers no tree request
+abbrev pub AnswersNone : List Message → (at : ℕ) → Type 0
+AnswersNone c at = (p : ℕ) → IsTreeRequestAt c p → IsAnsweredBy c p at → ⊥
+
+-- ---- what is held at a message
+
+-- Some entries come to the configuration: they lead from the first tree to its tree, and hold exactly what is done.
+pub record IsReached (c : List Message) (first : TreeState) (at : ℕ) (x : PlainConfiguration) : Type 0 where
+  pub entries : List Entry
+  pub rightly : EachPlaced c entries
+  pub run : Runs first x.tree c entries
+  pub exact : (p : ℕ) → Contains (numbers entries) p ↔ IsDoneAt c at x.placed p
+
+-- the requests of these entries are those that are done, and those of the rest
+abbrev pub AreParted : (Done : ℕ → Type 0) → (rest es : List Entry) → Type 0
+AreParted Done rest es = (p : ℕ) → Contains (numbers es) p ↔ (Done p ⊎ Contains (numbers rest) p)
+
+-- Entries that lead to this tree go on from one of these configurations: so does a rest of the same requests, to the same tree.
+pub record HasRest (c : List Message) (at : ℕ) (held : List PlainConfiguration) (es : List Entry) (last : TreeState) : Type 0 where
+  pub from : PlainConfiguration
+  pub there : Contains held from
+  pub rest : List Entry
+  pub on : GoesOn c (IsDoneAt c at from.placed) from.tree last rest
+  pub parts : AreParted (IsDoneAt c at from.placed) rest es
+
+-- The configurations that a search holds at a message: entries come to each, and whatever explains the replies before that message goes on
+-- from one of them.
+pub record AreHeld (c : List Message) (first : TreeState) (at : ℕ) (held : List PlainConfiguration) : Type 0 where
+  pub reached : (x : PlainConfiguration) → Contains held x → IsReached c first at x
+  pub complete : (es : List Entry) (last : TreeState) → Explains c first at es → Runs first last c es → HasRest c at held es last
+
+-- ---- what is settled where a reply comes
+
+-- one of these two lists has what the entry leads to from the configuration
+pub record IsFollowed (c : List Message) (x : PlainConfiguration) (e : Entry) (new : TreeState) (work settled : List PlainConfiguration) : Type 0 where
+  pub to : PlainConfiguration
+  pub there : Contains work to ⊎ Contains settled to
+  pub tree : to.tree ≡ new
+  pub placed : IsOneMore x.placed e.at to.placed
+
+-- whatever may be tried from the configuration, and has a step, leads to one of these
+abbrev pub IsSpent : List Message → (at : ℕ) → PlainConfiguration → (work settled : List PlainConfiguration) → Type 0
+IsSpent c at x work settled =
+    (e : Entry) (new : TreeState) → MayBeTried c at e → (Contains x.placed e.at → ⊥) → EntrySteps x.tree new c e → IsFollowed c x e new work settled
+
+-- Two lists of configurations while the request at `asked` is settled, which was answered: it is not placed in those of the first, and is in
+-- those of the second. Each that was held is among them, and entries come to each.
+pub record AreSettling (c : List Message) (first : TreeState) (at asked : ℕ) (held work settled : List PlainConfiguration) : Type 0 where
+  pub begun : (x : PlainConfiguration) → Contains held x → Contains work x ⊎ Contains settled x
+  pub waiting : (x : PlainConfiguration) → Contains work x → Contains x.placed asked → ⊥
+  pub placed : (x : PlainConfiguration) → Contains settled x → Contains x.placed asked
+  pub reached : (x : PlainConfiguration) → Contains work x ⊎ Contains settled x → IsReached c first at x
+
+-- each of these is spent
+abbrev pub AreSpent : List Message → (at : ℕ) → (those work settled : List PlainConfiguration) → Type 0
+AreSpent c at those work settled = (x : PlainConfiguration) → Contains those x → IsSpent c at x work settled
+
+-- the configuration without this request, which is placed in it
+abbrev pub IsWithout : (old : PlainConfiguration) → (asked : ℕ) → (new : PlainConfiguration) → Type 0
+IsWithout old asked new = (new.tree ≡ old.tree) × IsOneLess old.placed asked new.placed
+
+-- these are all of them without the request
+pub record AreWithout (settled : List PlainConfiguration) (asked : ℕ) (held : List PlainConfiguration) : Type 0 where
+  pub each : (y : PlainConfiguration) → Contains held y → (x : PlainConfiguration) × Contains settled x × IsWithout x asked y
+  pub all : (x : PlainConfiguration) → Contains settled x → (y : PlainConfiguration) × Contains held y × IsWithout x asked y
