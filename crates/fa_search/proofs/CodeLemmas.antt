@@ -1,6 +1,6 @@
 -- With which codes the request is refused that the message answers past which no order goes: by the configurations in which it is not
 -- placed, whose trees are all to which entries lead that explain the replies before.
-use Rattle.std.proofs.Common.{◌≡◌, ℕ, List, None, refl, sym, subst, inl}
+use Rattle.std.proofs.Common.{◌≡◌, ℕ, List, [], None, refl, sym, subst, inl, arith}
 use Rattle.std.specs.Prelude.{Contains}
 use Rattle.fa_capture.specs.Message.{Message}
 use Rattle.fa_session.specs.Answers.{IsAnsweredBy}
@@ -34,12 +34,12 @@ reached_comes c first at asked x tree by lacks reached = (
 )
 
 module _ (c : List Message) (first : TreeState) (at asked : ℕ) (tree : IsTreeRequestAt c asked) (by : IsAnsweredBy c asked at)
-    (held work settled : List PlainConfiguration) (are : AreHeld c first at held) (settling : AreSettling c first at asked held work settled) (spent : AreSpent c at work work settled) where
-  -- each tree to which entries come is that of such a configuration
+    (held work : List PlainConfiguration) (are : AreHeld c first at held) (settling : AreSettling c first at asked held work []) (spent : AreSpent c at work work []) where
+  -- each tree to which entries come is that of such a configuration, where there is none in which the request is placed
   pub tree_is_there : (es : List Entry) (last : TreeState) → ComesTo c first at es last asked → (x : PlainConfiguration) × Contains work x × (last ≡ x.tree)
   tree_is_there es last comes =
       let run : Runs first last c es = subst (λ (t : TreeState). Runs first t c es) (sym comes.leads) comes.explains.run in
-      all_waiting c first at asked tree by held work settled settling spent es last comes.left_out (are.complete es last comes.explains run)
+      all_waiting c first at asked tree by held work [] settling spent es last (λ y has. omega (arith, has.1)) (are.complete es last comes.explains run)
 
   -- so the codes with which these refuse it are all
   pub codes_are_all : (codes : List ℕ)

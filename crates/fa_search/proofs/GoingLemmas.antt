@@ -1,7 +1,8 @@
 -- Entries that go on: what explains replies does from nothing, and what goes on where some requests are done does so where the same are
 -- done otherwise said.
-use Rattle.std.proofs.Common.{◌≡◌, ◌↔◌, ℕ, List, [], ◌∷◌, ◌++◌, refl, sym, subst, ◌∙◌, inl, inr, append_assoc, arith}
+use Rattle.std.proofs.Common.{◌≡◌, ◌↔◌, ◌⊎◌, ℕ, ◌≤◌, List, [], ◌∷◌, ◌++◌, length, refl, sym, subst, ◌∙◌, inl, inr, append_assoc, arith}
 use Rattle.std.specs.Prelude.{Contains}
+use Rattle.std.proofs.lemmas.Bool.{cases_eq}
 use Rattle.fa_capture.specs.Checks.{AllHold}
 use Rattle.fa_capture.specs.Message.{Message}
 use Rattle.fa_capture.proofs.CallerLemmas.{contains_cases, contains_first, contains_behind}
@@ -12,7 +13,7 @@ use Rattle.fa_check.specs.Runs.{Runs}
 use Rattle.fa_check.specs.Faults.{order_checks, EachPlaced}
 use Rattle.fa_check.proofs.CallerLemmas.{number_more, number_still, number_now}
 use Rattle.fa_search.specs.parts.Going.{MayCome, OrThis, GoesOn}
-use Rattle.fa_search.specs.parts.Configurations.{AreParted}
+use Rattle.fa_search.specs.parts.Configurations.{PlainConfiguration, IsAnsweredTree, IsDoneAt, AreDoneOrIn, LeavesTrees, IsAhead}
 
 -- ---- the same requests are done
 
@@ -43,30 +44,138 @@ module _ (c : List Message) where
     goes_on_same (OrThis Done e.at) (OrThis Other e.at) on.0 new es (or_this_same Done Other e.at same) on.3,
   )
 
--- ---- the parts of an order
+-- ---- what is left of an order
 
--- they are the same parts where the same are done
-pub parted_same : (Done Other : ℕ → Type 0) (rest es : List Entry) → ((p : ℕ) → Done p ↔ Other p) → AreParted Done rest es → AreParted Other rest es
-parted_same Done Other rest es same parts p = (
-  (λ has. elim ((parts p).0 has) [ inl done ↦ inl ((same p).0 done) | inr behind ↦ inr behind ]),
-  (λ either. elim either [ inl done ↦ (parts p).1 (inl ((same p).1 done)) | inr behind ↦ (parts p).1 (inr behind) ]),
-)
+-- it is the same where the same are done
+pub kept_same : (Done Other : ℕ → Type 0) (rest es : List Entry) → ((p : ℕ) → Done p ↔ Other p) → AreDoneOrIn Done rest es → AreDoneOrIn Other rest es
+kept_same Done Other rest es same kept p has = elim (kept p has) [ inl done ↦ inl ((same p).0 done) | inr behind ↦ inr behind ]
 
 -- and where the first of the rest is done
-pub parted_next : (Done : ℕ → Type 0) (e : Entry) (rest es : List Entry) → AreParted Done (e ∷ rest) es → AreParted (OrThis Done e.at) rest es
-parted_next Done e rest es parts p = (
-  (λ has. elim ((parts p).0 has) [
-    | inl done ↦ inl (inl done)
-    | inr there ↦ elim (contains_cases e.at (numbers rest) p there) [ inl here ↦ inl (inr here) | inr behind ↦ inr behind ]
-  ]),
-  (λ either. elim either [
-    | inl done ↦ elim done [
-      | inl before ↦ (parts p).1 (inl before)
-      | inr here ↦ (parts p).1 (inr (subst (Contains (numbers (e ∷ rest))) here (contains_first e.at (numbers rest))))
-    ]
-    | inr behind ↦ (parts p).1 (inr (contains_behind e.at (numbers rest) p behind))
-  ]),
+pub kept_next : (Done : ℕ → Type 0) (e : Entry) (rest es : List Entry) → AreDoneOrIn Done (e ∷ rest) es → AreDoneOrIn (OrThis Done e.at) rest es
+kept_next Done e rest es kept p has = elim (kept p has) [
+  | inl done ↦ inl (inl done)
+  | inr there ↦ elim (contains_cases e.at (numbers rest) p there) [ inl here ↦ inl (inr here) | inr behind ↦ inr behind ]
+]
+
+-- ---- requests that leave the tree
+
+-- Entries that go on, but for one request or some, which are done: what is left of them does, and is no longer.
+pub record GoesOnBut (c : List Message) (Done Others : ℕ → Type 0) (old new : TreeState) (es : List Entry) : Type 0 where
+  pub rest : List Entry
+  pub on : GoesOn c (λ p. Done p ⊎ Others p) old new rest
+  pub kept : (p : ℕ) → Contains (numbers es) p → Others p ⊎ Contains (numbers rest) p
+  pub shorter : length rest ≤ length es
+
+-- one that is done may be said behind another
+this_last : (Done Others : ℕ → Type 0) (this p : ℕ) → (OrThis Done this p ⊎ Others p) ↔ OrThis (λ q. Done q ⊎ Others q) this p
+this_last Done Others this p = (
+  (λ done. elim done [ inl first ↦ elim first [ inl before ↦ inl (inl before) | inr here ↦ inr here ] | inr others ↦ inl (inr others) ]),
+  (λ done. elim done [ inl first ↦ elim first [ inl before ↦ inl (inl before) | inr others ↦ inr others ] | inr here ↦ inl (inr here) ]),
 )
+
+-- Where one leaves each tree as it is, entries go on without it: it may be done at once.
+one_done : (c : List Message) (this : ℕ) → LeavesTrees c this → (es : List Entry) (Done : ℕ → Type 0) (old new : TreeState) → GoesOn c Done old new es
+    → GoesOnBut c Done (λ p. this ≡ p) old new es
+one_done c this leaves [] Done old new on = record { rest = []; on = on; kept = λ p has. absurd (omega (arith, has.1)); shorter = omega arith }
+one_done c this leaves (e ∷ es) Done old new on =
+    elim (cases_eq this e.at) [
+      | inl same ↦
+          let stays : on.0 ≡ old = leaves old on.0 e (sym same) on.2 in
+          record {
+            rest = es;
+            on = subst (λ (k : ℕ). GoesOn c (OrThis Done k) old new es) (sym same) (subst (λ (t : TreeState). GoesOn c (OrThis Done e.at) t new es) stays on.3);
+            kept = λ p has. elim (contains_cases e.at (numbers es) p has) [ inl here ↦ inl (same ∙ here) | inr behind ↦ inr behind ];
+            shorter = omega arith;
+          }
+      | inr other ↦
+          let further = one_done c this leaves es (OrThis Done e.at) on.0 new on.3 in
+          record {
+            rest = e ∷ further.rest;
+            on = (
+              on.0,
+              record {
+                tree_request = on.1.tree_request;
+                once = λ done. elim done [ inl before ↦ on.1.once before | inr here ↦ other here ];
+                earlier = λ p q tree by before. inl (on.1.earlier p q tree by before);
+                choice = on.1.choice;
+              },
+              on.2,
+              goes_on_same c (λ p. OrThis Done e.at p ⊎ (this ≡ p)) (OrThis (OrThis Done this) e.at) on.0 new further.rest (this_last Done (λ p. this ≡ p) e.at) further.on,
+            );
+            kept = λ p has. elim (contains_cases e.at (numbers es) p has) [
+              | inl here ↦ inr (subst (Contains (numbers (e ∷ further.rest))) here (contains_first e.at (numbers further.rest)))
+              | inr behind ↦ elim (further.kept p behind) [ inl here ↦ inl here | inr there ↦ inr (contains_behind e.at (numbers further.rest) p there) ]
+            ];
+            shorter = (let less = further.shorter in omega (arith, less));
+          }
+    ]
+
+-- and so may several
+pub some_done : (c : List Message) (others : List ℕ) → ((p : ℕ) → Contains others p → LeavesTrees c p) → (es : List Entry) (Done : ℕ → Type 0) (old new : TreeState) → GoesOn c Done old new es
+    → GoesOnBut c Done (Contains others) old new es
+some_done c [] leave es Done old new on = record {
+  rest = es;
+  on = goes_on_same c Done (λ p. Done p ⊎ Contains [] p) old new es (λ p. ((λ done. inl done), (λ done. elim done [ inl before ↦ before | inr none ↦ absurd (omega (arith, none.1)) ]))) on;
+  kept = λ p has. inr has;
+  shorter = omega arith;
+}
+some_done c (this ∷ others) leave es Done old new on =
+    let first = one_done c this (leave this (contains_first this others)) es Done old new on in
+    let further = some_done c others (λ p has. leave p (contains_behind this others p has)) first.rest (OrThis Done this) old new first.on in
+    record {
+      rest = further.rest;
+      on = goes_on_same c (λ p. OrThis Done this p ⊎ Contains others p) (λ p. Done p ⊎ Contains (this ∷ others) p) old new further.rest
+          (λ p. (
+            (λ done. elim done [
+              | inl first ↦ elim first [ inl before ↦ inl before | inr here ↦ inr (subst (Contains (this ∷ others)) here (contains_first this others)) ]
+              | inr there ↦ inr (contains_behind this others p there)
+            ]),
+            (λ done. elim done [
+              | inl before ↦ inl (inl before)
+              | inr has ↦ elim (contains_cases this others p has) [ inl here ↦ inl (inr here) | inr there ↦ inr there ]
+            ]),
+          )) further.on;
+      kept = λ p has. elim (first.kept p has) [
+        | inl here ↦ inl (subst (Contains (this ∷ others)) here (contains_first this others))
+        | inr there ↦ elim (further.kept p there) [ inl other ↦ inl (contains_behind this others p other) | inr behind ↦ inr behind ]
+      ];
+      shorter = (let less = first.shorter in let still = further.shorter in omega (arith, less, still));
+    }
+
+-- some rest, no longer than this, goes on from the configuration, and with it no request of these entries is left out
+pub record GoesOnAhead (c : List Message) (at : ℕ) (x : PlainConfiguration) (last : TreeState) (es : List Entry) (size : ℕ) : Type 0 where
+  pub rest : List Entry
+  pub within : length rest ≤ size
+  pub on : GoesOn c (IsDoneAt c at x.placed) x.tree last rest
+  pub kept : AreDoneOrIn (IsDoneAt c at x.placed) rest es
+
+-- what goes on from a tree, where some requests are done, goes on from what is ahead of it
+pub ahead_goes_on : (c : List Message) (at : ℕ) (Placed : ℕ → Type 0) (tree last : TreeState) (x : PlainConfiguration) (rest es : List Entry) → IsAhead c Placed tree x
+    → GoesOn c (λ p. IsAnsweredTree c at p ⊎ Placed p) tree last rest → AreDoneOrIn (λ p. IsAnsweredTree c at p ⊎ Placed p) rest es → GoesOnAhead c at x last es (length rest)
+ahead_goes_on c at Placed tree last x rest es ahead on kept =
+    let Before : ℕ → Type 0 = λ p. IsAnsweredTree c at p ⊎ Placed p in
+    let found = some_done c ahead.others ahead.leave rest Before tree last on in
+    let same : (p : ℕ) → (Before p ⊎ Contains ahead.others p) ↔ IsDoneAt c at x.placed p =
+    λ p. (
+      (λ done. elim done [
+        | inl before ↦ elim before [ inl answered ↦ inl answered | inr has ↦ inr ((ahead.placed p).1 (inl has)) ]
+        | inr other ↦ inr ((ahead.placed p).1 (inr other))
+      ]),
+      (λ done. elim done [
+        | inl answered ↦ inl (inl answered)
+        | inr has ↦ elim ((ahead.placed p).0 has) [ inl before ↦ inl (inr before) | inr other ↦ inr other ]
+      ]),
+    ) in
+    record {
+      rest = found.rest;
+      within = found.shorter;
+      on = subst (λ (t : TreeState). GoesOn c (IsDoneAt c at x.placed) t last found.rest) (sym ahead.same)
+          (goes_on_same c (λ p. Before p ⊎ Contains ahead.others p) (IsDoneAt c at x.placed) tree last found.rest same found.on);
+      kept = λ p has. elim (kept p has) [
+        | inl done ↦ inl ((same p).0 (inl done))
+        | inr there ↦ elim (found.kept p there) [ inl other ↦ inl ((same p).0 (inr other)) | inr behind ↦ inr behind ]
+      ];
+    }
 
 -- ---- an order goes on
 

@@ -14,12 +14,12 @@ use Rattle.fa_check.specs.Faults.{order_checks}
 use Rattle.fa_check.specs.Cuts.{Explains}
 use Rattle.fa_check.proofs.CallerLemmas.{explains_all_is_legal, number_more, number_still, number_now, each_more, run_more}
 use Rattle.fa_search.specs.Searches.{IsStop}
-use Rattle.fa_search.specs.parts.Going.{GoesOn}
-use Rattle.fa_search.specs.parts.Configurations.{PlainConfiguration, IsDoneAt, MayBeTried, IsOneMore, AnswersNone, IsReached, HasRest, AreHeld, AreSettling, AreSpent, AreWithout}
+use Rattle.fa_search.specs.parts.Going.{OrThis, GoesOn}
+use Rattle.fa_search.specs.parts.Configurations.{PlainConfiguration, IsDoneAt, MayBeTried, IsOneMore, AnswersNone, IsReached, HasRest, AreHeld, IsAhead, AreSettling, AreSpent, AreWithout}
 use Rattle.fa_search.proofs.StopLemmas.{none_placed, explains_earlier}
 use Rattle.fa_search.proofs.PendingLemmas.{done_still, done_answered, none_done}
-use Rattle.fa_search.proofs.GoingLemmas.{goes_on_same, parted_same, order_goes_on}
-use Rattle.fa_search.proofs.SettledLemmas.{done_more, all_settled}
+use Rattle.fa_search.proofs.GoingLemmas.{goes_on_same, kept_same, GoesOnAhead, ahead_goes_on, order_goes_on}
+use Rattle.fa_search.proofs.SettledLemmas.{more_done, all_settled}
 
 -- ---- what entries come to
 
@@ -32,6 +32,14 @@ reached_same c first at other x y trees same reached = record {
   run = subst (λ (t : TreeState). Runs first t c reached.entries) trees reached.run;
   exact = λ p. ((λ has. (same p).0 ((reached.exact p).0 has)), (λ done. (reached.exact p).1 ((same p).1 done)));
 }
+
+-- one more that is placed is done
+done_more : (c : List Message) (at asked : ℕ) (placed more : List ℕ) → IsOneMore placed asked more → (p : ℕ) → OrThis (IsDoneAt c at placed) asked p ↔ IsDoneAt c at more p
+done_more c at asked placed more one p =
+    let same = more_done c at asked placed p in (
+      (λ done. elim (same.0 done) [ inl answered ↦ inl answered | inr has ↦ inr ((one p).1 has) ]),
+      (λ done. same.1 (elim done [ inl answered ↦ inl answered | inr has ↦ inr ((one p).0 has) ])),
+    )
 
 -- what may be tried passes the checks of its place
 tried_rightly : (c : List Message) (first : TreeState) (at : ℕ) (x : PlainConfiguration) (e : Entry) (reached : IsReached c first at x) → MayBeTried c at e → (Contains x.placed e.at → ⊥)
@@ -102,7 +110,7 @@ held_first c first =
         there = contains_first x [];
         rest = es;
         on = goes_on_same c (λ p. ⊥) (IsDoneAt c 0 []) first last es (λ p. ((λ none. absurd none), none_done c p)) (order_goes_on c first last es explained.placed run);
-        parts = λ p. ((λ has. inr has), (λ either. elim either [ inl done ↦ absurd (none_done c p done) | inr has ↦ has ]));
+        kept = λ p has. inr has;
       };
     }
 
@@ -115,7 +123,7 @@ rest_same c at other held new es last rest y has trees same = record {
   rest = rest.rest;
   on = subst (λ (t : TreeState). GoesOn c (IsDoneAt c other y.placed) t last rest.rest) (sym trees)
       (goes_on_same c (IsDoneAt c at rest.from.placed) (IsDoneAt c other y.placed) rest.from.tree last rest.rest same rest.on);
-  parts = parted_same (IsDoneAt c at rest.from.placed) (IsDoneAt c other y.placed) rest.rest es same rest.parts;
+  kept = kept_same (IsDoneAt c at rest.from.placed) (IsDoneAt c other y.placed) rest.rest es same rest.kept;
 }
 
 -- behind a message that answers no tree request the same are held
@@ -125,6 +133,19 @@ held_still c first at held none are = record {
   complete = λ es last explained run.
       let found = are.complete es last (explains_earlier c first at (at + 1) es (omega arith) explained) run in
       rest_same c at (at + 1) held held es last found found.from found.there refl (done_still c at found.from.placed none);
+}
+
+-- Each may be held further on, with requests placed that leave each tree as it is.
+pub held_ahead : (c : List Message) (first : TreeState) (at : ℕ) (held new : List PlainConfiguration) → ((y : PlainConfiguration) → Contains new y → IsReached c first at y)
+    → ((x : PlainConfiguration) → Contains held x → (y : PlainConfiguration) × Contains new y × IsAhead c (Contains x.placed) x.tree y) → AreHeld c first at held → AreHeld c first at new
+held_ahead c first at held new reached ahead are = record {
+  reached = reached;
+  complete = λ es last explained run.
+      let found = are.complete es last explained run in
+      let x : PlainConfiguration = found.from in
+      let to = ahead x found.there in
+      let further : GoesOnAhead c at to.0 last es (length found.rest) = ahead_goes_on c at (Contains x.placed) x.tree last to.0 found.rest es to.2 found.on found.kept in
+      record { from = to.0; there = to.1; rest = further.rest; on = further.on; kept = further.kept };
 }
 
 -- Behind the answer to a tree request those are held in which it is placed, without it: entries come to each, and whatever holds that

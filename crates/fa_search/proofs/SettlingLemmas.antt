@@ -85,8 +85,7 @@ pub followed_still : (c : List Message) (x : PlainConfiguration) (e : Entry) (ne
 followed_still c x e new work settled more further among followed = record {
   to = followed.to;
   there = elim followed.there [ inl waits ↦ inl (among.0 followed.to waits) | inr done ↦ inr (among.1 followed.to done) ];
-  tree = followed.tree;
-  placed = followed.placed;
+  ahead = followed.ahead;
 }
 
 -- so what was spent is so still

@@ -1,8 +1,9 @@
 -- What may be tried, by the calls of the messages: which call an entry names, and where its step leads.
-use Rattle.std.proofs.Common.{◌≡◌, ◌⊎◌, ℕ, ◌<◌, List, Option, Some, refl}
+use Rattle.std.proofs.Common.{◌≡◌, ◌⊎◌, ℕ, ◌<◌, List, [], ◌∷◌, Option, Some, refl, subst, ◌∙◌, inl, inr, arith}
 use Rattle.std.specs.Prelude.{slice_get, Contains}
 use Rattle.fa_capture.specs.Checks.{FirstFailure}
 use Rattle.fa_capture.specs.Message.{Message}
+use Rattle.fa_capture.proofs.CallerLemmas.{contains_cases, contains_first, contains_behind}
 use Rattle.fa_ledger.specs.Calls.{PlainCall, AreCalls}
 use Rattle.fa_ledger.specs.Choices.{Allows}
 use Rattle.fa_ledger.specs.SoFar.{listing_so_far}
@@ -12,7 +13,8 @@ use Rattle.fa_order.specs.declared.entry.Entry.{Entry}
 use Rattle.fa_check.specs.Runs.{EntrySteps}
 use Rattle.fa_check.specs.Cuts.{IsAnsweredBefore}
 use Rattle.fa_check.proofs.CallerLemmas.{entry_is_one, no_step_failure, tree_is_call, call_is_tree, call_of_message, allowed_choice, choice_allowed}
-use Rattle.fa_search.specs.parts.Configurations.{PlainConfiguration, MayBeTried, IsOneMore, IsFollowed}
+use Rattle.fa_search.specs.parts.Going.{OrThis}
+use Rattle.fa_search.specs.parts.Configurations.{PlainConfiguration, MayBeTried, IsOneMore, LeavesTrees, IsAhead, IsFollowed}
 
 module _ (c : List Message) (calls : List PlainCall) (are : AreCalls c calls) (at : ℕ) where
   -- what may be tried names a call, which allows its count
@@ -51,7 +53,57 @@ module _ (c : List Message) (calls : List PlainCall) (are : AreCalls c calls) (a
           fails = fails;
         })
 
--- where the step of an entry leads to what is in one of the two lists, the entry is followed
-pub step_followed : (c : List Message) (x y : PlainConfiguration) (e : Entry) (work settled : List PlainConfiguration) → EntrySteps x.tree y.tree c e → IsOneMore x.placed e.at y.placed
-    → Contains work y ⊎ Contains settled y → (new : TreeState) → EntrySteps x.tree new c e → IsFollowed c x e new work settled
-step_followed c x y e work settled steps one there new others = record { to = y; there = there; tree = entry_is_one c x.tree y.tree new e steps others; placed = one }
+-- where the step of an entry leads to what is in one of the two lists, or to what one of them has something ahead of, the entry is followed
+pub step_followed : (c : List Message) (x y : PlainConfiguration) (e : Entry) (tree : TreeState) (work settled : List PlainConfiguration) → EntrySteps x.tree tree c e
+    → IsAhead c (OrThis (Contains x.placed) e.at) tree y → Contains work y ⊎ Contains settled y → (new : TreeState) → EntrySteps x.tree new c e → IsFollowed c x e new work settled
+step_followed c x y e tree work settled steps ahead there new others = record {
+  to = y;
+  there = there;
+  ahead = subst (λ (t : TreeState). IsAhead c (OrThis (Contains x.placed) e.at) t y) (entry_is_one c x.tree tree new e steps others) ahead;
+}
+
+-- one more that is placed, and no other, is ahead
+pub one_ahead : (c : List Message) (x y : PlainConfiguration) (asked : ℕ) (tree : TreeState) → y.tree ≡ tree → IsOneMore x.placed asked y.placed → IsAhead c (OrThis (Contains x.placed) asked) tree y
+one_ahead c x y asked tree same one = record {
+  others = [];
+  same = same;
+  leave = λ p has. absurd (omega (arith, has.1));
+  placed = λ p. (
+    (λ has. inl ((one p).0 has)),
+    (λ either. elim either [ inl before ↦ (one p).1 before | inr none ↦ absurd (omega (arith, none.1)) ]),
+  );
+}
+
+-- and so is what is ahead, with one more placed that leaves each tree as it is
+pub further_ahead : (c : List Message) (Placed : ℕ → Type 0) (tree : TreeState) (x y : PlainConfiguration) (asked : ℕ) → LeavesTrees c asked → y.tree ≡ x.tree → IsOneMore x.placed asked y.placed
+    → IsAhead c Placed tree x → IsAhead c Placed tree y
+further_ahead c Placed tree x y asked leaves same one ahead = record {
+  others = asked ∷ ahead.others;
+  same = same ∙ ahead.same;
+  leave = λ p has. elim (contains_cases asked ahead.others p has) [
+    | inl here ↦ subst (LeavesTrees c) here leaves
+    | inr behind ↦ ahead.leave p behind
+  ];
+  placed = λ p. (
+    (λ has. elim ((one p).0 has) [
+      | inl before ↦ elim ((ahead.placed p).0 before) [ inl placed ↦ inl placed | inr other ↦ inr (contains_behind asked ahead.others p other) ]
+      | inr here ↦ inr (subst (Contains (asked ∷ ahead.others)) here (contains_first asked ahead.others))
+    ]),
+    (λ either. elim either [
+      | inl placed ↦ (one p).1 (inl ((ahead.placed p).1 (inl placed)))
+      | inr has ↦ elim (contains_cases asked ahead.others p has) [
+        | inl here ↦ (one p).1 (inr here)
+        | inr other ↦ (one p).1 (inl ((ahead.placed p).1 (inr other)))
+      ]
+    ]),
+  );
+}
+
+-- what is placed is ahead of itself
+pub same_ahead : (c : List Message) (x : PlainConfiguration) → IsAhead c (Contains x.placed) x.tree x
+same_ahead c x = record {
+  others = [];
+  same = refl;
+  leave = λ p has. absurd (omega (arith, has.1));
+  placed = λ p. ((λ has. inl has), (λ either. elim either [ inl has ↦ has | inr none ↦ absurd (omega (arith, none.1)) ]));
+}

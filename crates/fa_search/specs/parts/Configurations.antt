@@ -9,16 +9,20 @@ use Rattle.fa_check.specs.Orders.{IsTreeRequestAt, IsChoice, numbers}
 use Rattle.fa_check.specs.Runs.{EntrySteps, Runs}
 use Rattle.fa_check.specs.Faults.{EachPlaced}
 use Rattle.fa_check.specs.Cuts.{IsAnsweredBefore, Explains}
-use Rattle.fa_search.specs.parts.Going.{GoesOn}
+use Rattle.fa_search.specs.parts.Going.{OrThis, GoesOn}
 
 -- Which requests in flight are placed, by the numbers of their messages, and the tree.
 pub record PlainConfiguration : Type 0 where
   pub placed : List ℕ
   pub tree : TreeState
 
+-- the tree request at p was answered before this message
+abbrev pub IsAnsweredTree : List Message → (at p : ℕ) → Type 0
+IsAnsweredTree c at p = IsTreeRequestAt c p × IsAnsweredBefore c at p
+
 -- The tree request at p is done at this message: it was answered before, or it is one of those in flight that are placed.
 abbrev pub IsDoneAt : List Message → (at : ℕ) → (placed : List ℕ) → (p : ℕ) → Type 0
-IsDoneAt c at placed p = (IsTreeRequestAt c p × IsAnsweredBefore c at p) ⊎ Contains placed p
+IsDoneAt c at placed p = IsAnsweredTree c at p ⊎ Contains placed p
 
 -- ---- requests in flight
 
@@ -60,17 +64,18 @@ pub record IsReached (c : List Message) (first : TreeState) (at : ℕ) (x : Plai
   pub run : Runs first x.tree c entries
   pub exact : (p : ℕ) → Contains (numbers entries) p ↔ IsDoneAt c at x.placed p
 
--- the requests of these entries are those that are done, and those of the rest
-abbrev pub AreParted : (Done : ℕ → Type 0) → (rest es : List Entry) → Type 0
-AreParted Done rest es = (p : ℕ) → Contains (numbers es) p ↔ (Done p ⊎ Contains (numbers rest) p)
+-- each request of these entries is done, or in the rest
+abbrev pub AreDoneOrIn : (Done : ℕ → Type 0) → (rest es : List Entry) → Type 0
+AreDoneOrIn Done rest es = (p : ℕ) → Contains (numbers es) p → Done p ⊎ Contains (numbers rest) p
 
--- Entries that lead to this tree go on from one of these configurations: so does a rest of the same requests, to the same tree.
+-- Entries that lead to this tree go on from one of these configurations: some rest leads from it to the same tree, and with it no request of
+-- theirs is left out.
 pub record HasRest (c : List Message) (at : ℕ) (held : List PlainConfiguration) (es : List Entry) (last : TreeState) : Type 0 where
   pub from : PlainConfiguration
   pub there : Contains held from
   pub rest : List Entry
   pub on : GoesOn c (IsDoneAt c at from.placed) from.tree last rest
-  pub parts : AreParted (IsDoneAt c at from.placed) rest es
+  pub kept : AreDoneOrIn (IsDoneAt c at from.placed) rest es
 
 -- The configurations that a search holds at a message: entries come to each, and whatever explains the replies before that message goes on
 -- from one of them.
@@ -78,14 +83,26 @@ pub record AreHeld (c : List Message) (first : TreeState) (at : ℕ) (held : Lis
   pub reached : (x : PlainConfiguration) → Contains held x → IsReached c first at x
   pub complete : (es : List Entry) (last : TreeState) → Explains c first at es → Runs first last c es → HasRest c at held es last
 
+-- ---- requests that leave the tree
+
+-- a step of the request at p leaves each tree as it is
+abbrev pub LeavesTrees : List Message → (p : ℕ) → Type 0
+LeavesTrees c p = (old new : TreeState) (e : Entry) → e.at ≡ p → EntrySteps old new c e → new ≡ old
+
+-- The configuration has this tree, and these requests are placed in it, with others maybe that leave each tree as it is: so it is no worse.
+pub record IsAhead (c : List Message) (Placed : ℕ → Type 0) (tree : TreeState) (x : PlainConfiguration) : Type 0 where
+  pub others : List ℕ
+  pub same : x.tree ≡ tree
+  pub leave : (p : ℕ) → Contains others p → LeavesTrees c p
+  pub placed : (p : ℕ) → Contains x.placed p ↔ (Placed p ⊎ Contains others p)
+
 -- ---- what is settled where a reply comes
 
--- one of these two lists has what the entry leads to from the configuration
+-- one of these two lists has what the entry leads to from the configuration, or what is ahead of that
 pub record IsFollowed (c : List Message) (x : PlainConfiguration) (e : Entry) (new : TreeState) (work settled : List PlainConfiguration) : Type 0 where
   pub to : PlainConfiguration
   pub there : Contains work to ⊎ Contains settled to
-  pub tree : to.tree ≡ new
-  pub placed : IsOneMore x.placed e.at to.placed
+  pub ahead : IsAhead c (OrThis (Contains x.placed) e.at) new to
 
 -- whatever may be tried from the configuration, and has a step, leads to one of these
 abbrev pub IsSpent : List Message → (at : ℕ) → PlainConfiguration → (work settled : List PlainConfiguration) → Type 0
