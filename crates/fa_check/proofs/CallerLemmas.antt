@@ -12,8 +12,8 @@ use Rattle.fa_check.specs.Verdicts.{IsLegalWith, IsVerdict, Exactly}
 pub use Rattle.fa_check.proofs.VerdictLemmas.{verdict_is_one}
 -- and never none, where the messages are good
 pub use Rattle.fa_check.proofs.ThereLemmas.{verdict_is_there}
--- an entry leads to one tree, and so does a run
-pub use Rattle.fa_check.proofs.RunLemmas.{entry_is_one, run_is_one, run_more, run_at}
+-- a message has one call, an entry leads to one tree, and so does a run
+pub use Rattle.fa_check.proofs.RunLemmas.{call_one, entry_is_one, run_is_one, run_more, run_at}
 -- the calls of messages
 pub use Rattle.fa_check.proofs.MessageLemmas.{call_is_tree, tree_is_call, call_answered, call_unanswered, call_of_message, asked_rise, one_place, one_answered}
 -- an order is valid exactly where each entry passes the checks of its place

@@ -1,5 +1,5 @@
 -- What may be tried, by the calls of the messages: which call an entry names, and where its step leads.
-use Rattle.std.proofs.Common.{◌≡◌, ◌⊎◌, ℕ, ◌<◌, List, [], ◌∷◌, Option, Some, refl, subst, ◌∙◌, inl, inr, arith}
+use Rattle.std.proofs.Common.{◌≡◌, ◌⊎◌, ℕ, ◌<◌, List, [], ◌∷◌, Option, Some, refl, sym, subst, ◌∙◌, inl, inr, arith}
 use Rattle.std.specs.Prelude.{slice_get, Contains}
 use Rattle.fa_capture.specs.Checks.{FirstFailure}
 use Rattle.fa_capture.specs.Message.{Message}
@@ -9,12 +9,13 @@ use Rattle.fa_ledger.specs.Choices.{Allows}
 use Rattle.fa_ledger.specs.SoFar.{listing_so_far}
 use Rattle.fa_tree.specs.State.{TreeState}
 use Rattle.fa_tree.specs.Steps.{Steps, step_checks}
+use Rattle.fa_tree.proofs.CallerLemmas.{step_failed_stays, step_read_stays}
 use Rattle.fa_order.specs.declared.entry.Entry.{Entry}
-use Rattle.fa_check.specs.Runs.{EntrySteps}
+use Rattle.fa_check.specs.Runs.{IsCallAt, EntrySteps}
 use Rattle.fa_check.specs.Cuts.{IsAnsweredBefore}
-use Rattle.fa_check.proofs.CallerLemmas.{entry_is_one, no_step_failure, tree_is_call, call_is_tree, call_of_message, allowed_choice, choice_allowed}
+use Rattle.fa_check.proofs.CallerLemmas.{call_one, entry_is_one, no_step_failure, tree_is_call, call_is_tree, call_of_message, allowed_choice, choice_allowed}
 use Rattle.fa_search.specs.parts.Going.{OrThis}
-use Rattle.fa_search.specs.parts.Configurations.{PlainConfiguration, MayBeTried, IsOneMore, LeavesTrees, IsAhead, IsFollowed}
+use Rattle.fa_search.specs.parts.Configurations.{PlainConfiguration, MayBeTried, IsOneMore, LeavesTrees, KeepsTrees, IsAhead, IsFollowed}
 
 module _ (c : List Message) (calls : List PlainCall) (are : AreCalls c calls) (at : ℕ) where
   -- what may be tried names a call, which allows its count
@@ -52,6 +53,17 @@ module _ (c : List Message) (calls : List PlainCall) (are : AreCalls c calls) (a
           of_request = call_of_message c calls are place e.at call there asked;
           fails = fails;
         })
+
+-- a call that leaves each tree as it is does so by each entry that names it
+pub call_leaves : (c : List Message) (calls : List PlainCall) (are : AreCalls c calls) (place : ℕ) (call : PlainCall) → slice_get calls place ≡ Some call → KeepsTrees call → LeavesTrees c call.asked
+call_leaves c calls are place call there keeps old new e same steps =
+    let of_request : IsCallAt c e.at call (listing_so_far calls place) = call_of_message c calls are place e.at call there (sym same) in
+    let one = call_one c e.at steps.call call steps.so_far (listing_so_far calls place) steps.of_request of_request in
+    let taken : Steps old new call e.wrote steps.so_far = subst (λ (x : PlainCall). Steps old new x e.wrote steps.so_far) one.0 steps.steps in
+    elim keeps [
+      | inl fails ↦ step_failed_stays old new call e.wrote steps.so_far fails taken
+      | inr reads ↦ step_read_stays old new call e.wrote steps.so_far reads.0 reads.1 reads.2 taken
+    ]
 
 -- where the step of an entry leads to what is in one of the two lists, or to what one of them has something ahead of, the entry is followed
 pub step_followed : (c : List Message) (x y : PlainConfiguration) (e : Entry) (tree : TreeState) (work settled : List PlainConfiguration) → EntrySteps x.tree tree c e

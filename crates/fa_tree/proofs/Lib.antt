@@ -27,6 +27,7 @@ pub mod OutcomeLemmas
 pub mod PageLemmas
 pub mod ParentLemmas
 pub mod PartLemmas
+pub mod UnchangedLemmas
 pub mod PlaceOrderLemmas
 pub mod QueryLemmas
 pub mod RenameLemmas

@@ -164,7 +164,7 @@ opened_apart names (Some directory) asked false handles q apart = refl
 opened_apart names None asked opens handles q apart = refl
 
 -- nothing is noted where none is opened
-none_opened : (names : FinMap place_cmp FileId) (directory : Option FileId) (asked : ℕ) (handles : FinMap nat_cmp OpenDirectory) → with_opened names directory asked false handles ≡ handles
+pub none_opened : (names : FinMap place_cmp FileId) (directory : Option FileId) (asked : ℕ) (handles : FinMap nat_cmp OpenDirectory) → with_opened names directory asked false handles ≡ handles
 none_opened names (Some directory) asked handles = refl
 none_opened names None asked handles = refl
 

@@ -1,9 +1,13 @@
 -- How far a search has come at a message: all tree requests that were answered before it are placed, in some order, and of those in flight
 -- some are. Only which of these are, and the tree, matters for what may come behind it.
-use Rattle.std.specs.Prelude.{◌≡◌, ◌≢◌, ◌↔◌, ◌⊎◌, ℕ, ◌<◌, List, Contains, Option}
+use Rattle.std.specs.Prelude.{◌≡◌, ◌≢◌, ◌↔◌, ◌⊎◌, ℕ, ◌<◌, false, List, [], Contains, Option}
 use Rattle.fa_capture.specs.Message.{Message}
 use Rattle.fa_session.specs.Answers.{IsAnsweredBy}
+use Rattle.fa_ledger.specs.Calls.{PlainCall}
+use Rattle.fa_ledger.specs.Kinds.{IsFailure, OnlyReads}
+use Rattle.fa_ledger.specs.Operations.{ended}
 use Rattle.fa_tree.specs.State.{TreeState}
+use Rattle.fa_tree.specs.Steps.{names_given, opens_anew}
 use Rattle.fa_order.specs.declared.entry.Entry.{Entry}
 use Rattle.fa_check.specs.Orders.{IsTreeRequestAt, IsChoice, numbers}
 use Rattle.fa_check.specs.Runs.{EntrySteps, Runs}
@@ -88,6 +92,10 @@ pub record AreHeld (c : List Message) (first : TreeState) (at : ℕ) (held : Lis
 -- a step of the request at p leaves each tree as it is
 abbrev pub LeavesTrees : List Message → (p : ℕ) → Type 0
 LeavesTrees c p = (old new : TreeState) (e : Entry) → e.at ≡ p → EntrySteps old new c e → new ≡ old
+
+-- by what came of it the call does so: it failed; or it only reads, its answer gives no node, and it opens no directory anew
+abbrev pub KeepsTrees : PlainCall → Type 0
+KeepsTrees call = IsFailure (ended call.operation) ⊎ (OnlyReads call.operation × (names_given call ≡ []) × (opens_anew call ≡ false))
 
 -- The configuration has this tree, and these requests are placed in it, with others maybe that leave each tree as it is: so it is no worse.
 pub record IsAhead (c : List Message) (Placed : ℕ → Type 0) (tree : TreeState) (x : PlainConfiguration) : Type 0 where
