@@ -6,6 +6,7 @@ use Rattle.std.proofs.lemmas.Bool.{cases_eq}
 use Rattle.fa_capture.specs.Checks.{AllHold}
 use Rattle.fa_capture.specs.Message.{Message}
 use Rattle.fa_capture.proofs.CallerLemmas.{contains_cases, contains_first, contains_behind}
+use Rattle.fa_session.specs.Answers.{IsAnsweredBy}
 use Rattle.fa_tree.specs.State.{TreeState}
 use Rattle.fa_order.specs.declared.entry.Entry.{Entry}
 use Rattle.fa_check.specs.Orders.{numbers}
@@ -15,44 +16,53 @@ use Rattle.fa_check.proofs.CallerLemmas.{number_more, number_still, number_now}
 use Rattle.fa_search.specs.parts.Going.{MayCome, OrThis, GoesOn}
 use Rattle.fa_search.specs.parts.Configurations.{PlainConfiguration, IsAnsweredTree, IsDoneAt, AreDoneOrIn, LeavesTrees, IsAhead}
 
--- ---- the same requests are done
+-- ---- what is done
 
 module _ (c : List Message) where
-  -- an entry may come where the same are done
-  may_come_same : (Done Other : ℕ → Type 0) (e : Entry) → ((p : ℕ) → Done p ↔ Other p) → MayCome c Done e → MayCome c Other e
-  may_come_same Done Other e same may = record {
-    tree_request = may.tree_request;
-    once = λ done. may.once ((same e.at).1 done);
-    earlier = λ p q tree by before. (same p).0 (may.earlier p q tree by before);
-    choice = may.choice;
+  -- Of some requests fewer may be done: all of those that are answered at any time.
+  pub record AreFewer (Done Fewer : ℕ → Type 0) : Type 0 where
+    pub of : (p : ℕ) → Fewer p → Done p
+    pub all : (p q : ℕ) → IsAnsweredBy c p q → Done p → Fewer p
+
+  -- where the same are done, these are all of them
+  pub same_fewer : (Done Other : ℕ → Type 0) → ((p : ℕ) → Done p ↔ Other p) → AreFewer Done Other
+  same_fewer Done Other same = record { of = λ p done. (same p).1 done; all = λ p q by done. (same p).0 done }
+
+  -- and one more of both
+  fewer_next : (Done Fewer : ℕ → Type 0) (this : ℕ) → AreFewer Done Fewer → AreFewer (OrThis Done this) (OrThis Fewer this)
+  fewer_next Done Fewer this are = record {
+    of = λ p done. elim done [ inl before ↦ inl (are.of p before) | inr here ↦ inr here ];
+    all = λ p q by done. elim done [ inl before ↦ inl (are.all p q by before) | inr here ↦ inr here ];
   }
 
-  -- and one more is the same
-  or_this_same : (Done Other : ℕ → Type 0) (this : ℕ) → ((p : ℕ) → Done p ↔ Other p) → (p : ℕ) → OrThis Done this p ↔ OrThis Other this p
-  or_this_same Done Other this same p = (
-    (λ done. elim done [ inl before ↦ inl ((same p).0 before) | inr here ↦ inr here ]),
-    (λ done. elim done [ inl before ↦ inl ((same p).1 before) | inr here ↦ inr here ]),
+  -- entries go on where fewer are done
+  pub goes_on_fewer : (Done Fewer : ℕ → Type 0) (old new : TreeState) (es : List Entry) → AreFewer Done Fewer → GoesOn c Done old new es → GoesOn c Fewer old new es
+  goes_on_fewer Done Fewer old new [] are on = on
+  goes_on_fewer Done Fewer old new (e ∷ es) are on = (
+    on.0,
+    record {
+      tree_request = on.1.tree_request;
+      once = λ done. on.1.once (are.of e.at done);
+      earlier = λ p q tree by before. are.all p q by (on.1.earlier p q tree by before);
+      choice = on.1.choice;
+    },
+    on.2,
+    goes_on_fewer (OrThis Done e.at) (OrThis Fewer e.at) on.0 new es (fewer_next Done Fewer e.at are) on.3,
   )
 
-  -- entries go on where the same are done
+  -- and where the same are done
   pub goes_on_same : (Done Other : ℕ → Type 0) (old new : TreeState) (es : List Entry) → ((p : ℕ) → Done p ↔ Other p) → GoesOn c Done old new es → GoesOn c Other old new es
-  goes_on_same Done Other old new [] same on = on
-  goes_on_same Done Other old new (e ∷ es) same on = (
-    on.0,
-    may_come_same Done Other e same on.1,
-    on.2,
-    goes_on_same (OrThis Done e.at) (OrThis Other e.at) on.0 new es (or_this_same Done Other e.at same) on.3,
-  )
+  goes_on_same Done Other old new es same on = goes_on_fewer Done Other old new es (same_fewer Done Other same) on
 
 -- ---- what is left of an order
 
 -- it is the same where the same are done
-pub kept_same : (Done Other : ℕ → Type 0) (rest es : List Entry) → ((p : ℕ) → Done p ↔ Other p) → AreDoneOrIn Done rest es → AreDoneOrIn Other rest es
-kept_same Done Other rest es same kept p has = elim (kept p has) [ inl done ↦ inl ((same p).0 done) | inr behind ↦ inr behind ]
+pub kept_same : (c : List Message) (Done Other : ℕ → Type 0) (rest es : List Entry) → ((p : ℕ) → Done p ↔ Other p) → AreDoneOrIn c Done rest es → AreDoneOrIn c Other rest es
+kept_same c Done Other rest es same kept p q by has = elim (kept p q by has) [ inl done ↦ inl ((same p).0 done) | inr behind ↦ inr behind ]
 
 -- and where the first of the rest is done
-pub kept_next : (Done : ℕ → Type 0) (e : Entry) (rest es : List Entry) → AreDoneOrIn Done (e ∷ rest) es → AreDoneOrIn (OrThis Done e.at) rest es
-kept_next Done e rest es kept p has = elim (kept p has) [
+pub kept_next : (c : List Message) (Done : ℕ → Type 0) (e : Entry) (rest es : List Entry) → AreDoneOrIn c Done (e ∷ rest) es → AreDoneOrIn c (OrThis Done e.at) rest es
+kept_next c Done e rest es kept p q by has = elim (kept p q by has) [
   | inl done ↦ inl (inl done)
   | inr there ↦ elim (contains_cases e.at (numbers rest) p there) [ inl here ↦ inl (inr here) | inr behind ↦ inr behind ]
 ]
@@ -110,24 +120,38 @@ one_done c this leaves (e ∷ es) Done old new on =
           }
     ]
 
--- and so may several
-pub some_done : (c : List Message) (others : List ℕ) → ((p : ℕ) → Contains others p → LeavesTrees c p) → (es : List Entry) (Done : ℕ → Type 0) (old new : TreeState) → GoesOn c Done old new es
+-- one that is done already needs no more
+already_done : (c : List Message) (this : ℕ) (es : List Entry) (Done : ℕ → Type 0) (old new : TreeState) → Done this → GoesOn c Done old new es → GoesOnBut c Done (λ p. this ≡ p) old new es
+already_done c this es Done old new done on = record {
+  rest = es;
+  on = goes_on_same c Done (OrThis Done this) old new es (λ p. ((λ before. inl before), (λ either. elim either [ inl before ↦ before | inr here ↦ subst Done here done ]))) on;
+  kept = λ p has. inr has;
+  shorter = omega arith;
+}
+
+-- so several may be done at once
+some_done : (c : List Message) (others : List ℕ) (es : List Entry) (Done : ℕ → Type 0) → ((p : ℕ) → Contains others p → Done p ⊎ LeavesTrees c p) → (old new : TreeState) → GoesOn c Done old new es
     → GoesOnBut c Done (Contains others) old new es
-some_done c [] leave es Done old new on = record {
+some_done c [] es Done each old new on = record {
   rest = es;
   on = goes_on_same c Done (λ p. Done p ⊎ Contains [] p) old new es (λ p. ((λ done. inl done), (λ done. elim done [ inl before ↦ before | inr none ↦ absurd (omega (arith, none.1)) ]))) on;
   kept = λ p has. inr has;
   shorter = omega arith;
 }
-some_done c (this ∷ others) leave es Done old new on =
-    let first = one_done c this (leave this (contains_first this others)) es Done old new on in
-    let further = some_done c others (λ p has. leave p (contains_behind this others p has)) first.rest (OrThis Done this) old new first.on in
+some_done c (this ∷ others) es Done each old new on =
+    let first : GoesOnBut c Done (λ p. this ≡ p) old new es = elim (each this (contains_first this others)) [
+      | inl done ↦ already_done c this es Done old new done on
+      | inr leaves ↦ one_done c this leaves es Done old new on
+    ] in
+    let rests : (p : ℕ) → Contains others p → OrThis Done this p ⊎ LeavesTrees c p =
+    λ p has. elim (each p (contains_behind this others p has)) [ inl done ↦ inl (inl done) | inr leaves ↦ inr leaves ] in
+    let further = some_done c others first.rest (OrThis Done this) rests old new first.on in
     record {
       rest = further.rest;
       on = goes_on_same c (λ p. OrThis Done this p ⊎ Contains others p) (λ p. Done p ⊎ Contains (this ∷ others) p) old new further.rest
           (λ p. (
             (λ done. elim done [
-              | inl first ↦ elim first [ inl before ↦ inl before | inr here ↦ inr (subst (Contains (this ∷ others)) here (contains_first this others)) ]
+              | inl before ↦ elim before [ inl earlier ↦ inl earlier | inr here ↦ inr (subst (Contains (this ∷ others)) here (contains_first this others)) ]
               | inr there ↦ inr (contains_behind this others p there)
             ]),
             (λ done. elim done [
@@ -147,33 +171,32 @@ pub record GoesOnAhead (c : List Message) (at : ℕ) (x : PlainConfiguration) (l
   pub rest : List Entry
   pub within : length rest ≤ size
   pub on : GoesOn c (IsDoneAt c at x.placed) x.tree last rest
-  pub kept : AreDoneOrIn (IsDoneAt c at x.placed) rest es
+  pub kept : AreDoneOrIn c (IsDoneAt c at x.placed) rest es
 
 -- what goes on from a tree, where some requests are done, goes on from what is ahead of it
 pub ahead_goes_on : (c : List Message) (at : ℕ) (Placed : ℕ → Type 0) (tree last : TreeState) (x : PlainConfiguration) (rest es : List Entry) → IsAhead c Placed tree x
-    → GoesOn c (λ p. IsAnsweredTree c at p ⊎ Placed p) tree last rest → AreDoneOrIn (λ p. IsAnsweredTree c at p ⊎ Placed p) rest es → GoesOnAhead c at x last es (length rest)
+    → GoesOn c (λ p. IsAnsweredTree c at p ⊎ Placed p) tree last rest → AreDoneOrIn c (λ p. IsAnsweredTree c at p ⊎ Placed p) rest es → GoesOnAhead c at x last es (length rest)
 ahead_goes_on c at Placed tree last x rest es ahead on kept =
     let Before : ℕ → Type 0 = λ p. IsAnsweredTree c at p ⊎ Placed p in
-    let found = some_done c ahead.others ahead.leave rest Before tree last on in
-    let same : (p : ℕ) → (Before p ⊎ Contains ahead.others p) ↔ IsDoneAt c at x.placed p =
-    λ p. (
-      (λ done. elim done [
-        | inl before ↦ elim before [ inl answered ↦ inl answered | inr has ↦ inr ((ahead.placed p).1 (inl has)) ]
-        | inr other ↦ inr ((ahead.placed p).1 (inr other))
-      ]),
-      (λ done. elim done [
-        | inl answered ↦ inl (inl answered)
-        | inr has ↦ elim ((ahead.placed p).0 has) [ inl before ↦ inl (inr before) | inr other ↦ inr other ]
-      ]),
-    ) in
+    let others : (p : ℕ) → Contains x.placed p → Before p ⊎ LeavesTrees c p =
+    λ p has. elim (ahead.others p has) [ inl placed ↦ inl (inr placed) | inr leaves ↦ inr leaves ] in
+    let found = some_done c x.placed rest Before others tree last on in
+    let fewer : AreFewer c (λ p. Before p ⊎ Contains x.placed p) (IsDoneAt c at x.placed) =
+    record {
+      of = λ p done. elim done [ inl answered ↦ inl (inl answered) | inr has ↦ inr has ];
+      all = λ p q by done. elim done [
+        | inl before ↦ elim before [ inl answered ↦ inl answered | inr placed ↦ inr (ahead.all p q by placed) ]
+        | inr has ↦ inr has
+      ];
+    } in
     record {
       rest = found.rest;
       within = found.shorter;
       on = subst (λ (t : TreeState). GoesOn c (IsDoneAt c at x.placed) t last found.rest) (sym ahead.same)
-          (goes_on_same c (λ p. Before p ⊎ Contains ahead.others p) (IsDoneAt c at x.placed) tree last found.rest same found.on);
-      kept = λ p has. elim (kept p has) [
-        | inl done ↦ inl ((same p).0 (inl done))
-        | inr there ↦ elim (found.kept p there) [ inl other ↦ inl ((same p).0 (inr other)) | inr behind ↦ inr behind ]
+          (goes_on_fewer c (λ p. Before p ⊎ Contains x.placed p) (IsDoneAt c at x.placed) tree last found.rest fewer found.on);
+      kept = λ p q by has. elim (kept p q by has) [
+        | inl done ↦ inl (fewer.all p q by (inl done))
+        | inr there ↦ elim (found.kept p there) [ inl other ↦ inl (inr other) | inr behind ↦ inr behind ]
       ];
     }
 

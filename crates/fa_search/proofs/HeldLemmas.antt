@@ -110,7 +110,7 @@ held_first c first =
         there = contains_first x [];
         rest = es;
         on = goes_on_same c (λ p. ⊥) (IsDoneAt c 0 []) first last es (λ p. ((λ none. absurd none), none_done c p)) (order_goes_on c first last es explained.placed run);
-        kept = λ p has. inr has;
+        kept = λ p q by has. inr has;
       };
     }
 
@@ -123,7 +123,7 @@ rest_same c at other held new es last rest y has trees same = record {
   rest = rest.rest;
   on = subst (λ (t : TreeState). GoesOn c (IsDoneAt c other y.placed) t last rest.rest) (sym trees)
       (goes_on_same c (IsDoneAt c at rest.from.placed) (IsDoneAt c other y.placed) rest.from.tree last rest.rest same rest.on);
-  kept = kept_same (IsDoneAt c at rest.from.placed) (IsDoneAt c other y.placed) rest.rest es same rest.kept;
+  kept = kept_same c (IsDoneAt c at rest.from.placed) (IsDoneAt c other y.placed) rest.rest es same rest.kept;
 }
 
 -- behind a message that answers no tree request the same are held

@@ -23,7 +23,7 @@ module _ (c : List Message) (first : TreeState) (at asked : ℕ) (tree : IsTreeR
     (es : List Entry) (last : TreeState) where
   -- what goes on from one in which the request is not placed comes by its first entry to another of the two lists
   goes_on_next : (e : Entry) (rest : List Entry) (x : PlainConfiguration) → Contains work x → GoesOn c (IsDoneAt c at x.placed) x.tree last (e ∷ rest)
-      → AreDoneOrIn (IsDoneAt c at x.placed) (e ∷ rest) es → (y : PlainConfiguration) × (Contains work y ⊎ Contains settled y) × GoesOnAhead c at y last es (length rest)
+      → AreDoneOrIn c (IsDoneAt c at x.placed) (e ∷ rest) es → (y : PlainConfiguration) × (Contains work y ⊎ Contains settled y) × GoesOnAhead c at y last es (length rest)
   goes_on_next e rest x there on kept =
       let next = next_is_pending c at asked x.placed e tree by (settling.waiting x there) on.1 in
       let found = spent x there e on.0 next.0 next.1 on.2 in
@@ -32,14 +32,14 @@ module _ (c : List Message) (first : TreeState) (at asked : ℕ) (tree : IsTreeR
         found.there,
         ahead_goes_on c at (OrThis (Contains x.placed) e.at) on.0 last found.to rest es found.ahead
             (goes_on_same c (OrThis (IsDoneAt c at x.placed) e.at) (λ p. IsAnsweredTree c at p ⊎ OrThis (Contains x.placed) e.at p) on.0 last rest same on.3)
-            (kept_same (OrThis (IsDoneAt c at x.placed) e.at) (λ p. IsAnsweredTree c at p ⊎ OrThis (Contains x.placed) e.at p) rest es same
-            (kept_next (IsDoneAt c at x.placed) e rest es kept)),
+            (kept_same c (OrThis (IsDoneAt c at x.placed) e.at) (λ p. IsAnsweredTree c at p ⊎ OrThis (Contains x.placed) e.at p) rest es same
+            (kept_next c (IsDoneAt c at x.placed) e rest es kept)),
       )
 
   -- where the entries hold the request, what goes on from one in which it is not placed comes to one in which it is
   settled_from : Contains (numbers es) asked → (size : ℕ) (rest : List Entry) → length rest ≤ size → (x : PlainConfiguration) → Contains work x
-      → GoesOn c (IsDoneAt c at x.placed) x.tree last rest → AreDoneOrIn (IsDoneAt c at x.placed) rest es → HasRest c at settled es last
-  settled_from has size [] within x there on kept = absurd (elim (kept asked has) [
+      → GoesOn c (IsDoneAt c at x.placed) x.tree last rest → AreDoneOrIn c (IsDoneAt c at x.placed) rest es → HasRest c at settled es last
+  settled_from has size [] within x there on kept = absurd (elim (kept asked at by has) [
     | inl done ↦ waits_still c at asked x.placed by (settling.waiting x there) done
     | inr behind ↦ omega (arith, behind.1)
   ])
@@ -54,7 +54,7 @@ module _ (c : List Message) (first : TreeState) (at asked : ℕ) (tree : IsTreeR
 
   -- where it is placed in none, to one with the last tree
   waiting_from : ((y : PlainConfiguration) → Contains settled y → ⊥) → (size : ℕ) (rest : List Entry) → length rest ≤ size → (x : PlainConfiguration) → Contains work x
-      → GoesOn c (IsDoneAt c at x.placed) x.tree last rest → AreDoneOrIn (IsDoneAt c at x.placed) rest es → (y : PlainConfiguration) × Contains work y × (last ≡ y.tree)
+      → GoesOn c (IsDoneAt c at x.placed) x.tree last rest → AreDoneOrIn c (IsDoneAt c at x.placed) rest es → (y : PlainConfiguration) × Contains work y × (last ≡ y.tree)
   waiting_from none size [] within x there on kept = (x, there, on)
   waiting_from none zero (e ∷ rest) within x there on kept = absurd (omega (arith, within))
   waiting_from none (suc size) (e ∷ rest) within x there on kept =

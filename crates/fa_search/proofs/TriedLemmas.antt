@@ -1,9 +1,9 @@
 -- What may be tried, by the calls of the messages: which call an entry names, and where its step leads.
-use Rattle.std.proofs.Common.{◌≡◌, ◌⊎◌, ℕ, ◌<◌, List, [], ◌∷◌, Option, Some, refl, sym, subst, ◌∙◌, inl, inr, arith}
+use Rattle.std.proofs.Common.{◌≡◌, ◌⊎◌, ℕ, ◌<◌, List, Option, Some, refl, sym, subst, ◌∙◌, inl, inr}
 use Rattle.std.specs.Prelude.{slice_get, Contains}
 use Rattle.fa_capture.specs.Checks.{FirstFailure}
 use Rattle.fa_capture.specs.Message.{Message}
-use Rattle.fa_capture.proofs.CallerLemmas.{contains_cases, contains_first, contains_behind}
+use Rattle.fa_session.specs.Answers.{IsAnsweredBy, IsUnanswered}
 use Rattle.fa_ledger.specs.Calls.{PlainCall, AreCalls}
 use Rattle.fa_ledger.specs.Choices.{Allows}
 use Rattle.fa_ledger.specs.SoFar.{listing_so_far}
@@ -74,48 +74,33 @@ step_followed c x y e tree work settled steps ahead there new others = record {
   ahead = subst (λ (t : TreeState). IsAhead c (OrThis (Contains x.placed) e.at) t y) (entry_is_one c x.tree tree new e steps others) ahead;
 }
 
--- one more that is placed, and no other, is ahead
+-- ---- what is ahead
+
+-- one more that is placed is
 pub one_ahead : (c : List Message) (x y : PlainConfiguration) (asked : ℕ) (tree : TreeState) → y.tree ≡ tree → IsOneMore x.placed asked y.placed → IsAhead c (OrThis (Contains x.placed) asked) tree y
 one_ahead c x y asked tree same one = record {
-  others = [];
   same = same;
-  leave = λ p has. absurd (omega (arith, has.1));
-  placed = λ p. (
-    (λ has. inl ((one p).0 has)),
-    (λ either. elim either [ inl before ↦ (one p).1 before | inr none ↦ absurd (omega (arith, none.1)) ]),
-  );
+  all = λ p q by placed. (one p).1 placed;
+  others = λ p has. inl ((one p).0 has);
 }
 
--- and so is what is ahead, with one more placed that leaves each tree as it is
+-- so is what is placed itself
+pub same_ahead : (c : List Message) (x : PlainConfiguration) → IsAhead c (Contains x.placed) x.tree x
+same_ahead c x = record { same = refl; all = λ p q by has. has; others = λ p has. inl has }
+
+-- one more that leaves each tree as it is may be placed in what is ahead,
 pub further_ahead : (c : List Message) (Placed : ℕ → Type 0) (tree : TreeState) (x y : PlainConfiguration) (asked : ℕ) → LeavesTrees c asked → y.tree ≡ x.tree → IsOneMore x.placed asked y.placed
     → IsAhead c Placed tree x → IsAhead c Placed tree y
 further_ahead c Placed tree x y asked leaves same one ahead = record {
-  others = asked ∷ ahead.others;
   same = same ∙ ahead.same;
-  leave = λ p has. elim (contains_cases asked ahead.others p has) [
-    | inl here ↦ subst (LeavesTrees c) here leaves
-    | inr behind ↦ ahead.leave p behind
-  ];
-  placed = λ p. (
-    (λ has. elim ((one p).0 has) [
-      | inl before ↦ elim ((ahead.placed p).0 before) [ inl placed ↦ inl placed | inr other ↦ inr (contains_behind asked ahead.others p other) ]
-      | inr here ↦ inr (subst (Contains (asked ∷ ahead.others)) here (contains_first asked ahead.others))
-    ]),
-    (λ either. elim either [
-      | inl placed ↦ (one p).1 (inl ((ahead.placed p).1 (inl placed)))
-      | inr has ↦ elim (contains_cases asked ahead.others p has) [
-        | inl here ↦ (one p).1 (inr here)
-        | inr other ↦ (one p).1 (inl ((ahead.placed p).1 (inr other)))
-      ]
-    ]),
-  );
+  all = λ p q by placed. (one p).1 (inl (ahead.all p q by placed));
+  others = λ p has. elim ((one p).0 has) [ inl before ↦ ahead.others p before | inr here ↦ inr (subst (LeavesTrees c) here leaves) ];
 }
 
--- what is placed is ahead of itself
-pub same_ahead : (c : List Message) (x : PlainConfiguration) → IsAhead c (Contains x.placed) x.tree x
-same_ahead c x = record {
-  others = [];
-  same = refl;
-  leave = λ p has. absurd (omega (arith, has.1));
-  placed = λ p. ((λ has. inl has), (λ either. elim either [ inl has ↦ has | inr none ↦ absurd (omega (arith, none.1)) ]));
+-- and one without an answer need not be, where it left the tree as it was
+pub unanswered_ahead : (c : List Message) (x : PlainConfiguration) (asked : ℕ) (tree : TreeState) → IsUnanswered c asked → x.tree ≡ tree → IsAhead c (OrThis (Contains x.placed) asked) tree x
+unanswered_ahead c x asked tree none same = record {
+  same = same;
+  all = λ p q by placed. elim placed [ inl has ↦ has | inr here ↦ absurd (none q (subst (λ (k : ℕ). IsAnsweredBy c k q) (sym here) by)) ];
+  others = λ p has. inl (inl has);
 }

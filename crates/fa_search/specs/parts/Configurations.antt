@@ -68,18 +68,18 @@ pub record IsReached (c : List Message) (first : TreeState) (at : ℕ) (x : Plai
   pub run : Runs first x.tree c entries
   pub exact : (p : ℕ) → Contains (numbers entries) p ↔ IsDoneAt c at x.placed p
 
--- each request of these entries is done, or in the rest
-abbrev pub AreDoneOrIn : (Done : ℕ → Type 0) → (rest es : List Entry) → Type 0
-AreDoneOrIn Done rest es = (p : ℕ) → Contains (numbers es) p → Done p ⊎ Contains (numbers rest) p
+-- each request of these entries that is answered at any time is done, or in the rest
+abbrev pub AreDoneOrIn : List Message → (Done : ℕ → Type 0) → (rest es : List Entry) → Type 0
+AreDoneOrIn c Done rest es = (p q : ℕ) → IsAnsweredBy c p q → Contains (numbers es) p → Done p ⊎ Contains (numbers rest) p
 
--- Entries that lead to this tree go on from one of these configurations: some rest leads from it to the same tree, and with it no request of
--- theirs is left out.
+-- Entries that lead to this tree go on from one of these configurations: some rest leads from it to the same tree, and with it no answered
+-- request of theirs is left out.
 pub record HasRest (c : List Message) (at : ℕ) (held : List PlainConfiguration) (es : List Entry) (last : TreeState) : Type 0 where
   pub from : PlainConfiguration
   pub there : Contains held from
   pub rest : List Entry
   pub on : GoesOn c (IsDoneAt c at from.placed) from.tree last rest
-  pub kept : AreDoneOrIn (IsDoneAt c at from.placed) rest es
+  pub kept : AreDoneOrIn c (IsDoneAt c at from.placed) rest es
 
 -- The configurations that a search holds at a message: entries come to each, and whatever explains the replies before that message goes on
 -- from one of them.
@@ -97,12 +97,13 @@ LeavesTrees c p = (old new : TreeState) (e : Entry) → e.at ≡ p → EntryStep
 abbrev pub KeepsTrees : PlainCall → Type 0
 KeepsTrees call = IsFailure (ended call.operation) ⊎ (OnlyReads call.operation × (names_given call ≡ []) × (opens_anew call ≡ false))
 
--- The configuration has this tree, and these requests are placed in it, with others maybe that leave each tree as it is: so it is no worse.
+-- The configuration has this tree, and of the requests in flight those are placed in it that are answered at any time, and of others only
+-- such as leave each tree. So whatever goes on where these requests are placed goes on from it: those that leave each tree may be placed at
+-- once, and those without an answer later.
 pub record IsAhead (c : List Message) (Placed : ℕ → Type 0) (tree : TreeState) (x : PlainConfiguration) : Type 0 where
-  pub others : List ℕ
   pub same : x.tree ≡ tree
-  pub leave : (p : ℕ) → Contains others p → LeavesTrees c p
-  pub placed : (p : ℕ) → Contains x.placed p ↔ (Placed p ⊎ Contains others p)
+  pub all : (p q : ℕ) → IsAnsweredBy c p q → Placed p → Contains x.placed p
+  pub others : (p : ℕ) → Contains x.placed p → Placed p ⊎ LeavesTrees c p
 
 -- ---- what is settled where a reply comes
 
