@@ -15,7 +15,7 @@ pub use Rattle.fa_check.proofs.ThereLemmas.{verdict_is_there}
 -- a message has one call, an entry leads to one tree, and so does a run
 pub use Rattle.fa_check.proofs.RunLemmas.{call_one, entry_is_one, run_is_one, run_more, run_at}
 -- the calls of messages
-pub use Rattle.fa_check.proofs.MessageLemmas.{call_is_tree, tree_is_call, call_answered, call_unanswered, call_of_message, asked_rise, one_place, one_answered}
+pub use Rattle.fa_check.proofs.MessageLemmas.{call_is_tree, tree_is_call, call_answered, call_unanswered, answered_call, call_of_message, asked_rise, one_place, one_answered}
 -- an order is valid exactly where each entry passes the checks of its place
 pub use Rattle.fa_check.proofs.OrderLemmas.{valid_where_each_is_placed, placed_valid, number_more, number_still, number_now}
 -- one entry more, and an order without a fault

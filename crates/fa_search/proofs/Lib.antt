@@ -8,3 +8,4 @@ pub mod SettlingLemmas
 pub mod HeldLemmas
 pub mod CodeLemmas
 pub mod TriedLemmas
+pub mod FlightLemmas

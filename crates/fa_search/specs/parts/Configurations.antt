@@ -1,9 +1,9 @@
 -- How far a search has come at a message: all tree requests that were answered before it are placed, in some order, and of those in flight
 -- some are. Only which of these are, and the tree, matters for what may come behind it.
-use Rattle.std.specs.Prelude.{◌≡◌, ◌≢◌, ◌↔◌, ◌⊎◌, ℕ, ◌<◌, false, List, [], Contains, Option}
+use Rattle.std.specs.Prelude.{◌≡◌, ◌≢◌, ◌↔◌, ◌⊎◌, ℕ, ◌<◌, ◌≤◌, false, List, [], Contains, Option, Some, None}
 use Rattle.fa_capture.specs.Message.{Message}
 use Rattle.fa_session.specs.Answers.{IsAnsweredBy}
-use Rattle.fa_ledger.specs.Calls.{PlainCall}
+use Rattle.fa_ledger.specs.Calls.{PlainAnswer, PlainCall}
 use Rattle.fa_ledger.specs.Kinds.{IsFailure, OnlyReads}
 use Rattle.fa_ledger.specs.Operations.{ended}
 use Rattle.fa_tree.specs.State.{TreeState}
@@ -41,6 +41,13 @@ pub record IsPending (c : List Message) (at p : ℕ) : Type 0 where
 -- these are all of them
 abbrev pub ArePending : List Message → (at : ℕ) → List ℕ → Type 0
 ArePending c at pending = (p : ℕ) → Contains pending p ↔ IsPending c at p
+
+-- The call is in flight at this message, and an order may name it: it was sent before, its answer, if it has one, comes at this message or
+-- behind it, and if it has none it does not only read.
+pub record IsCallPending (at : ℕ) (call : PlainCall) : Type 0 where
+  pub sent : call.asked < at
+  pub waits : (answer : PlainAnswer) → call.answer ≡ Some answer → at ≤ answer.at
+  pub named : call.answer ≡ None → OnlyReads call.operation → ⊥
 
 -- an entry that names one of them, with a choice that is allowed
 pub record MayBeTried (c : List Message) (at : ℕ) (e : Entry) : Type 0 where
