@@ -1,5 +1,5 @@
 -- Which tree requests are done at a message, and which are in flight: what one message more changes.
-use Rattle.std.proofs.Common.{◌≡◌, ◌↔◌, ◌⊎◌, ℕ, ◌+◌, ◌<◌, ◌≤◌, List, [], ◌∷◌, ◌++◌, take, Option, sym, subst, ◌∙◌, inl, inr, arith}
+use Rattle.std.proofs.Common.{◌≡◌, ◌↔◌, ◌⊎◌, ℕ, ◌+◌, ◌<◌, ◌≤◌, List, [], ◌∷◌, ◌++◌, take, Option, sym, subst, ◌∙◌, inl, inr, arith, None, refl}
 use Rattle.std.specs.Prelude.{Contains}
 use Rattle.std.proofs.lemmas.Bool.{cases_lt, cases_eq}
 use Rattle.std.proofs.lemmas.List.Elements.{Contains-append_cases, Contains-append_left, Contains-push}
@@ -136,6 +136,18 @@ pending_now c at tree named = record {
   sent = omega arith;
   waits = λ answered. (let behind = answered_behind c at answered.0 answered.1 in let near = answered.2 in omega (arith, behind, near));
   named = named;
+}
+
+-- a request that this message answers is in flight
+pub answered_pending : (c : List Message) (at asked : ℕ) → IsTreeRequestAt c asked → IsAnsweredBy c asked at → IsPending c at asked
+answered_pending c at asked tree by = record {
+  tree_request = tree;
+  sent = answered_behind c asked at by;
+  waits = λ before.
+      let same : before.0 ≡ at = answered_at c asked before.0 at before.1 by in
+      let early = before.2 in
+      omega (arith, same, early);
+  named = (None, record { answered = λ q answered. refl; unanswered = λ o waits. absurd (waits.0 at by) });
 }
 
 -- a request comes that an order may name: it is in flight too

@@ -1,5 +1,5 @@
 -- What may be tried, by the calls of the messages: which call an entry names, and where its step leads.
-use Rattle.std.proofs.Common.{◌≡◌, ◌⊎◌, ℕ, ◌<◌, List, Option, Some, refl, sym, subst, ◌∙◌, inl, inr}
+use Rattle.std.proofs.Common.{◌≡◌, ◌⊎◌, ℕ, ◌<◌, List, Option, Some, refl, sym, subst, ◌∙◌, inl, inr, None}
 use Rattle.std.specs.Prelude.{slice_get, Contains}
 use Rattle.fa_capture.specs.Checks.{FirstFailure}
 use Rattle.fa_capture.specs.Message.{Message}
@@ -11,11 +11,12 @@ use Rattle.fa_tree.specs.State.{TreeState}
 use Rattle.fa_tree.specs.Steps.{Steps, step_checks}
 use Rattle.fa_tree.proofs.CallerLemmas.{step_failed_stays, step_read_stays}
 use Rattle.fa_order.specs.declared.entry.Entry.{Entry}
+use Rattle.fa_order.proofs.CallerLemmas.{same_entry}
 use Rattle.fa_check.specs.Runs.{IsCallAt, EntrySteps}
 use Rattle.fa_check.specs.Cuts.{IsAnsweredBefore}
 use Rattle.fa_check.proofs.CallerLemmas.{call_one, entry_is_one, no_step_failure, tree_is_call, call_is_tree, call_of_message, allowed_choice, choice_allowed}
 use Rattle.fa_search.specs.parts.Going.{OrThis}
-use Rattle.fa_search.specs.parts.Configurations.{PlainConfiguration, MayBeTried, IsOneMore, LeavesTrees, KeepsTrees, IsAhead, IsFollowed}
+use Rattle.fa_search.specs.parts.Configurations.{PlainConfiguration, MayBeTried, IsOneMore, LeavesTrees, KeepsTrees, IsAhead, IsFollowed, IsPending, IsSpent}
 
 module _ (c : List Message) (calls : List PlainCall) (are : AreCalls c calls) (at : ℕ) where
   -- what may be tried names a call, which allows its count
@@ -73,6 +74,15 @@ step_followed c x y e tree work settled steps ahead there new others = record {
   there = there;
   ahead = subst (λ (t : TreeState). IsAhead c (OrThis (Contains x.placed) e.at) t y) (entry_is_one c x.tree tree new e steps others) ahead;
 }
+
+-- where the request that the message answers is the only one in flight, its entry alone is to be followed
+pub spent_alone : (c : List Message) (at asked : ℕ) (x : PlainConfiguration) (work settled : List PlainConfiguration) → IsAnsweredBy c asked at → ((p : ℕ) → IsPending c at p → p ≡ asked)
+    → ((new : TreeState) → EntrySteps x.tree new c (record { at = asked; wrote = None }) → IsFollowed c x (record { at = asked; wrote = None }) new work settled) → IsSpent c at x work settled
+spent_alone c at asked x work settled by only followed e new may lacks steps =
+    let number : e.at ≡ asked = only e.at may.pending in
+    let carries : e.wrote ≡ None = may.choice.answered at (subst (λ (k : ℕ). IsAnsweredBy c k at) (sym number) by) in
+    let same : e ≡ record { at = asked; wrote = None } = same_entry e (record { at = asked; wrote = None }) number carries in
+    subst (λ (f : Entry). IsFollowed c x f new work settled) (sym same) (followed new (subst (EntrySteps x.tree new c) same steps))
 
 -- ---- what is ahead
 

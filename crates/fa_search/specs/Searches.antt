@@ -44,7 +44,8 @@ pub record ComesTo (c : List Message) (first : TreeState) (at : ℕ) (es : List 
 abbrev pub IsRefusedFrom : TreeState → List Message → (asked code : ℕ) → Type 0
 IsRefusedFrom tree c asked code = StepFails tree c (record { at = asked; wrote = None }) code
 
--- the request that this message answers is refused with this code after some entries that come to it
+-- The request that this message answers is refused with this code after some entries that come to it. Others may go past it, unless no order
+-- does.
 abbrev pub IsRefusedWith : List Message → TreeState → (at code : ℕ) → Type 0
 IsRefusedWith c first at code =
     (es : List Entry) × (tree : TreeState) × (asked : ℕ) × ComesTo c first at es tree asked × IsRefusedFrom tree c asked code
