@@ -16,7 +16,7 @@ use Rattle.fa_check.specs.Orders.{IsTreeRequestAt}
 use Rattle.fa_check.specs.Cuts.{IsAnsweredBefore}
 use Rattle.fa_check.specs.Replays.{IsAnswerAt}
 use Rattle.fa_check.proofs.CallerLemmas.{call_is_tree, tree_is_call, call_answered, answered_call, allowed_choice, choice_allowed}
-use Rattle.fa_search.specs.parts.Configurations.{IsPending, IsCallPending, AnswersNone}
+use Rattle.fa_search.specs.parts.Configurations.{most_written, IsCountUpTo, IsPending, IsCallPending, AnswersNone}
 
 -- ---- which calls an order may name
 
@@ -40,6 +40,15 @@ call_named call named = by call.answer named
 
 pub call_unnamed : (call : PlainCall) (wrote : Option ℕ) → call.answer ≡ None → OnlyReads call.operation → Allows call wrote → ⊥
 call_unnamed call wrote none reads allowed = no_choice call.operation wrote reads (subst (λ (answer : Option PlainAnswer). AllowsBy answer call.operation wrote) none allowed)
+
+-- and the counts that it allows are those up to the most
+pub counts_allowed : (call : PlainCall) → (call.answer ≡ None → OnlyReads call.operation → ⊥) → (wrote : Option ℕ) → Allows call wrote ↔ IsCountUpTo (most_written call.answer call.operation) wrote
+counts_allowed call named wrote = by call.answer call.operation named
+  where
+    by : (answer : Option PlainAnswer) (o : PlainOperation) → (answer ≡ None → OnlyReads o → ⊥) → AllowsBy answer o wrote ↔ IsCountUpTo (most_written answer o) wrote
+    by None (Acts (Write offset size payload o)) changes = ((λ may. may), (λ up. up))
+    by None other changes = ((λ may. may.1), (λ none. (changes refl, none)))
+    by (Some answer) o changes = ((λ none. none), (λ none. none))
 
 module _ (c : List Message) (calls : List PlainCall) (are : AreCalls c calls) (at : ℕ) where
   -- ---- which one a message answers

@@ -150,6 +150,27 @@ answered_pending c at asked tree by = record {
   named = (None, record { answered = λ q answered. refl; unanswered = λ o waits. absurd (waits.0 at by) });
 }
 
+-- Where of each two tree requests the earlier one is answered before the later one is sent (`IsSerial` of fa_propose), it is the only one.
+pub serial_alone : (c : List Message) (at asked : ℕ) → ((p later : ℕ) → IsTreeRequestAt c p → IsTreeRequestAt c later → p < later → (q : ℕ) × IsAnsweredBy c p q × (q < later))
+    → IsTreeRequestAt c asked → IsAnsweredBy c asked at → (p : ℕ) → IsPending c at p → p ≡ asked
+serial_alone c at asked serial tree by p is =
+    elim (cases_lt p asked) [
+      | inl before ↦
+          let answer = serial p asked is.tree_request tree before in
+          let early = answer.2 in
+          let behind = answered_behind c asked at by in
+          absurd (is.waits (answer.0, answer.1, omega (arith, early, behind)))
+      | inr far ↦ elim (cases_lt asked p) [
+        | inl behind ↦
+            let answer = serial asked p tree is.tree_request behind in
+            let same : answer.0 ≡ at = answered_at c asked answer.0 at answer.1 by in
+            let early = answer.2 in
+            let sent = is.sent in
+            absurd (omega (arith, same, early, sent))
+        | inr near ↦ omega (arith, far, near)
+      ]
+    ]
+
 -- a request comes that an order may name: it is in flight too
 pub pending_asked : (c : List Message) (at : ℕ) (pending : List ℕ) → IsTreeRequestAt c at → ((wrote : Option ℕ) × IsChoice c (record { at = at; wrote = wrote })) → ArePending c at pending
     → ArePending c (at + 1) (pending ++ at ∷ [])

@@ -5,7 +5,9 @@ use Rattle.fa_capture.specs.Message.{Message}
 use Rattle.fa_session.specs.Answers.{IsAnsweredBy}
 use Rattle.fa_ledger.specs.Calls.{PlainAnswer, PlainCall}
 use Rattle.fa_ledger.specs.Kinds.{IsFailure, OnlyReads}
-use Rattle.fa_ledger.specs.Operations.{ended}
+use Rattle.fa_ledger.specs.Operations.{PlainOperation, ended}
+use Rattle.fa_ledger.specs.Operations.PlainAction.{Write}
+use Rattle.fa_ledger.specs.Operations.PlainOperation.{Acts}
 use Rattle.fa_tree.specs.State.{TreeState}
 use Rattle.fa_tree.specs.Steps.{names_given, opens_anew}
 use Rattle.fa_order.specs.declared.entry.Entry.{Entry}
@@ -48,6 +50,16 @@ pub record IsCallPending (at : ℕ) (call : PlainCall) : Type 0 where
   pub sent : call.asked < at
   pub waits : (answer : PlainAnswer) → call.answer ≡ Some answer → at ≤ answer.at
   pub named : call.answer ≡ None → OnlyReads call.operation → ⊥
+
+-- how many bytes at most an order may say that the request wrote, with this answer or none: those of a WRITE that has none
+abbrev pub most_written : Option PlainAnswer → PlainOperation → Option ℕ
+most_written None (Acts (Write offset size payload o)) = Some size
+most_written answer o = None
+
+-- the count is one of those up to this, and none where there is none
+abbrev pub IsCountUpTo : (most : Option ℕ) → (wrote : Option ℕ) → Type 0
+IsCountUpTo None wrote = wrote ≡ None
+IsCountUpTo (Some most) wrote = (count : ℕ) × (wrote ≡ Some count) × (count ≤ most)
 
 -- an entry that names one of them, with a choice that is allowed
 pub record MayBeTried (c : List Message) (at : ℕ) (e : Entry) : Type 0 where
