@@ -3,6 +3,7 @@ pub mod CauseLemmas
 pub mod ChangeLemmas
 pub mod ChangedLemmas
 pub mod ContentsLemmas
+pub mod CopyLemmas
 pub mod EditedLemmas
 pub mod EntryLemmas
 pub mod ExchangeLemmas

@@ -62,6 +62,17 @@ impl Contents {
         Ok(contents)
     }
 
+    /// The same bytes once more, in memory of their own: in time and memory of the pages that store them, holes take none.
+    pub fn copy(&self) -> Result<Self, AllocError>
+        ensures { IfOk result (λ contents. contents ≡ self.now) }
+    {
+        Ok(Contents {
+            alloc: self.alloc,
+            len: self.len,
+            pages: self.pages.copy(self.alloc)?,
+        })
+    }
+
     /// How many there are.
     pub fn len(&self) -> usize
         ensures { result ≡ length self.now }

@@ -1,6 +1,6 @@
 //! The pages of a file that are far from its beginning.
 
-ghost use Rattle.std.specs.Prelude.{◌≡◌, ◌↔◌, ◌+◌, ◌<◌, ◌≤◌, ℕ, [], length, take, false, IsTrue, IsSome, OnOk};
+ghost use Rattle.std.specs.Prelude.{◌≡◌, ◌↔◌, ◌+◌, ◌<◌, ◌≤◌, ℕ, [], length, take, false, IsTrue, IsSome, IfOk, OnOk};
 ghost use Rattle.std.specs.Option.{option_copied, unwrap_or};
 ghost use Rattle.fa_tree.specs.parts.PageParts.{far_page, has_far, with_part, IsSet, IsGrown, SameBytes};
 
@@ -31,6 +31,15 @@ impl FarPages {
         FarPages {
             pages: BTreeMap::new(alloc),
         }
+    }
+
+    /// The same pages once more. Time and memory in the pages and the bytes that they store.
+    pub fn copy(&self) -> Result<Self, AllocError>
+        ensures { IfOk result (λ pages. pages ≡ self.now) }
+    {
+        Ok(FarPages {
+            pages: self.pages.clone()?,
+        })
     }
 
     /// Whether no page is there.

@@ -8,6 +8,7 @@ ghost use Rattle.fa_tree.specs.parts.FileParts.{file_shown};
 
 use crate::contents::Contents;
 use fa_bodies::{Kind, Mode};
+use std::alloc::AllocError;
 
 /// A file, whatever names it has.
 #[derive(Drop)]
@@ -25,6 +26,19 @@ pub(crate) fn permission_bits(mode: Mode) -> u32
     ensures { result ≡ permission_bits (mode_bits mode) }
 {
     mode.bits() & 0o777
+}
+
+impl Clone for File {
+    ghost is_clone = { λ file copy. copy ≡ file };
+
+    /// The same file, its bytes in memory of their own. Time and memory in the pages that store them.
+    fn clone(&self) -> Result<Self, AllocError> {
+        Ok(File {
+            kind: self.kind,
+            bits: self.bits,
+            contents: self.contents.copy()?,
+        })
+    }
 }
 
 impl File {

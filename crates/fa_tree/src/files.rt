@@ -51,6 +51,15 @@ impl Files {
         Ok(Files { by_id })
     }
 
+    /// The same files once more. Expected time and memory in the files and in the pages that store their bytes.
+    pub fn copy(&self) -> Result<Self, AllocError>
+        ensures { IfOk result (λ files. files ≡ self.now) }
+    {
+        Ok(Files {
+            by_id: self.by_id.clone()?,
+        })
+    }
+
     /// How many there are.
     pub fn len(&self) -> usize
         ensures { result ≡ map.len self.now }

@@ -1,7 +1,7 @@
 //! What is counted of each file, so that it need not be looked for among all names: how many names it has, and how many are
 //! in it.
 
-ghost use Rattle.std.specs.Prelude.{◌≡◌, ◌<◌, ◌^◌, cond, ℕ, List, Option, Some, None, is_some, IsTrue, OnOk};
+ghost use Rattle.std.specs.Prelude.{◌≡◌, ◌<◌, ◌^◌, cond, ℕ, List, Option, Some, None, is_some, IsTrue, IfOk, OnOk};
 ghost use Rattle.std.specs.Borrow.{sem};
 ghost use Rattle.std.specs.Option.{option_copied_mut};
 ghost use Rattle.std.specs.FinMap as map;
@@ -71,6 +71,16 @@ impl Holders {
             list: Vec::new(alloc),
             table: IndexMap::new(alloc),
         }
+    }
+
+    /// The same counts once more. Expected time and memory in the files.
+    pub fn copy(&self) -> Result<Self, AllocError>
+        ensures { IfOk result (λ holders. (file : FileId) → entry_of holders file ≡ entry_of self.now file) }
+    {
+        Ok(Holders {
+            list: self.list.clone()?,
+            table: self.table.clone()?,
+        })
     }
 
     /// What is counted of a file.

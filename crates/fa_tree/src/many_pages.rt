@@ -41,6 +41,16 @@ impl ManyPages {
         })
     }
 
+    /// The same pages once more. Time and memory in the pages and the bytes that they store.
+    pub fn copy(&self) -> Result<Self, AllocError>
+        ensures { IfOk result (λ pages. pages ≡ self.now) }
+    {
+        Ok(ManyPages {
+            near: self.near.clone()?,
+            far: self.far.copy()?,
+        })
+    }
+
     /// Exchanges the first page with another.
     pub fn swap_first(&mut self, page: &mut Page)
         requires { 0 < length self.old.near }

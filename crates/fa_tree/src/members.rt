@@ -1,6 +1,6 @@
 //! The places of each directory, by their indexes in the table of all places, so that they need not be looked for among all.
 
-ghost use Rattle.std.specs.Prelude.{◌≡◌, ◌∷◌, ◌++◌, cond, [], OnOk, OnErr};
+ghost use Rattle.std.specs.Prelude.{◌≡◌, ◌∷◌, ◌++◌, cond, [], IfOk, OnOk, OnErr};
 ghost use Rattle.fa_tree.specs.declared.id.FileId.{FileId};
 ghost use Rattle.fa_tree.specs.State.{file_eq};
 ghost use Rattle.fa_tree.specs.parts.MemberParts.{members_of};
@@ -27,6 +27,16 @@ impl Members {
             alloc,
             table: IndexMap::new(alloc),
         }
+    }
+
+    /// The same indexes once more. Expected time and memory in the indexes.
+    pub fn copy(&self) -> Result<Self, AllocError>
+        ensures { IfOk result (λ members. (of : FileId) → members_of members.table.entries of ≡ members_of self.now.table.entries of) }
+    {
+        Ok(Members {
+            alloc: self.alloc,
+            table: self.table.clone()?,
+        })
     }
 
     /// The indexes of a directory, the earlier before the later.

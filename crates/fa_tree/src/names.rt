@@ -1,6 +1,6 @@
 //! Which file each name of a directory is, and the directories that are open.
 
-ghost use Rattle.std.specs.Prelude.{◌≡◌, ◌≢◌, ◌↔◌, ◌∷◌, [], ℕ, List, count_by, IsTrue, Some, None, OnOk, OnErr};
+ghost use Rattle.std.specs.Prelude.{◌≡◌, ◌≢◌, ◌↔◌, ◌∷◌, [], ℕ, List, count_by, IsTrue, Some, None, IfOk, OnOk, OnErr};
 ghost use Rattle.fa_tree.specs.declared.id.FileId.{FileId};
 ghost use Rattle.std.specs.FinMap.{get, entries};
 ghost use Rattle.std.specs.Option.{option_map};
@@ -62,6 +62,21 @@ impl Names {
             openings: Openings::new(alloc),
             holders: Holders::new(alloc),
         }
+    }
+
+    /// The same names and open directories once more. Expected time and memory in the places that ever had a name, the bytes of
+    /// their names, and the openings.
+    pub fn copy(&self) -> Result<Self, AllocError>
+        ensures { IfOk result (λ names. names ≡ self.now) }
+    {
+        let openings = self.openings.copy()?;
+        let holders = self.holders.copy()?;
+        let slots = self.slots.copy()?;
+        Ok(Names {
+            slots,
+            openings,
+            holders,
+        })
     }
 
     /// The file that a name in a directory is for, if it is there.

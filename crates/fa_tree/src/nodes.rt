@@ -28,6 +28,15 @@ impl Nodes {
         }
     }
 
+    /// The same names once more, for the same files. Expected time and memory in the names.
+    pub fn copy(&self) -> Result<Self, AllocError>
+        ensures { IfOk result (λ nodes. nodes_shown nodes ≡ nodes_shown self.now) }
+    {
+        Ok(Nodes {
+            files: self.files.clone()?,
+        })
+    }
+
     /// The file that the name stands for, if it stands for one.
     pub fn get(&self, name: &NodeName) -> Option<FileId>
         ensures { result ≡ map.get (nodes_shown self.now) name.now }

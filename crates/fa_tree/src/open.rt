@@ -1,6 +1,6 @@
 //! Directories that are open: all openings, and what was in a directory since one of them.
 
-ghost use Rattle.std.specs.Prelude.{◌≡◌, ◌∷◌, ◌++◌, [], ℕ, List, Some, true, false, length, slice_get, IsTrue, IsFalse, IsSome, OnOk, OnErr};
+ghost use Rattle.std.specs.Prelude.{◌≡◌, ◌∷◌, ◌++◌, [], ℕ, List, Some, true, false, length, slice_get, IsTrue, IsFalse, IsSome, IfOk, OnOk, OnErr};
 ghost use Rattle.fa_tree.specs.declared.id.FileId.{FileId};
 ghost use Rattle.fa_tree.specs.declared.slots.Place.{Place};
 ghost use Rattle.fa_tree.specs.declared.slots.Slot.{Slot};
@@ -66,6 +66,16 @@ impl Openings {
             list: Vec::new(alloc),
             places: IndexMap::new(alloc),
         }
+    }
+
+    /// The same openings once more. Expected time and memory in their number.
+    pub fn copy(&self) -> Result<Self, AllocError>
+        ensures { IfOk result (λ openings. openings ≡ self.now) }
+    {
+        Ok(Openings {
+            list: self.list.clone()?,
+            places: self.places.clone()?,
+        })
     }
 
     /// How many there are.

@@ -25,6 +25,17 @@ impl Model for Page {
     ghost invariant = { λ p. length p.bytes.items ≤ 4096 };
 }
 
+impl Clone for Page {
+    ghost is_clone = { λ page copy. copy ≡ page };
+
+    /// The same bytes, in memory of their own. Time and memory in their number.
+    fn clone(&self) -> Result<Self, AllocError> {
+        Ok(Page {
+            bytes: Vec::from_slice(*self.bytes.allocator(), self.bytes.as_slice())?,
+        })
+    }
+}
+
 impl Page {
     /// Zeros. Takes no memory.
     pub fn new(alloc: Global) -> Self

@@ -52,6 +52,17 @@ impl Pages {
         })
     }
 
+    /// The same pages once more. Time and memory in the pages and the bytes that they store.
+    pub fn copy(&self, alloc: Global) -> Result<Self, AllocError>
+        ensures { IfOk result (λ pages. pages ≡ self.now) }
+    {
+        let list = match &self.list {
+            PageList::One(page) => PageList::One(page.clone()?),
+            PageList::Many(pages) => PageList::Many(Box::new(alloc, pages.copy()?)?),
+        };
+        Ok(Pages { list })
+    }
+
     /// How many near the beginning there are.
     pub fn near_len(&self) -> usize
         ensures { result ≡ length self.now.near }

@@ -1,6 +1,6 @@
 //! The directory that each directory is in, so that it need not be looked for among all names.
 
-ghost use Rattle.std.specs.Prelude.{◌≡◌, ◌≢◌, cond, [], Some, None, OnOk, OnErr};
+ghost use Rattle.std.specs.Prelude.{◌≡◌, ◌≢◌, cond, [], Some, None, IfOk, OnOk, OnErr};
 ghost use Rattle.std.specs.Option.{option_map};
 ghost use Rattle.fa_bodies.specs.declared.mode.Kind.TheVariants.{Directory};
 ghost use Rattle.fa_tree.specs.declared.id.FileId.{FileId};
@@ -28,6 +28,15 @@ impl Parents {
         Parents {
             table: IndexMap::new(alloc),
         }
+    }
+
+    /// The same notes once more. Expected time and memory in the directories.
+    pub fn copy(&self) -> Result<Self, AllocError>
+        ensures { IfOk result (λ parents. parents.table.entries ≡ self.now.table.entries) }
+    {
+        Ok(Parents {
+            table: self.table.clone()?,
+        })
     }
 
     /// The directory that is noted for a file, if one is.

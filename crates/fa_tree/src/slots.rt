@@ -6,7 +6,7 @@ ghost use Rattle.fa_tree.specs.declared.slots.Slot.TheVariants.{There};
 ghost use Rattle.std.specs.FinMap as map;
 ghost use Rattle.std.specs.Map.{keys_of};
 ghost use Rattle.std.specs.Option.{option_map};
-ghost use Rattle.fa_tree.specs.parts.SlotParts.{slot_at, gone_at, file_in, names_shown, IsChangedAt, AreAllThere};
+ghost use Rattle.fa_tree.specs.parts.SlotParts.{slot_at, gone_at, file_in, names_shown, IsChangedAt, HaveSameSlots, AreAllThere};
 ghost use Rattle.fa_tree.specs.parts.MemberParts.{AreMembers};
 
 use crate::id::FileId;
@@ -80,6 +80,20 @@ impl Hash for PlaceAt<'_> {
     }
 }
 
+impl Clone for Place {
+    ghost use Rattle.fa_tree.specs.parts.SlotParts.{place_of};
+
+    ghost is_clone = { λ place copy. place_of copy ≡ place_of place };
+
+    /// The same place, its name in memory of its own. Time and memory in the bytes of the name.
+    fn clone(&self) -> Result<Self, AllocError> {
+        Ok(Place {
+            directory: self.directory,
+            name: Vec::from_slice(*self.name.allocator(), self.name.as_slice())?,
+        })
+    }
+}
+
 impl Equivalent<Place> for &PlaceAt<'_> {
     ghost use Rattle.std.proofs.Common.{ap};
     ghost use Rattle.fa_tree.specs.parts.SlotParts.{is_at, place_of};
@@ -107,6 +121,20 @@ impl Slots {
             members: Members::new(alloc),
             all_there: true,
         }
+    }
+
+    /// The same slots once more, in the same order. Expected time and memory in the places and the bytes of their names.
+    pub fn copy(&self) -> Result<Self, AllocError>
+        ensures { IfOk result (λ slots. HaveSameSlots slots.table.entries self.now.table.entries) }
+    {
+        let members = self.members.copy()?;
+        let table = self.table.clone()?;
+        Ok(Slots {
+            alloc: self.alloc,
+            table,
+            members,
+            all_there: self.all_there,
+        })
     }
 
     /// The slot of a place, if it has one. Takes no memory, in expected constant time.

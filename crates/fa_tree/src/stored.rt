@@ -58,6 +58,21 @@ impl Stored {
         })
     }
 
+    /// The same once more. Expected time and memory in all of it.
+    pub fn copy(&self) -> Result<Self, AllocError>
+        ensures { IfOk result (λ stored. stored ≡ self.now) }
+    {
+        let parents = self.parents.copy()?;
+        let names = self.names.copy()?;
+        let files = self.files.copy()?;
+        Ok(Stored {
+            alloc: self.alloc,
+            files,
+            names,
+            parents,
+        })
+    }
+
     /// The root.
     pub fn root(&self) -> FileId
         ensures { result ≡ state.root }

@@ -56,6 +56,19 @@ impl Tree {
         })
     }
 
+    /// The same tree once more, so that one of both may be changed and the other stays as it is. An error says that memory was
+    /// refused.
+    ///
+    /// Expected time and memory in the size of the tree: the bytes of its names, and of the pages that store bytes of files,
+    /// which are copied too. Names of open directories are copied though they are no longer in them.
+    pub fn copy(&self) -> Result<Tree, AllocError>
+        ensures { IfOk result (λ tree. tree ≡ self.now) }
+    {
+        let nodes = self.nodes.copy()?;
+        let stored = self.stored.copy()?;
+        Ok(Tree { stored, nodes })
+    }
+
     /// The root.
     pub fn root(&self) -> FileId
         ensures { result ≡ state.root }

@@ -29,6 +29,10 @@ slot_at slots place = lookup (is_at place) slots
 abbrev pub IsChangedAt : state.Place → (Option Slot → Option Slot) → (old new : List (Place × Slot)) → Type 0
 IsChangedAt place change old new = (q : state.Place) → slot_at new q ≡ cond (eq_by_cmp place_cmp q place) (change (slot_at old q)) (slot_at old q)
 
+-- each place has the same slot in both
+abbrev pub HaveSameSlots : (new old : List (Place × Slot)) → Type 0
+HaveSameSlots new old = (q : state.Place) → slot_at new q ≡ slot_at old q
+
 -- a slot whose name goes: one that has none stays
 abbrev pub gone_at : ℕ → Option Slot → Option Slot
 gone_at at (Some (There file born)) = Some (Gone at)
