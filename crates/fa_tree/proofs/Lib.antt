@@ -33,6 +33,7 @@ pub mod PlaceOrderLemmas
 pub mod QueryLemmas
 pub mod RenameLemmas
 pub mod ReplayLemmas
+pub mod SameLemmas
 pub mod ShapeLemmas
 pub mod SlotLemmas
 pub mod SoFarLemmas

@@ -84,7 +84,7 @@ either_way false true = refl
 either_way false false = refl
 
 -- the derived equality is that of the order
-ties : (x y : NodeName) → eq_by_cmp node_cmp x y ≡ derived.eq-value.it x y
+pub ties : (x y : NodeName) → eq_by_cmp node_cmp x y ≡ derived.eq-value.it x y
 ties Root Root = refl
 ties Root (Given by id) = refl
 ties (Given by id) Root = refl

@@ -48,28 +48,49 @@ holds_of P (i ∷ indexes) all index is = by (nat_eq index i) refl is (holds_of 
     by true test is later = let same : i ≡ index = grind (arith, nat_tests) in subst P same (all 0 i (omega arith))
     by false test is later = later is
 
-module _ (directory : FileId) (at : ℕ) (Answers : List ℕ → Bool → Type 0) where
-  -- the test answers true at the name of a slot, if its file stayed in the directory
-  abbrev pub Passes : Place × Slot → Type 0
-  Passes e = e.0.directory ≡ directory → is_some (has_stayed at e.1) ≡ true → Answers e.0.name.items true
+module _ (directory : FileId) (Q : List ℕ → Slot → Type 0) where
+  -- this holds of the name of a slot and the slot, if it is the directory's
+  abbrev pub Holds : Place × Slot → Type 0
+  Holds e = e.0.directory ≡ directory → Q e.0.name.items e.1
 
-  found_passes : (slots : List (Place × Slot)) → All Passes slots → (name : List ℕ) (slot : Slot) → slot_at slots (directory, name) ≡ Some slot → is_some (has_stayed at slot) ≡ true → Answers name true
-  found_passes [] all name slot found there = absurd (let clash : None ≡ Some slot = found in cc)
-  found_passes (e ∷ slots) all name slot found there =
-      by (is_at (directory, name) e.0) refl found (λ found. found_passes slots (λ k d less. all (suc k) d (omega arith)) name slot found there)
+  found_holds : (slots : List (Place × Slot)) → All Holds slots → (name : List ℕ) (slot : Slot) → slot_at slots (directory, name) ≡ Some slot → Q name slot
+  found_holds [] all name slot found = absurd (let clash : None ≡ Some slot = found in cc)
+  found_holds (e ∷ slots) all name slot found =
+      by (is_at (directory, name) e.0) refl found (λ found. found_holds slots (λ k d less. all (suc k) d (omega arith)) name slot found)
     where
       by : (b : Bool) → is_at (directory, name) e.0 ≡ b → cond b (Some e.1) (slot_at slots (directory, name)) ≡ Some slot
-          → (slot_at slots (directory, name) ≡ Some slot → Answers name true) → Answers name true
+          → (slot_at slots (directory, name) ≡ Some slot → Q name slot) → Q name slot
       by true test found later =
           let own : (directory, name) ≡ place_of e.0 = same_place (directory, name) (place_of e.0) test in
           let same : e.1 ≡ slot = cc in
-          subst (λ q. Answers q true) (sym (ap (λ p. p.1) own))
-          (all 0 e (omega arith) (sym (ap (λ p. p.0) own)) (ap (λ s. is_some (has_stayed at s)) same ∙ there))
+          subst (λ s. Q name s) same (subst (λ q. Q q e.1) (sym (ap (λ p. p.1) own)) (all 0 e (omega arith) (sym (ap (λ p. p.0) own))))
       by false test found later = later found
+
+  -- of the slot at an index it holds, if there is one
+  abbrev pub HoldsThere : List (Place × Slot) → ℕ → Type 0
+  HoldsThere slots index = (place : Place) (slot : Slot) → slice_get slots index ≡ Some (place, slot) → Holds (place, slot)
+
+  module _ (slots : List (Place × Slot)) (table : List (FileId × Vec ℕ Global)) (members : AreMembers (keys_of slots) table) (all : All (HoldsThere slots) (members_of table directory)) where
+    -- where it holds at the indexes of the directory, it holds of all slots
+    all_hold : All Holds slots
+    all_hold k d less own =
+        let e : Place × Slot = get_or slots k d in
+        let there : slice_get slots k ≡ Some e = slice_get-get_or slots k d less in
+        let place : slice_get (keys_of slots) k ≡ Some e.0 = slice_get-map (λ e. e.0) slots k ∙ ap (option_map (λ e. e.0)) there in
+        holds_of (HoldsThere slots) (members_of table directory) all k (subst (λ of. IsTrue (is_member table of k)) own (members k e.0 place)) e.0 e.1 there own
+
+    -- and so of the one that a name of the directory has
+    pub walked_holds : (name : List ℕ) (slot : Slot) → slot_at slots (directory, name) ≡ Some slot → Q name slot
+    walked_holds = found_holds slots all_hold
+
+module _ (directory : FileId) (at : ℕ) (Answers : List ℕ → Bool → Type 0) where
+  -- the test answers true at the name of a slot, if its file stayed
+  abbrev pub Passes : List ℕ → Slot → Type 0
+  Passes name slot = is_some (has_stayed at slot) ≡ true → Answers name true
 
   -- the slot at an index passes, if there is one
   abbrev pub PassesAt : List (Place × Slot) → ℕ → Type 0
-  PassesAt slots index = (place : Place) (slot : Slot) → slice_get slots index ≡ Some (place, slot) → Passes (place, slot)
+  PassesAt = HoldsThere directory Passes
 
   -- the test answers false at a name whose file stayed in the directory
   abbrev pub Missing : List (Place × Slot) → Type 0
@@ -79,19 +100,11 @@ module _ (directory : FileId) (at : ℕ) (Answers : List ℕ → Bool → Type 0
   pub walked_missing : (slots : List (Place × Slot)) (indexes : List ℕ) → (k : ℕ) × (k < length indexes) × HoldsAt (λ index. Missing slots) indexes k → Missing slots
   walked_missing slots indexes failed = failed.2 0
 
-  module _ (slots : List (Place × Slot)) (table : List (FileId × Vec ℕ Global)) (members : AreMembers (keys_of slots) table) (all : All (PassesAt slots) (members_of table directory)) where
-    -- where the slots at the indexes of the directory pass, all do
-    all_pass : All Passes slots
-    all_pass k d less own =
-        let e : Place × Slot = get_or slots k d in
-        let there : slice_get slots k ≡ Some e = slice_get-get_or slots k d less in
-        let place : slice_get (keys_of slots) k ≡ Some e.0 = slice_get-map (λ e. e.0) slots k ∙ ap (option_map (λ e. e.0)) there in
-        holds_of (PassesAt slots) (members_of table directory) all k (subst (λ of. IsTrue (is_member table of k)) own (members k e.0 place)) e.0 e.1 there own
-
-    -- and it answers true at each name that stayed
-    pub walked_all : (name : List ℕ) (file : FileId) → map.get (stayed_shown directory at slots) name ≡ Some file → Answers name true
-    walked_all name file stayed = by (slot_at slots (directory, name)) refl (sym (get-stayed_shown directory at slots name) ∙ stayed)
-      where
-        by : (x : Option Slot) → slot_at slots (directory, name) ≡ x → option_and_then (has_stayed at) x ≡ Some file → Answers name true
-        by None was is = absurd (let clash : None ≡ Some file = is in cc)
-        by (Some slot) was is = found_passes slots all_pass name slot was (ap is_some is)
+  -- and it answers true at each name that stayed
+  pub walked_all : (slots : List (Place × Slot)) (table : List (FileId × Vec ℕ Global)) (members : AreMembers (keys_of slots) table) (all : All (PassesAt slots) (members_of table directory))
+      → (name : List ℕ) (file : FileId) → map.get (stayed_shown directory at slots) name ≡ Some file → Answers name true
+  walked_all slots table members all name file stayed = by (slot_at slots (directory, name)) refl (sym (get-stayed_shown directory at slots name) ∙ stayed)
+    where
+      by : (x : Option Slot) → slot_at slots (directory, name) ≡ x → option_and_then (has_stayed at) x ≡ Some file → Answers name true
+      by None was is = absurd (let clash : None ≡ Some file = is in cc)
+      by (Some slot) was is = walked_holds directory Passes slots table members all name slot was (ap is_some is)

@@ -12,6 +12,8 @@ pub mod NameParts
 pub mod NameViews
 -- what is counted of files
 pub mod HolderParts
+-- what is within another
+pub mod SameParts
 -- openings, and open directories
 pub mod OpenParts
 -- what was listed so far

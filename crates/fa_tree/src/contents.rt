@@ -73,6 +73,13 @@ impl Contents {
         })
     }
 
+    /// Whether both have the same bytes, whichever of them are stored. Takes no memory, and time in the pages that store them.
+    pub fn is_same(&self, other: &Contents) -> bool
+        ensures { IsTrue result → self.now ≡ other.now }
+    {
+        self.len == other.len && self.pages.is_same(&other.pages)
+    }
+
     /// How many there are.
     pub fn len(&self) -> usize
         ensures { result ≡ length self.now }

@@ -42,6 +42,13 @@ impl FarPages {
         })
     }
 
+    /// The pages, by their places.
+    pub fn by_place(&self) -> &BTreeMap<usize, Page>
+        ensures { result.now.entries ≡ self.now }
+    {
+        &self.pages
+    }
+
     /// Whether no page is there.
     pub fn is_empty(&self) -> bool
         ensures { IsTrue result → self.now ≡ [] }

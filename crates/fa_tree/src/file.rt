@@ -1,6 +1,6 @@
 //! Files.
 
-ghost use Rattle.std.specs.Prelude.{◌≡◌};
+ghost use Rattle.std.specs.Prelude.{◌≡◌, IsTrue};
 ghost use Rattle.fa_bodies.specs.Modes.{mode_bits};
 ghost use Rattle.fa_tree.specs.Attributes.{permission_bits};
 ghost use Rattle.fa_tree.specs.Building.{file_of_kind};
@@ -42,6 +42,14 @@ impl Clone for File {
 }
 
 impl File {
+    /// Whether both have the same type, the same permission bits and the same bytes. Takes no memory, and time in the pages that
+    /// store the bytes.
+    pub fn is_same(&self, other: &File) -> bool
+        ensures { IsTrue result → file_shown self.now ≡ file_shown other.now }
+    {
+        self.kind == other.kind && self.bits == other.bits && self.contents.is_same(&other.contents)
+    }
+
     /// A file of this type, with these permission bits, but all where it is a symbolic link.
     pub fn new(kind: Kind, bits: u32, contents: Contents) -> Self
         ensures { file_shown result ≡ file_of_kind kind bits contents }

@@ -1,6 +1,6 @@
 //! The files of a tree, by what made them.
 
-ghost use Rattle.std.specs.Prelude.{◌≡◌, [], option_map, IfOk, OnOk, OnErr};
+ghost use Rattle.std.specs.Prelude.{◌≡◌, [], option_map, Some, IsTrue, IfOk, OnOk, OnErr};
 ghost use Rattle.std.specs.FinMap as map;
 ghost use Rattle.fa_bodies.specs.declared.mode.Kind.TheVariants.{Directory};
 ghost use Rattle.fa_tree.specs.State.{root};
@@ -8,6 +8,7 @@ ghost use Rattle.fa_tree.specs.Rules.{with_file};
 ghost use Rattle.fa_tree.specs.Contents.{resized, written};
 ghost use Rattle.fa_tree.specs.Making.{emptied};
 ghost use Rattle.fa_tree.specs.parts.FileParts.{file_shown, with_bits, with_bytes};
+ghost use Rattle.fa_tree.specs.parts.SameParts.{IsWithin};
 
 use crate::contents::Contents;
 use crate::file::File;
@@ -65,6 +66,31 @@ impl Files {
         ensures { result ≡ map.len self.now }
     {
         self.by_id.len()
+    }
+
+    /// Whether both are the same files, in whichever order they came. Takes no memory. Expected time in the files and in the pages
+    /// that store their bytes.
+    pub fn is_same(&self, other: &Files) -> bool
+        ensures { IsTrue result → self.now ≡ other.now }
+    {
+        self.is_within(other) && other.is_within(self)
+    }
+
+    /// Whether each file is the same in others. Takes no memory. Expected time in the files and in the pages that store their bytes.
+    fn is_within(&self, other: &Files) -> bool
+        ensures { IsTrue result → IsWithin self.now other.now }
+    {
+        self.by_id.iter().all(|(id, file)| other.has(*id, file))
+    }
+
+    /// Whether this file is the one that is known by this. Takes no memory. Expected time in the pages that store its bytes.
+    fn has(&self, id: FileId, file: &File) -> bool
+        ensures { IsTrue result → map.get self.now id ≡ Some (file_shown file.now) }
+    {
+        match self.get(id) {
+            Some(own) => own.is_same(file),
+            None => false,
+        }
     }
 
     /// The file that is known by this, if there is one.

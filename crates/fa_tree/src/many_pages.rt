@@ -51,6 +51,20 @@ impl ManyPages {
         })
     }
 
+    /// Those near the beginning, one after the other.
+    pub fn near(&self) -> &[Page]
+        ensures { result.now ≡ self.now.near }
+    {
+        self.near.as_slice()
+    }
+
+    /// Those far from the beginning that are there.
+    pub fn far(&self) -> &FarPages
+        ensures { result.now ≡ self.now.far }
+    {
+        &self.far
+    }
+
     /// Exchanges the first page with another.
     pub fn swap_first(&mut self, page: &mut Page)
         requires { 0 < length self.old.near }

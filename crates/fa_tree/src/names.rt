@@ -91,6 +91,19 @@ impl Names {
         }
     }
 
+    /// Whether both have the same names, for the same files, and the same open directories, in whichever order they came.
+    ///
+    /// Takes no memory. Expected time in the places that ever had a name and the bytes of their names, and for each request that
+    /// opened a directory in the places that this ever had.
+    pub fn is_same(&self, other: &Names) -> bool
+        ensures { IsTrue result → self.now ≡ other.now }
+    {
+        self.slots.is_same(&other.slots)
+            && self
+                .openings
+                .is_same(&self.slots, &other.openings, &other.slots)
+    }
+
     /// Whether a directory has no name.
     ///
     /// Takes no memory, in expected constant time.

@@ -6,6 +6,7 @@ ghost use Rattle.std.specs.FinMap as map;
 ghost use Rattle.indexmap.specs.IndexMap.{spare};
 ghost use Rattle.fa_tree.specs.Bindings.{AreBound, nodes_after};
 ghost use Rattle.fa_tree.specs.parts.NodeParts.{nodes_shown};
+ghost use Rattle.fa_tree.specs.parts.SameParts.{IsWithin};
 
 use crate::id::FileId;
 use fa_ledger::NodeName;
@@ -35,6 +36,36 @@ impl Nodes {
         Ok(Nodes {
             files: self.files.clone()?,
         })
+    }
+
+    /// Whether in both the same names stand for the same files, in whichever order they came.
+    ///
+    /// Takes no memory, and expected time in the names.
+    pub fn is_same(&self, other: &Nodes) -> bool
+        ensures { IsTrue result → nodes_shown self.now ≡ nodes_shown other.now }
+    {
+        self.is_within(other) && other.is_within(self)
+    }
+
+    /// Whether each name stands for the same file in others.
+    ///
+    /// Takes no memory, and expected time in the names.
+    fn is_within(&self, other: &Nodes) -> bool
+        ensures { IsTrue result → IsWithin (nodes_shown self.now) (nodes_shown other.now) }
+    {
+        self.files
+            .iter()
+            .all(|(name, file)| other.stands_for(name, *file))
+    }
+
+    /// Whether the name stands for this file.
+    fn stands_for(&self, name: &NodeName, file: FileId) -> bool
+        ensures { IsTrue result → map.get (nodes_shown self.now) name.now ≡ Some file }
+    {
+        match self.get(name) {
+            Some(other) => other == file,
+            None => false,
+        }
     }
 
     /// The file that the name stands for, if it stands for one.

@@ -11,6 +11,7 @@ ghost use Rattle.std.specs.FinSet.{contains};
 ghost use Rattle.std.specs.Option.{option_map};
 ghost use Rattle.fa_tree.specs.parts.NameViews.{has_stayed, was_since, handles_shown};
 ghost use Rattle.fa_tree.specs.parts.OpenParts.{open_of};
+ghost use Rattle.fa_tree.specs.parts.SameParts.{IsWithin, IsKnownIn, IsKnownAt};
 
 use crate::id::FileId;
 use crate::slots::{Slot, Slots};
@@ -78,6 +79,39 @@ impl Openings {
         })
     }
 
+    /// Whether the same directories are open by the same requests, each with its slots of names: the same was in each since, and
+    /// the same files stayed.
+    ///
+    /// Takes no memory, and expected time in the requests, the places that each one's directory ever had, and the bytes of their
+    /// names.
+    pub fn is_same(&self, slots: &Slots, other: &Openings, other_slots: &Slots) -> bool
+        ensures { IsTrue result → handles_shown slots.now.table.entries 0 map.empty self.now ≡ handles_shown other_slots.now.table.entries 0 map.empty other.now }
+    {
+        self.is_within(slots, other, other_slots) && other.is_within(other_slots, self, slots)
+    }
+
+    /// Whether each directory that is open by a request is open by it in others too, and the same was in it and stayed. Takes no
+    /// memory, and time as [`is_same`](Openings::is_same) does.
+    fn is_within(&self, slots: &Slots, other: &Openings, other_slots: &Slots) -> bool
+        ensures { IsTrue result → IsWithin (handles_shown slots.now.table.entries 0 map.empty self.now) (handles_shown other_slots.now.table.entries 0 map.empty other.now) }
+    {
+        self.places
+            .keys()
+            .all(|asked| self.is_same_at(*asked, slots, other, other_slots))
+    }
+
+    /// Whether the request of this number opened a directory in both, and the same was in it since and stayed.
+    ///
+    /// Takes no memory, and expected time in the places that the directory ever had and the bytes of their names.
+    fn is_same_at(&self, asked: u32, slots: &Slots, other: &Openings, other_slots: &Slots) -> bool
+        ensures { IsTrue result → get (handles_shown slots.now.table.entries 0 map.empty self.now) asked ≡ get (handles_shown other_slots.now.table.entries 0 map.empty other.now) asked }
+    {
+        match (self.last(asked, slots), other.last(asked, other_slots)) {
+            (Some(names), Some(others)) => names.is_same(&others),
+            _ => false,
+        }
+    }
+
     /// How many there are.
     pub fn len(&self) -> usize
         ensures { result ≡ length self.now }
@@ -131,6 +165,45 @@ impl OpenNames<'_> {
     /// Takes no memory, in constant time.
     pub fn places(&self) -> usize {
         self.slots.len()
+    }
+
+    /// Whether both are the same directory, the same names were in it since it was opened, and the same files stayed.
+    ///
+    /// Takes no memory, and expected time in the places that the directory ever had and the bytes of their names.
+    fn is_same(&self, other: &OpenNames<'_>) -> bool
+        ensures { IsTrue result → open_of self.now ≡ open_of other.now }
+    {
+        self.directory == other.directory && self.is_within(other) && other.is_within(self)
+    }
+
+    /// Whether each name that was in the directory since it was opened was in the other, and the same file stayed under it.
+    ///
+    /// Takes no memory, and expected time in the places that the directory ever had and the bytes of their names.
+    fn is_within(&self, other: &OpenNames<'_>) -> bool
+        ensures { IsTrue result → IsKnownIn (open_of self.now) (open_of other.now) }
+    {
+        self.slots
+            .members
+            .of(self.directory)
+            .iter()
+            .all(|index| self.is_known_at(*index, other))
+    }
+
+    /// Whether the name of a place of the table was in the other directory, and the same file stayed under it, if it was in this
+    /// one since it was opened.
+    ///
+    /// Takes no memory, in expected constant time but for reading the name.
+    fn is_known_at(&self, index: usize, other: &OpenNames<'_>) -> bool
+        ensures { IsTrue result → IsKnownAt self.now.directory self.now.at self.now.slots.now.table.entries index (open_of other.now) }
+    {
+        match self.slots.table.get_index(index) {
+            Some((place, slot)) => {
+                place.directory != self.directory
+                    || !self.was_there(*slot)
+                    || other.since(place.name.as_slice()) == (true, self.file_stayed(*slot))
+            }
+            None => true,
+        }
     }
 
     /// Whether a name was in the directory at some moment since it was opened, and the file that stayed in it under that name

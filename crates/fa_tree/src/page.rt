@@ -56,6 +56,13 @@ impl Page {
         })
     }
 
+    /// The bytes that are stored. Constant time.
+    pub fn as_slice(&self) -> &[u8]
+        ensures { result.now ≡ self.now }
+    {
+        self.bytes.as_slice()
+    }
+
     /// Stores so many bytes at least, where those that were not stored are zeros still. An error says that memory was refused, and
     /// nothing is changed. Time in the bytes that were not stored, but where the page has to move.
     pub fn store(&mut self, size: usize) -> Result<(), AllocError>

@@ -1,11 +1,12 @@
 //! The pages that the bytes of a file are in.
 
 ghost use Rattle.std.specs.Prelude.{◌≡◌, ◌↔◌, ◌+◌, ◌<◌, ◌≤◌, ℕ, [], ◌∷◌, get_or, length, take, IfOk, IsTrue, OnErr, OnOk};
-ghost use Rattle.fa_tree.specs.parts.PageParts.{page_of, only_page, with_part, IsPart, IsSet, IsGrown, SameBytes, IsZeroNear};
+ghost use Rattle.fa_tree.specs.parts.PageParts.{page_of, far_page, only_page, with_part, IsPart, IsSet, IsGrown, SameBytes, IsZeroNear};
 
 use crate::many_pages::ManyPages;
 use crate::page::{Page, are_zeros};
 use std::alloc::{AllocError, Global};
+use std::collections::BTreeMap;
 use std::marker::Model;
 
 /// One page by itself, which takes no memory for a list, or more of them.
@@ -61,6 +62,27 @@ impl Pages {
             PageList::Many(pages) => PageList::Many(Box::new(alloc, pages.copy()?)?),
         };
         Ok(Pages { list })
+    }
+
+    /// Whether the bytes are the same, whichever are stored. Takes no memory, and time in the bytes that are stored, for each far
+    /// page in the logarithm of those that are there.
+    pub fn is_same(&self, other: &Pages) -> bool
+        ensures { IsTrue result → SameBytes (page_of self.now) (page_of other.now) }
+    {
+        self.is_within(other) && other.is_within(self)
+    }
+
+    /// Whether the bytes that each page stores are those of the other pages at its place. Takes no memory, and time in them, for
+    /// each far page in the logarithm of those that are there.
+    fn is_within(&self, other: &Pages) -> bool
+        ensures { IsTrue result → (place : ℕ) → IsPart (page_of other.now place) 0 (page_of self.now place) }
+    {
+        match &self.list {
+            PageList::One(page) => other.has(0, 0, page.as_slice()),
+            PageList::Many(pages) => {
+                is_near_within(pages.near(), other) && is_far_within(pages.far().by_place(), other)
+            }
+        }
     }
 
     /// How many near the beginning there are.
@@ -190,6 +212,24 @@ impl Pages {
             }
         }
     }
+}
+
+/// Whether the bytes that each page near the beginning stores are those of the pages at its place. Takes no memory, and time in them.
+fn is_near_within(near: &[Page], pages: &Pages) -> bool
+    ensures { IsTrue result → (place : ℕ) → IsPart (page_of pages.now place) 0 (get_or near.now place []) }
+{
+    near.iter()
+        .enumerate()
+        .all(|(place, page)| pages.has(place, 0, page.as_slice()))
+}
+
+/// Whether the bytes that each far page stores are those of the pages at its place. Takes no memory, and time in them, for each of
+/// them in the logarithm of the far pages that are there.
+fn is_far_within(far: &BTreeMap<usize, Page>, pages: &Pages) -> bool
+    ensures { IsTrue result → (place : ℕ) → IsPart (page_of pages.now place) 0 (far_page far.now.entries place) }
+{
+    far.iter()
+        .all(|(place, page)| pages.has(*place, 0, page.as_slice()))
 }
 
 /// More pages, of which a page that is moved there is the first and the only one, with room for so many near the beginning. Where

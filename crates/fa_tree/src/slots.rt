@@ -6,8 +6,9 @@ ghost use Rattle.fa_tree.specs.declared.slots.Slot.TheVariants.{There};
 ghost use Rattle.std.specs.FinMap as map;
 ghost use Rattle.std.specs.Map.{keys_of};
 ghost use Rattle.std.specs.Option.{option_map};
-ghost use Rattle.fa_tree.specs.parts.SlotParts.{slot_at, gone_at, file_in, names_shown, IsChangedAt, HaveSameSlots, AreAllThere};
+ghost use Rattle.fa_tree.specs.parts.SlotParts.{place_of, slot_at, gone_at, file_in, names_shown, IsChangedAt, HaveSameSlots, AreAllThere};
 ghost use Rattle.fa_tree.specs.parts.MemberParts.{AreMembers};
+ghost use Rattle.fa_tree.specs.parts.SameParts.{IsWithin};
 
 use crate::id::FileId;
 use crate::members::Members;
@@ -142,6 +143,44 @@ impl Slots {
         ensures { result ≡ slot_at self.now.table.entries (directory, name.now) }
     {
         self.table.get(&PlaceAt { directory, name }).copied()
+    }
+
+    /// Whether both have the same names, for the same files, whatever was at their places before. Takes no memory, and expected
+    /// time in the places and the bytes of their names.
+    pub fn is_same(&self, other: &Slots) -> bool
+        ensures { IsTrue result → names_shown self.now.table.entries ≡ names_shown other.now.table.entries }
+    {
+        self.is_within(other) && other.is_within(self)
+    }
+
+    /// Whether each name that there is is for the same file in others. Takes no memory, and expected time in the places and the
+    /// bytes of their names.
+    fn is_within(&self, other: &Slots) -> bool
+        ensures { IsTrue result → IsWithin (names_shown self.now.table.entries) (names_shown other.now.table.entries) }
+    {
+        self.table
+            .iter()
+            .all(|(place, slot)| other.has_name_of(place, *slot))
+    }
+
+    /// Whether a place has a name for the file that this slot says, if it says one. Takes no memory, in expected constant time but
+    /// for reading the name.
+    fn has_name_of(&self, place: &Place, slot: Slot) -> bool
+        ensures { IsTrue result → (file : FileId) → file_in slot ≡ Some file → map.get (names_shown self.now.table.entries) (place_of place.now) ≡ Some file }
+    {
+        match slot {
+            Slot::There { file, .. } => {
+                self.file_at(place.directory, place.name.as_slice()) == Some(file)
+            }
+            Slot::Gone { .. } => true,
+        }
+    }
+
+    /// The file of the name at a place, if there is one. Takes no memory, in expected constant time but for reading the name.
+    fn file_at(&self, directory: FileId, name: &[u8]) -> Option<FileId>
+        ensures { result ≡ map.get (names_shown self.now.table.entries) (directory, name.now) }
+    {
+        self.get(directory, name)?.file()
     }
 
     /// How many there are.

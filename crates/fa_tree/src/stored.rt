@@ -1,6 +1,6 @@
 //! What a tree stores: files, the names of directories, the parents of these, and the directories that are open.
 
-ghost use Rattle.std.specs.Prelude.{◌≡◌, None, IfOk, OnOk, OnErr};
+ghost use Rattle.std.specs.Prelude.{◌≡◌, None, IsTrue, IfOk, OnOk, OnErr};
 ghost use Rattle.std.specs.FinMap as map;
 ghost use Rattle.std.specs.Option.{option_map};
 ghost use Rattle.fa_tree.specs.State as state;
@@ -71,6 +71,13 @@ impl Stored {
             names,
             parents,
         })
+    }
+
+    /// Whether both show the same. Takes no memory. Expected time in all of both.
+    pub fn is_same(&self, other: &Stored) -> bool
+        ensures { IsTrue result → self.now ≡ other.now }
+    {
+        self.names.is_same(&other.names) && self.files.is_same(&other.files)
     }
 
     /// The root.

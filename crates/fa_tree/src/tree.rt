@@ -69,6 +69,18 @@ impl Tree {
         Ok(Tree { stored, nodes })
     }
 
+    /// Whether both are the same tree: the same files, known by the same, the same names for them, the same nodes, and the same
+    /// directories open by the same requests, of which the same names were in each since it was opened, and the same files
+    /// stayed. In which order all this came makes no difference: trees that the same requests made in two orders may be the same.
+    ///
+    /// Takes no memory. Expected time in the size of both, as [`copy`](Tree::copy) has it, and for each request that opened a
+    /// directory in the names that this ever had.
+    pub fn is_same(&self, other: &Tree) -> bool
+        ensures { IsTrue result → self.now ≡ other.now }
+    {
+        self.nodes.is_same(&other.nodes) && self.stored.is_same(&other.stored)
+    }
+
     /// The root.
     pub fn root(&self) -> FileId
         ensures { result ≡ state.root }
