@@ -4,6 +4,7 @@ ghost use Rattle.std.specs.Prelude.{◌≡◌, ◌↔◌, ◌+◌, ◌^◌, ◌<
 ghost use Rattle.fa_tree.specs.Contents.{IsReadAs, readable, resized, written};
 ghost use Rattle.fa_tree.specs.parts.PageParts.{page_of, IsZeroFrom, SameBytes, IsStored, AreNear, AreFrom, AreWritten, AreCut};
 
+use crate::digest::digest_of;
 use crate::many_pages::NEAR;
 use crate::page::PAGE;
 use crate::pages::Pages;
@@ -78,6 +79,16 @@ impl Contents {
         ensures { IsTrue result → self.now ≡ other.now }
     {
         self.len == other.len && self.pages.is_same(&other.pages)
+    }
+
+    /// A number for the bytes, the same for the same ones. Takes no memory, and time in the pages that store them.
+    pub fn digest(&self) -> u64 {
+        digest_of(&(self.len, self.pages.digest()))
+    }
+
+    /// About so many bytes of memory are taken. Time in the pages that are there.
+    pub fn weight(&self) -> u64 {
+        self.pages.weight()
     }
 
     /// How many there are.

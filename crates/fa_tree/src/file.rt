@@ -7,6 +7,7 @@ ghost use Rattle.fa_tree.specs.Building.{file_of_kind};
 ghost use Rattle.fa_tree.specs.parts.FileParts.{file_shown};
 
 use crate::contents::Contents;
+use crate::digest::digest_of;
 use fa_bodies::{Kind, Mode};
 use std::alloc::AllocError;
 
@@ -48,6 +49,17 @@ impl File {
         ensures { IsTrue result → file_shown self.now ≡ file_shown other.now }
     {
         self.kind == other.kind && self.bits == other.bits && self.contents.is_same(&other.contents)
+    }
+
+    /// A number for the file, the same for the same ones: it looks at the permission bits and the bytes. Takes no memory, and time in
+    /// the pages that store the bytes.
+    pub fn digest(&self) -> u64 {
+        digest_of(&(self.bits, self.contents.digest()))
+    }
+
+    /// About so many bytes of memory are taken. Time in the pages that are there.
+    pub fn weight(&self) -> u64 {
+        self.contents.weight()
     }
 
     /// A file of this type, with these permission bits, but all where it is a symbolic link.

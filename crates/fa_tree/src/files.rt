@@ -11,12 +11,16 @@ ghost use Rattle.fa_tree.specs.parts.FileParts.{file_shown, with_bits, with_byte
 ghost use Rattle.fa_tree.specs.parts.SameParts.{IsWithin};
 
 use crate::contents::Contents;
+use crate::digest::digest_of;
 use crate::file::File;
 use crate::id::FileId;
 use fa_bodies::Kind;
 use indexmap::IndexMap;
 use std::alloc::{AllocError, Global};
 use std::marker::Model;
+
+/// An entry of the table takes about so many bytes, beside the pages.
+const FILE_WEIGHT: u64 = 64;
 
 /// The files of a tree. Each stays, whatever names it has.
 #[derive(Drop)]
@@ -91,6 +95,22 @@ impl Files {
             Some(own) => own.is_same(file),
             None => false,
         }
+    }
+
+    /// A number for the files, the same for the same ones, in whichever order they came. Takes no memory, and time in the files and in
+    /// the pages that store their bytes.
+    pub fn digest(&self) -> u64 {
+        self.by_id.iter().fold(0_u64, |sum, (id, file)| {
+            sum.wrapping_add(digest_of(&(*id, file.digest())))
+        })
+    }
+
+    /// About so many bytes of memory are taken. Time in the files and the pages that are there.
+    pub fn weight(&self) -> u64 {
+        self.by_id.values().fold(0_u64, |sum, file| {
+            sum.saturating_add(FILE_WEIGHT)
+                .saturating_add(file.weight())
+        })
     }
 
     /// The file that is known by this, if there is one.

@@ -23,6 +23,12 @@ pub(crate) struct Holder {
     pub inside: usize,
 }
 
+/// An entry of the list takes about so many bytes.
+const LISTED_WEIGHT: u64 = 16;
+
+/// An entry of the table takes about so many bytes.
+const TABLED_WEIGHT: u64 = 64;
+
 /// What is counted of a file that never had a name, nor one in it.
 const NOTHING: Holder = Holder {
     links: 0,
@@ -81,6 +87,13 @@ impl Holders {
             list: self.list.clone()?,
             table: self.table.clone()?,
         })
+    }
+
+    /// About so many bytes of memory are taken. Constant time.
+    pub fn weight(&self) -> u64 {
+        let listed = (self.list.len() as u64).saturating_mul(LISTED_WEIGHT);
+        let tabled = (self.table.len() as u64).saturating_mul(TABLED_WEIGHT);
+        listed.saturating_add(tabled)
     }
 
     /// What is counted of a file.

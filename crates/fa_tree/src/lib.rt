@@ -5,6 +5,7 @@ mod causes;
 mod changes;
 mod conditions;
 mod contents;
+mod digest;
 mod entries;
 mod error;
 mod facts;

@@ -10,6 +10,7 @@ ghost use Rattle.fa_tree.specs.Renaming.{moved, exchanged};
 ghost use Rattle.fa_tree.specs.parts.NameParts.{NamesShown, no_names, edited, opened_by};
 ghost use Rattle.fa_tree.specs.parts.OpenParts.{open_of};
 
+use crate::digest::digest_of;
 use crate::holders::Holders;
 use crate::id::FileId;
 use crate::open::{OpenNames, Opening, Openings};
@@ -102,6 +103,21 @@ impl Names {
             && self
                 .openings
                 .is_same(&self.slots, &other.openings, &other.slots)
+    }
+
+    /// A number for the names and the requests that opened directories, the same for the same ones, in whichever order they came.
+    ///
+    /// Takes no memory, and time in the places that ever had a name, the bytes of their names, and the openings.
+    pub fn digest(&self) -> u64 {
+        digest_of(&(self.slots.digest(), self.openings.digest()))
+    }
+
+    /// About so many bytes of memory are taken. Time in the places.
+    pub fn weight(&self) -> u64 {
+        self.slots
+            .weight()
+            .saturating_add(self.openings.weight())
+            .saturating_add(self.holders.weight())
     }
 
     /// Whether a directory has no name.

@@ -8,10 +8,14 @@ ghost use Rattle.fa_tree.specs.Bindings.{AreBound, nodes_after};
 ghost use Rattle.fa_tree.specs.parts.NodeParts.{nodes_shown};
 ghost use Rattle.fa_tree.specs.parts.SameParts.{IsWithin};
 
+use crate::digest::digest_of;
 use crate::id::FileId;
 use fa_ledger::NodeName;
 use indexmap::IndexMap;
 use std::alloc::{AllocError, Global};
+
+/// An entry of the table takes about so many bytes.
+const NODE_WEIGHT: u64 = 64;
 
 /// The files that names of nodes stand for.
 #[derive(Drop)]
@@ -66,6 +70,19 @@ impl Nodes {
             Some(other) => other == file,
             None => false,
         }
+    }
+
+    /// A number for the names and their files, the same for the same ones, in whichever order they came. Takes no memory, and time in
+    /// the names.
+    pub fn digest(&self) -> u64 {
+        self.files.iter().fold(0_u64, |sum, (name, file)| {
+            sum.wrapping_add(digest_of(&(*name, *file)))
+        })
+    }
+
+    /// About so many bytes of memory are taken. Constant time.
+    pub fn weight(&self) -> u64 {
+        (self.files.len() as u64).saturating_mul(NODE_WEIGHT)
     }
 
     /// The file that the name stands for, if it stands for one.

@@ -13,11 +13,15 @@ ghost use Rattle.fa_tree.specs.parts.NameViews.{has_stayed, was_since, handles_s
 ghost use Rattle.fa_tree.specs.parts.OpenParts.{open_of};
 ghost use Rattle.fa_tree.specs.parts.SameParts.{IsWithin, IsKnownIn, IsKnownAt};
 
+use crate::digest::digest_of;
 use crate::id::FileId;
 use crate::slots::{Slot, Slots};
 use indexmap::IndexMap;
 use std::alloc::{AllocError, Global};
 use std::marker::Model;
+
+/// An opening takes about so many bytes, with its place in the list.
+const OPENING_WEIGHT: u64 = 64;
 
 /// The opening of a directory, by the request of this number.
 #[derive(Clone, Copy)]
@@ -112,6 +116,19 @@ impl Openings {
         }
     }
 
+    /// A number for the requests that opened directories, the same for the same ones, in whichever order. Takes no memory, and time
+    /// in the requests.
+    pub fn digest(&self) -> u64 {
+        self.places
+            .keys()
+            .fold(0_u64, |sum, asked| sum.wrapping_add(digest_of(asked)))
+    }
+
+    /// About so many bytes of memory are taken. Constant time.
+    pub fn weight(&self) -> u64 {
+        (self.list.len() as u64).saturating_mul(OPENING_WEIGHT)
+    }
+
     /// How many there are.
     pub fn len(&self) -> usize
         ensures { result ≡ length self.now }
@@ -182,11 +199,8 @@ impl OpenNames<'_> {
     fn is_within(&self, other: &OpenNames<'_>) -> bool
         ensures { IsTrue result → IsKnownIn (open_of self.now) (open_of other.now) }
     {
-        self.slots
-            .members
-            .of(self.directory)
-            .iter()
-            .all(|index| self.is_known_at(*index, other))
+        let indexes = self.slots.members.of(self.directory);
+        indexes.iter().all(|index| self.is_known_at(*index, other))
     }
 
     /// Whether the name of a place of the table was in the other directory, and the same file stayed under it, if it was in this

@@ -3,11 +3,15 @@
 ghost use Rattle.std.specs.Prelude.{◌≡◌, ◌↔◌, ◌+◌, ◌<◌, ◌≤◌, ℕ, List, [], get_or, length, take, IsTrue, IfOk, OnOk, OnErr};
 ghost use Rattle.fa_tree.specs.parts.PageParts.{IsPart, with_part};
 
+use crate::digest::digest_of;
 use std::alloc::{AllocError, Global};
 use std::marker::Model;
 
 /// A page has so many bytes.
 pub(crate) const PAGE: usize = 4096;
+
+/// A page takes about so many bytes beside those that it stores.
+const PAGE_WEIGHT: u64 = 32;
 
 /// The bytes of a page that are stored. Those behind them are zeros.
 #[derive(Drop)]
@@ -63,6 +67,21 @@ impl Page {
         self.bytes.as_slice()
     }
 
+    /// A number for the page at this place of a file, the same for the same bytes, whichever zeros at the end are stored; 0 for zeros
+    /// alone. Takes no memory, and time in the bytes that are stored.
+    pub fn digest(&self, place: usize) -> u64 {
+        let bytes = without_last_zeros(&self.bytes);
+        if bytes.is_empty() {
+            return 0;
+        }
+        digest_of(&(place, bytes))
+    }
+
+    /// About so many bytes of memory are taken. Constant time.
+    pub fn weight(&self) -> u64 {
+        PAGE_WEIGHT.saturating_add(self.bytes.len() as u64)
+    }
+
     /// Stores so many bytes at least, where those that were not stored are zeros still. An error says that memory was refused, and
     /// nothing is changed. Time in the bytes that were not stored, but where the page has to move.
     pub fn store(&mut self, size: usize) -> Result<(), AllocError>
@@ -116,6 +135,14 @@ impl Page {
         let rest = &bytes[bytes.len().min(at)..];
         let stored = rest.len().min(part.len());
         part[..stored] == rest[..stored] && are_zeros(&part[stored..])
+    }
+}
+
+/// The bytes up to the last that is not zero. Takes no memory, and time in the zeros behind it.
+fn without_last_zeros(bytes: &[u8]) -> &[u8] {
+    match bytes.iter().rposition(|byte| *byte != 0) {
+        Some(last) => &bytes[..=last],
+        None => &[],
     }
 }
 

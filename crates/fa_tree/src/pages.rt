@@ -85,6 +85,41 @@ impl Pages {
         }
     }
 
+    /// A number for the bytes, the same for the same ones, whichever are stored. Takes no memory, and time in those that are.
+    pub fn digest(&self) -> u64 {
+        match &self.list {
+            PageList::One(page) => page.digest(0),
+            PageList::Many(pages) => {
+                let near = pages.near().iter().enumerate().fold(
+                    0_u64,
+                    |sum, (place, page)| sum.wrapping_add(page.digest(place)),
+                );
+                pages.far().by_place().iter().fold(
+                    near,
+                    |sum, (place, page)| sum.wrapping_add(page.digest(*place)),
+                )
+            }
+        }
+    }
+
+    /// About so many bytes of memory are taken. Time in the pages that are there.
+    pub fn weight(&self) -> u64 {
+        match &self.list {
+            PageList::One(page) => page.weight(),
+            PageList::Many(pages) => {
+                let near = pages
+                    .near()
+                    .iter()
+                    .fold(0_u64, |sum, page| sum.saturating_add(page.weight()));
+                pages
+                    .far()
+                    .by_place()
+                    .values()
+                    .fold(near, |sum, page| sum.saturating_add(page.weight()))
+            }
+        }
+    }
+
     /// How many near the beginning there are.
     pub fn near_len(&self) -> usize
         ensures { result ≡ length self.now.near }

@@ -12,6 +12,9 @@ use fa_bodies::Kind;
 use indexmap::IndexMap;
 use std::alloc::{AllocError, Global};
 
+/// An entry of the table takes about so many bytes.
+const PARENT_WEIGHT: u64 = 64;
+
 /// For each directory that has a name the directory that the name is in. No other file has an entry.
 #[derive(Drop)]
 pub(crate) struct Parents {
@@ -37,6 +40,11 @@ impl Parents {
         Ok(Parents {
             table: self.table.clone()?,
         })
+    }
+
+    /// About so many bytes of memory are taken. Constant time.
+    pub fn weight(&self) -> u64 {
+        (self.table.len() as u64).saturating_mul(PARENT_WEIGHT)
     }
 
     /// The directory that is noted for a file, if one is.

@@ -10,12 +10,16 @@ ghost use Rattle.fa_tree.specs.parts.SlotParts.{place_of, slot_at, gone_at, file
 ghost use Rattle.fa_tree.specs.parts.MemberParts.{AreMembers};
 ghost use Rattle.fa_tree.specs.parts.SameParts.{IsWithin};
 
+use crate::digest::digest_of;
 use crate::id::FileId;
 use crate::members::Members;
 use crate::name_hash::feed_name;
 use indexmap::{Equivalent, IndexMap};
 use std::alloc::{AllocError, Global};
 use std::hash::{Hash, Hasher};
+
+/// A place takes about so many bytes, with its slot and its index among those of its directory, beside those of its name.
+const PLACE_WEIGHT: u64 = 112;
 
 /// A place: a directory, and a name in it.
 #[derive(Drop, PartialEq, Eq)]
@@ -181,6 +185,25 @@ impl Slots {
         ensures { result ≡ map.get (names_shown self.now.table.entries) (directory, name.now) }
     {
         self.get(directory, name)?.file()
+    }
+
+    /// A number for the names and their files, the same for the same ones, whatever was at their places before. Takes no memory, and
+    /// time in the places and the bytes of their names.
+    pub fn digest(&self) -> u64 {
+        self.table
+            .iter()
+            .fold(0_u64, |sum, (place, slot)| match slot.file() {
+                Some(file) => sum.wrapping_add(digest_of(&(place, file))),
+                None => sum,
+            })
+    }
+
+    /// About so many bytes of memory are taken, those of the members among them. Time in the places.
+    pub fn weight(&self) -> u64 {
+        self.table.keys().fold(0_u64, |sum, place| {
+            sum.saturating_add(PLACE_WEIGHT)
+                .saturating_add(place.name.len() as u64)
+        })
     }
 
     /// How many there are.

@@ -11,6 +11,7 @@ ghost use Rattle.fa_tree.specs.parts.FileParts.{file_shown};
 ghost use Rattle.fa_tree.specs.parts.OpenParts.{open_of};
 ghost use Rattle.fa_tree.specs.parts.StoredParts.{as_tree, stored_of, stored_made, IsMadeOrNext};
 
+use crate::digest::digest_of;
 use crate::file::File;
 use crate::files::Files;
 use crate::id::FileId;
@@ -78,6 +79,19 @@ impl Stored {
         ensures { IsTrue result → self.now ≡ other.now }
     {
         self.names.is_same(&other.names) && self.files.is_same(&other.files)
+    }
+
+    /// A number for what it shows, the same for the same. Takes no memory, and time in all of it.
+    pub fn digest(&self) -> u64 {
+        digest_of(&(self.names.digest(), self.files.digest()))
+    }
+
+    /// About so many bytes of memory are taken. Time in the names, the files and the pages that are there.
+    pub fn weight(&self) -> u64 {
+        self.names
+            .weight()
+            .saturating_add(self.files.weight())
+            .saturating_add(self.parents.weight())
     }
 
     /// The root.

@@ -9,6 +9,7 @@ ghost use Rattle.fa_tree.specs.Building.{empty_tree, file_of_kind, MayHold, MayB
 ghost use Rattle.fa_tree.specs.Refusals.{IsRefusal};
 
 use crate::contents::Contents;
+use crate::digest::digest_of;
 use crate::error::StepError;
 use crate::file::File;
 use crate::id::FileId;
@@ -71,7 +72,8 @@ impl Tree {
 
     /// Whether both are the same tree: the same files, known by the same, the same names for them, the same nodes, and the same
     /// directories open by the same requests, of which the same names were in each since it was opened, and the same files
-    /// stayed. In which order all this came makes no difference: trees that the same requests made in two orders may be the same.
+    /// stayed. In which order all this came makes no difference, so trees that the same requests made in two orders may be the same.
+    /// It answers so of no others, and of all that are the same.
     ///
     /// Takes no memory. Expected time in the size of both, as [`copy`](Tree::copy) has it, and for each request that opened a
     /// directory in the names that this ever had.
@@ -79,6 +81,23 @@ impl Tree {
         ensures { IsTrue result → self.now ≡ other.now }
     {
         self.nodes.is_same(&other.nodes) && self.stored.is_same(&other.stored)
+    }
+
+    /// A number for the tree, equal for trees that are the same ([`is_same`](Tree::is_same)), in whichever order they came to be.
+    /// Others may have it too: it only sorts trees, so that few are compared. It looks at names, at files with their permission bits
+    /// and bytes, at nodes, and at which requests opened a directory, and not at what was in that.
+    ///
+    /// Takes no memory, and time in the size of the tree, as [`copy`](Tree::copy) has it.
+    pub fn digest(&self) -> u64 {
+        digest_of(&(self.stored.digest(), self.nodes.digest()))
+    }
+
+    /// About how many bytes of memory the tree holds, and a copy of it takes: what its tables and pages store, without what they have
+    /// in reserve.
+    ///
+    /// Takes no memory, and time in its names and files and the pages that store bytes of these.
+    pub fn weight(&self) -> u64 {
+        self.stored.weight().saturating_add(self.nodes.weight())
     }
 
     /// The root.

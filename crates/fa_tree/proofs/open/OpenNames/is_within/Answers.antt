@@ -25,5 +25,5 @@ returns c = λ is.
     (λ i index less.
     (walked c.all.result there indexes _ is
     (cases_from_all _ _ c.all.result there (λ index. Unit {0}) c.all.ensures.ran
-    (YieldsList-from_slice indexes (c.iter.ensures.rest ∙ c.of.ensures))
+    (YieldsList-from_slice indexes (c.iter.ensures.rest ∙ c.of-indexes.ensures))
     (λ x q k. search (rules, tests)) (λ x q k. tt)) i index less).known))
