@@ -10,6 +10,8 @@ mod large;
 #[cfg(test)]
 mod lists;
 #[cfg(test)]
+mod same;
+#[cfg(test)]
 mod steps;
 #[cfg(test)]
 mod trees;
