@@ -34,7 +34,7 @@ use Rattle.fa_tree.specs.parts.SlotParts.{place_of, is_at, slot_at, file_in, nam
 use Rattle.fa_tree.specs.parts.NameViews.{was_since, has_stayed, open_shown, handles_shown}
 use Rattle.fa_tree.specs.parts.OpenParts.{last_opening, AreLast}
 use Rattle.fa_tree.specs.parts.PageParts.{PagesShown, only_page, page_of, far_page, has_far, IsPart}
-use Rattle.fa_tree.specs.parts.SameParts.{IsWithin, IsKnownIn}
+use Rattle.fa_tree.specs.parts.SameParts.{IsMapWithin, IsOpenWithin}
 use Rattle.fa_tree.proofs.FileLemmas.{get_files}
 use Rattle.fa_tree.proofs.NameLemmas.{get-names_shown, get-stayed_shown, contains-since_shown}
 use Rattle.fa_tree.proofs.NodeLemmas.{get_shown, ties, name_same}
@@ -74,7 +74,7 @@ key_among {K} {X} P test (e ∷ es) all x found = by (test e.0) refl found (key_
 
 -- ---- maps
 
-pub within_both : {K X : Type 0} {R : K → K → Ordering} → IsTotalOrder R → IsAntisymmetric R → (m n : FinMap R X) → IsWithin m n → IsWithin n m → m ≡ n
+pub within_both : {K X : Type 0} {R : K → K → Ordering} → IsTotalOrder R → IsAntisymmetric R → (m n : FinMap R X) → IsMapWithin m n → IsMapWithin n m → m ≡ n
 within_both {K} {X} total apart m n there back = same_map total apart m n (λ q. by q (map.get m q) (map.get n q) refl refl)
   where
     by : (q : K) (x y : Option X) → map.get m q ≡ x → map.get n q ≡ y → map.get m q ≡ map.get n q
@@ -85,7 +85,7 @@ within_both {K} {X} total apart m n there back = same_map total apart m n (λ q.
 -- ---- files, nodes and names
 
 pub files_within : (table : List (FileId × declared.File.File)) (others : FinMap file_cmp state.File)
-    → All (λ e. map.get others e.0 ≡ Some (file_shown e.1)) table → IsWithin (files_shown table) others
+    → All (λ e. map.get others e.0 ≡ Some (file_shown e.1)) table → IsMapWithin (files_shown table) others
 files_within table others all key x there = by (lookup (same_id.eq-value.it key) table) refl (sym (get_files table key) ∙ there)
   where
     by : (found : Option declared.File.File) → lookup (same_id.eq-value.it key) table ≡ found → option_map file_shown found ≡ Some x → map.get others key ≡ Some x
@@ -95,13 +95,13 @@ files_within table others all key x there = by (lookup (same_id.eq-value.it key)
         ap (map.get others) (same_equal key at.0 at.1) ∙ at.2 ∙ is
 
 pub nodes_within : (table : List (NodeName × FileId)) (others : FinMap node_cmp FileId)
-    → All (λ e. map.get others e.0 ≡ Some e.1) table → IsWithin (map.from_entries {R = node_cmp} table) others
+    → All (λ e. map.get others e.0 ≡ Some e.1) table → IsMapWithin (map.from_entries {R = node_cmp} table) others
 nodes_within table others all key x there =
     let at = found_among (λ e. map.get others e.0 ≡ Some e.1) (same_name.eq-value.it key) table all x (sym (get_shown table key) ∙ there) in
     ap (map.get others) (name_same key at.0 (ties key at.0 ∙ at.1)) ∙ at.2
 
 pub names_within : (slots : List (Place × Slot)) (others : FinMap place_cmp FileId)
-    → All (λ e. (file : FileId) → file_in e.1 ≡ Some file → map.get others (place_of e.0) ≡ Some file) slots → IsWithin (names_shown slots) others
+    → All (λ e. (file : FileId) → file_in e.1 ≡ Some file → map.get others (place_of e.0) ≡ Some file) slots → IsMapWithin (names_shown slots) others
 names_within slots others all place file there = by (slot_at slots place) refl (sym (get-names_shown slots place) ∙ there)
   where
     by : (found : Option Slot) → slot_at slots place ≡ found → option_and_then file_in found ≡ Some file → map.get others place ≡ Some file
@@ -129,7 +129,7 @@ both false false there back = refl
 
 -- two open directories, each known in the other
 pub open_same : (slots others : List (Place × Slot)) (directory other : FileId) (at from : ℕ) → directory ≡ other
-    → IsKnownIn (open_shown slots directory at) (open_shown others other from) → IsKnownIn (open_shown others other from) (open_shown slots directory at)
+    → IsOpenWithin (open_shown slots directory at) (open_shown others other from) → IsOpenWithin (open_shown others other from) (open_shown slots directory at)
     → open_shown slots directory at ≡ open_shown others other from
 open_same slots others directory other at from is there back = λ i. record { directory = is i; since = same_since i; stayed = same_stayed i }
   where
@@ -156,7 +156,7 @@ open_same slots others directory other at from is there back = λ i. record { di
 pub known_in : (slots : List (Place × Slot)) (directory : FileId) (at : ℕ) (k : OpenDirectory)
     → ((name : List ℕ) (slot : Slot) → slot_at slots (directory, name) ≡ Some slot → was_since at slot ≡ true
     → (contains k.since name ≡ true) × (map.get k.stayed name ≡ has_stayed at slot))
-    → IsKnownIn (open_shown slots directory at) k
+    → IsOpenWithin (open_shown slots directory at) k
 known_in slots directory at k known = record {
   since = λ name is. (by name (slot_at slots (directory, name)) refl (sym (contains-since_shown directory at slots name) ∙ is)).0;
   stayed = λ name is.
@@ -172,7 +172,7 @@ known_in slots directory at k known = record {
 -- where the directories that the noted requests opened are the same in others, all are
 pub handles_within : (slots : List (Place × Slot)) (openings : List Opening) (places : List (ℕ × ℕ)) → AreLast places openings
     → (others : FinMap nat_cmp OpenDirectory) → All (λ asked. map.get (handles_shown slots 0 map.empty openings) asked ≡ map.get others asked) (keys_of places)
-    → IsWithin (handles_shown slots 0 map.empty openings) others
+    → IsMapWithin (handles_shown slots 0 map.empty openings) others
 handles_within slots openings places last others all asked h there = by (last_opening asked 0 openings) refl (sym (get-shown_openings slots openings asked) ∙ there)
   where
     by : (found : Option (ℕ × FileId)) → last_opening asked 0 openings ≡ found → option_map (λ p. open_shown slots p.1 p.0) found ≡ Some h → map.get others asked ≡ Some h

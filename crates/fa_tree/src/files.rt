@@ -8,7 +8,7 @@ ghost use Rattle.fa_tree.specs.Rules.{with_file};
 ghost use Rattle.fa_tree.specs.Contents.{resized, written};
 ghost use Rattle.fa_tree.specs.Making.{emptied};
 ghost use Rattle.fa_tree.specs.parts.FileParts.{file_shown, with_bits, with_bytes};
-ghost use Rattle.fa_tree.specs.parts.SameParts.{IsWithin};
+ghost use Rattle.fa_tree.specs.parts.SameParts.{IsMapWithin};
 
 use crate::contents::Contents;
 use crate::digest::digest_of;
@@ -82,7 +82,7 @@ impl Files {
 
     /// Whether each file is the same in others. Takes no memory. Expected time in the files and in the pages that store their bytes.
     fn is_within(&self, other: &Files) -> bool
-        ensures { IsTrue result → IsWithin self.now other.now }
+        ensures { IsTrue result → IsMapWithin self.now other.now }
     {
         self.by_id.iter().all(|(id, file)| other.has(*id, file))
     }

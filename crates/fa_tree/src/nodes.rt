@@ -6,7 +6,7 @@ ghost use Rattle.std.specs.FinMap as map;
 ghost use Rattle.indexmap.specs.IndexMap.{spare};
 ghost use Rattle.fa_tree.specs.Bindings.{AreBound, nodes_after};
 ghost use Rattle.fa_tree.specs.parts.NodeParts.{nodes_shown};
-ghost use Rattle.fa_tree.specs.parts.SameParts.{IsWithin};
+ghost use Rattle.fa_tree.specs.parts.SameParts.{IsMapWithin};
 
 use crate::digest::digest_of;
 use crate::id::FileId;
@@ -55,7 +55,7 @@ impl Nodes {
     ///
     /// Takes no memory, and expected time in the names.
     fn is_within(&self, other: &Nodes) -> bool
-        ensures { IsTrue result → IsWithin (nodes_shown self.now) (nodes_shown other.now) }
+        ensures { IsTrue result → IsMapWithin (nodes_shown self.now) (nodes_shown other.now) }
     {
         self.files
             .iter()

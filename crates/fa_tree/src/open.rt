@@ -11,7 +11,7 @@ ghost use Rattle.std.specs.FinSet.{contains};
 ghost use Rattle.std.specs.Option.{option_map};
 ghost use Rattle.fa_tree.specs.parts.NameViews.{has_stayed, was_since, handles_shown};
 ghost use Rattle.fa_tree.specs.parts.OpenParts.{open_of};
-ghost use Rattle.fa_tree.specs.parts.SameParts.{IsWithin, IsKnownIn, IsKnownAt};
+ghost use Rattle.fa_tree.specs.parts.SameParts.{IsMapWithin, IsOpenWithin, IsSlotWithin};
 
 use crate::digest::digest_of;
 use crate::id::FileId;
@@ -97,7 +97,7 @@ impl Openings {
     /// Whether each directory that is open by a request is open by it in others too, and the same was in it and stayed. Takes no
     /// memory, and time as [`is_same`](Openings::is_same) does.
     fn is_within(&self, slots: &Slots, other: &Openings, other_slots: &Slots) -> bool
-        ensures { IsTrue result → IsWithin (handles_shown slots.now.table.entries 0 map.empty self.now) (handles_shown other_slots.now.table.entries 0 map.empty other.now) }
+        ensures { IsTrue result → IsMapWithin (handles_shown slots.now.table.entries 0 map.empty self.now) (handles_shown other_slots.now.table.entries 0 map.empty other.now) }
     {
         self.places
             .keys()
@@ -197,18 +197,20 @@ impl OpenNames<'_> {
     ///
     /// Takes no memory, and expected time in the places that the directory ever had and the bytes of their names.
     fn is_within(&self, other: &OpenNames<'_>) -> bool
-        ensures { IsTrue result → IsKnownIn (open_of self.now) (open_of other.now) }
+        ensures { IsTrue result → IsOpenWithin (open_of self.now) (open_of other.now) }
     {
         let indexes = self.slots.members.of(self.directory);
-        indexes.iter().all(|index| self.is_known_at(*index, other))
+        indexes
+            .iter()
+            .all(|index| self.is_slot_within(*index, other))
     }
 
     /// Whether the name of a place of the table was in the other directory, and the same file stayed under it, if it was in this
     /// one since it was opened.
     ///
     /// Takes no memory, in expected constant time but for reading the name.
-    fn is_known_at(&self, index: usize, other: &OpenNames<'_>) -> bool
-        ensures { IsTrue result → IsKnownAt self.now.directory self.now.at self.now.slots.now.table.entries index (open_of other.now) }
+    fn is_slot_within(&self, index: usize, other: &OpenNames<'_>) -> bool
+        ensures { IsTrue result → IsSlotWithin self.now.directory self.now.at self.now.slots.now.table.entries index (open_of other.now) }
     {
         match self.slots.table.get_index(index) {
             Some((place, slot)) => {

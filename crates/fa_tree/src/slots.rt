@@ -8,7 +8,7 @@ ghost use Rattle.std.specs.Map.{keys_of};
 ghost use Rattle.std.specs.Option.{option_map};
 ghost use Rattle.fa_tree.specs.parts.SlotParts.{place_of, slot_at, gone_at, file_in, names_shown, IsChangedAt, HaveSameSlots, AreAllThere};
 ghost use Rattle.fa_tree.specs.parts.MemberParts.{AreMembers};
-ghost use Rattle.fa_tree.specs.parts.SameParts.{IsWithin};
+ghost use Rattle.fa_tree.specs.parts.SameParts.{IsMapWithin};
 
 use crate::digest::digest_of;
 use crate::id::FileId;
@@ -160,7 +160,7 @@ impl Slots {
     /// Whether each name that there is is for the same file in others. Takes no memory, and expected time in the places and the
     /// bytes of their names.
     fn is_within(&self, other: &Slots) -> bool
-        ensures { IsTrue result → IsWithin (names_shown self.now.table.entries) (names_shown other.now.table.entries) }
+        ensures { IsTrue result → IsMapWithin (names_shown self.now.table.entries) (names_shown other.now.table.entries) }
     {
         self.table
             .iter()

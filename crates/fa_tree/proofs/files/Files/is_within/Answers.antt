@@ -5,7 +5,7 @@ use Rattle.std.proofs.lemmas.Iterator.Consumers.{YieldsList-from_rest}
 use Rattle.fa_tree.specs.declared.file as declared
 use Rattle.fa_tree.specs.declared.id.FileId.{FileId}
 use Rattle.fa_tree.specs.parts.FileParts.{file_shown}
-use Rattle.fa_tree.specs.parts.SameParts.{IsWithin}
+use Rattle.fa_tree.specs.parts.SameParts.{IsMapWithin}
 use Rattle.fa_tree.proofs.SameLemmas.{walked, files_within}
 use Rattle.fa_tree.proofs.files.Files.is_within.Goals as goal
 
@@ -14,7 +14,7 @@ returns c = λ is.
     let table = c.self.inside.by_id.entries in
     let others = c.args.other.now in
     let there : FileId × declared.File.File → Type 0 = λ e. map.get others e.0 ≡ Some (file_shown e.1) in
-    subst (λ files. IsWithin files others) c.self.view_is
+    subst (λ files. IsMapWithin files others) c.self.view_is
     (files_within table others
     (walked c.all.result there table _ is
     (cases_from_all _ _ c.all.result there (λ e. Unit {0}) c.all.ensures.ran (YieldsList-from_rest table c.iter.ensures.rest)

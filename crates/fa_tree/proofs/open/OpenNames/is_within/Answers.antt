@@ -6,7 +6,7 @@ use Rattle.fa_tree.specs.declared.slots.Slot.{Slot}
 use Rattle.fa_tree.specs.parts.MemberParts.{members_of}
 use Rattle.fa_tree.specs.parts.NameViews.{was_since, has_stayed}
 use Rattle.fa_tree.specs.parts.OpenParts.{open_of}
-use Rattle.fa_tree.specs.parts.SameParts.{IsKnownAt}
+use Rattle.fa_tree.specs.parts.SameParts.{IsSlotWithin}
 use Rattle.fa_tree.proofs.SameLemmas.{walked, known_in}
 use Rattle.fa_tree.proofs.StayedLemmas.{walked_holds}
 use Rattle.fa_tree.proofs.open.OpenNames.is_within.Goals as goal
@@ -19,7 +19,7 @@ returns c = λ is.
     let table = o.slots.now.members.table.entries in
     let indexes = members_of table o.directory in
     let known : List ℕ → Slot → Type 0 = λ name slot. was_since o.at slot ≡ true → (contains k.since name ≡ true) × (get k.stayed name ≡ has_stayed o.at slot) in
-    let there : ℕ → Type 0 = λ index. IsKnownAt o.directory o.at slots index k in
+    let there : ℕ → Type 0 = λ index. IsSlotWithin o.directory o.at slots index k in
     known_in slots o.directory o.at k
     (walked_holds o.directory known slots table o.slots.now.complete
     (λ i index less.

@@ -5,7 +5,7 @@ use Rattle.std.specs.FinMap as map
 use Rattle.std.proofs.lemmas.Iterator.{cases_from_all}
 use Rattle.std.proofs.lemmas.Iterator.Consumers.{YieldsList-from_rest}
 use Rattle.fa_tree.specs.parts.NameViews.{handles_shown}
-use Rattle.fa_tree.specs.parts.SameParts.{IsWithin}
+use Rattle.fa_tree.specs.parts.SameParts.{IsMapWithin}
 use Rattle.fa_tree.proofs.SameLemmas.{walked, handles_within}
 use Rattle.fa_tree.proofs.open.Openings.is_within.Goals as goal
 
@@ -15,7 +15,7 @@ returns c = λ is.
     let places = c.self.inside.places.entries in
     let others = handles_shown c.args.other_slots.now.table.entries 0 map.empty c.args.other.now in
     let same : ℕ → Type 0 = λ asked. map.get (handles_shown slots 0 map.empty c.args.self.now) asked ≡ map.get others asked in
-    subst (λ openings. IsWithin (handles_shown slots 0 map.empty openings) others) c.self.view_is
+    subst (λ openings. IsMapWithin (handles_shown slots 0 map.empty openings) others) c.self.view_is
     (handles_within slots c.self.inside.list.items places c.self.invariant others
     (subst (λ openings. All (λ asked. map.get (handles_shown slots 0 map.empty openings) asked ≡ map.get others asked) (keys_of places)) (sym c.self.view_is)
     (walked c.all.result same (keys_of places) _ is
