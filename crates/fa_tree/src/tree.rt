@@ -61,7 +61,7 @@ impl Tree {
     /// refused.
     ///
     /// Expected time and memory in the size of the tree: the bytes of its names, and of the pages that store bytes of files,
-    /// which are copied too. Names of open directories are copied though they are no longer in them.
+    /// which are copied too. A name that went is copied as well, since directories may be open in which it was.
     pub fn copy(&self) -> Result<Tree, AllocError>
         ensures { IfOk result (λ tree. tree ≡ self.now) }
     {
@@ -71,9 +71,9 @@ impl Tree {
     }
 
     /// Whether both are the same tree: the same files, known by the same, the same names for them, the same nodes, and the same
-    /// directories open by the same requests, of which the same names were in each since it was opened, and the same files
-    /// stayed. In which order all this came makes no difference, so trees that the same requests made in two orders may be the same.
-    /// It answers so of no others, and of all that are the same.
+    /// directories open by the same requests, where the same names were in each since it was opened, and the same files stayed.
+    /// In which order all this came makes no difference, so trees that the same requests made in two orders may be the same. True of
+    /// all trees that are the same, and of no others.
     ///
     /// Takes no memory. Expected time in the size of both, as [`copy`](Tree::copy) has it, and for each request that opened a
     /// directory in the names that this ever had.
