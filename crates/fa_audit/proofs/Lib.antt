@@ -11,3 +11,4 @@ pub mod OneProposal
 pub mod ProposalLemmas
 pub mod CutOrderLemmas
 pub mod TimeLemmas
+pub mod SeenLemmas

@@ -1,46 +1,30 @@
 -- The messages of a capture, one after the other.
-use Rattle.std.proofs.Common.{◌≡◌, ℕ, ◌<◌, ◌≤◌, ◌+◌, List, [], ◌∷◌, ◌++◌, length, take, Some, None, refl, sym, subst, ap, ◌∙◌, append_assoc, inl, inr, arith}
-use Rattle.std.specs.Prelude.{slice_get}
-use Rattle.std.proofs.lemmas.Option.{slice_get_within}
-use Rattle.std.proofs.lemmas.List.{append-nil, length-append, length-take, take_at, take-take}
+use Rattle.std.proofs.Common.{◌≡◌, ℕ, ◌<◌, ◌+◌, List, [], ◌∷◌, ◌++◌, length, Some, None, refl, sym, subst, ap, ◌∙◌, append_assoc, arith}
+use Rattle.std.proofs.lemmas.List.{append-nil, length-append}
 use Rattle.fa_capture.specs.declared.capture.Capture.{Capture}
 use Rattle.fa_capture.specs.declared.fault.CaptureFault.{CaptureFault}
 use Rattle.fa_capture.specs.declared.limits.TheConstants.{MAX_MESSAGES}
 use Rattle.fa_capture.specs.Captures.{records_of, IsCaptureOf}
 use Rattle.fa_capture.specs.Message.{Message, Recorded, without_times}
 use Rattle.fa_capture.specs.Reading.{IsRecording}
-use Rattle.fa_session.specs.Allowed.{session_checks}
 use Rattle.fa_session.specs.Allowed.{IsAllowed}
 use Rattle.fa_session.specs.Events.{PlainEvent, IsEvent}
 use Rattle.fa_session.specs.Plain.{PlainSession}
-use Rattle.fa_session.specs.declared.error.SessionError.{SessionError}
-use Rattle.fa_session.specs.declared.error.SessionError.TheVariants as session
-use Rattle.fa_session.specs.Refusals as session_refusals
 use Rattle.fa_ledger.specs.declared.calls.Calls.{Calls}
 use Rattle.fa_ledger.specs.Calls.{AreCalls}
-use Rattle.fa_ledger.specs.Passing.{ledger_checks, Passes, EachPasses, IsFirstFault}
+use Rattle.fa_ledger.specs.Passing.{IsFirstFault}
 use Rattle.fa_ledger.specs.Plain.{PlainLedger}
 use Rattle.fa_ledger.specs.Refusals.{IsNext}
-use Rattle.fa_audit.specs.parts.Protocol.{ShowBoth, session_refusal, IsRefusal}
+use Rattle.fa_ledger.proofs.CallerLemmas.{refused_is_first, framing_is_first, good_is_whole}
+use Rattle.fa_watch.specs.Refusals.{IsRefusal}
+use Rattle.fa_watch.specs.declared.message.MessageError.TheVariants.{Refused}
+use Rattle.fa_audit.specs.parts.Protocol.{ShowBoth}
 use Rattle.fa_audit.specs.parts.Answers.{AreCallsOf}
-use Rattle.fa_capture.proofs.CallerLemmas.{fails_first, get_in_front, get_kept, get_last, records_length, messages_on}
-use Rattle.fa_audit.specs.declared.protocol.MessageError.TheVariants.{Refused}
-
--- what the session refuses
-pub session_refuses : (c : List Message) (m : Message) (error : SessionError) → session_refusals.IsRefusal c m error → IsRefusal c m (session_refusal error)
-session_refuses c m (session.Refused code) refusal = fails_first (session_checks c m) (ledger_checks c m) code refusal
-session_refuses c m session.Memory refusal = tt
+use Rattle.fa_capture.proofs.CallerLemmas.{records_length, messages_on}
 
 -- the next event of a session is the ledger's next
 pub next_of_both : (c : List Message) (m : Message) (s : PlainSession) (l : PlainLedger) (e : PlainEvent) → ShowBoth c s l → length c < MAX_MESSAGES → IsAllowed c m → IsEvent c m e → IsNext c m l e
 next_of_both c m s l e both few allowed event = record { shows = both.ledger; few = few; allowed = allowed; event = event }
-
--- messages that are shown are good, and so are the first of a longer list
-good_front : (c : List Message) (i : ℕ) (s : PlainSession) (l : PlainLedger) → i ≤ length c → ShowBoth (take i c) s l → EachPasses c i
-good_front c i s l within both k m below is =
-    let long = length-take i c in
-    subst (λ before. Passes before m) (take-take k i c (omega (arith, below)))
-    (both.ledger.good k m (omega (arith, below, within, long)) (get_in_front c i k m below is))
 
 -- ---- the loop over the packets of a capture
 
@@ -80,26 +64,8 @@ module _ (capture : Capture) (left rest : List Recorded) (r : Recorded) (next : 
   pub message_fault : (bytes : List ℕ) (at code : ℕ) (s : PlainSession) (l : PlainLedger) → (good : IsGoodSoFar capture left at s l) → IsRefusal (without_times good.rs) r.message (Refused code)
       → IsCaptureOf bytes capture → IsFirstFault bytes at code
   message_fault bytes at code s l good refusal is =
-      let before : List Message = without_times good.rs in
-      let ms : List Message = without_times (records_of capture) in
-      let parts : ms ≡ before ++ r.message ∷ without_times rest = ap (λ (rs : List Recorded). without_times rs) (next_there good.rs good.whole) ∙ messages_on good.rs rest r in
-      let many : length before ≡ at = records_length good.rs ∙ good.many in
-      let shown : take at ms ≡ before = ap (take at) parts ∙ take_at before (r.message ∷ without_times rest) at many in
-      let last : slice_get (before ++ r.message ∷ []) at ≡ Some r.message = ap (slice_get (before ++ r.message ∷ [])) (sym many) ∙ get_last before r.message in
-      let there : slice_get ms at ≡ Some r.message =
-      ap (λ (c : List Message). slice_get c at) (parts ∙ sym (append_assoc before (r.message ∷ []) (without_times rest))) ∙ get_kept (before ++ r.message ∷ []) (without_times rest) at r.message last in
-      let within : at < length ms = slice_get_within ms at r.message there in
-      record {
-        messages = ms;
-        framing = capture.fault;
-        read = (records_of capture, refl, is);
-        fault = inl (record {
-          message = r.message;
-          there = there;
-          passes = good_front ms at s l (omega (arith, within)) (subst (λ (c : List Message). ShowBoth c s l) (sym shown) good.both);
-          fails = subst (λ (c : List Message). IsRefusal c r.message (Refused code)) (sym shown) refusal;
-        });
-      }
+      let read = subst (λ (rs : List Recorded). IsRecording bytes rs capture.fault) (next_there good.rs good.whole) is in
+      subst (λ (n : ℕ). IsFirstFault bytes n code) good.many (refused_is_first bytes good.rs rest r capture.fault code read good.both.ledger.good refusal)
 
 -- ---- all packets are taken
 
@@ -112,18 +78,14 @@ all_shown capture left at s l good none =
 -- a framing fault behind messages that are shown
 pub framing_fault : (bytes : List ℕ) (capture : Capture) (fault : CaptureFault) (s : PlainSession) (l : PlainLedger) → ShowBoth (without_times (records_of capture)) s l → capture.fault ≡ Some fault
     → IsCaptureOf bytes capture → IsFirstFault bytes fault.whole fault.code
-framing_fault bytes capture fault s l both told is = record {
-  messages = without_times (records_of capture);
-  framing = capture.fault;
-  read = (records_of capture, refl, is);
-  fault = inr (record { there = told; passes = both.ledger.good });
-}
+framing_fault bytes capture fault s l both told is =
+    framing_is_first bytes (records_of capture) fault (subst (IsRecording bytes (records_of capture)) told is) both.ledger.good
 
 -- a capture whose messages are all shown is good, and has calls
 pub calls_of_good : (bytes : List ℕ) (capture : Capture) (s : PlainSession) (l : PlainLedger) (calls : Calls) → ShowBoth (without_times (records_of capture)) s l → capture.fault ≡ None
     → (calls.messages ≡ length (without_times (records_of capture))) × AreCalls (without_times (records_of capture)) calls.list → IsCaptureOf bytes capture → AreCallsOf bytes calls
 calls_of_good bytes capture s l calls both whole are is = record {
   messages = without_times (records_of capture);
-  good = record { read = (records_of capture, refl, subst (IsRecording bytes (records_of capture)) whole is); good = both.ledger.good };
+  good = good_is_whole bytes (records_of capture) (subst (IsRecording bytes (records_of capture)) whole is) both.ledger.good;
   are = record { good = both.ledger.good; counted = are.0; are = are.1 };
 }

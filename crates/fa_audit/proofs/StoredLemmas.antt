@@ -1,5 +1,5 @@
 -- A capture that an input holds: what the loop keeps that feeds it in pieces, and what it comes to.
-use Rattle.std.proofs.Common.{◌≡◌, ℕ, ◌+◌, ◌<◌, ◌≤◌, Bool, true, false, List, ◌++◌, length, Option, None, Some, IfSome, refl, sym, ap, subst, ◌∙◌, append_assoc, arith}
+use Rattle.std.proofs.Common.{◌≡◌, ℕ, ◌+◌, ◌<◌, ◌≤◌, Bool, true, false, List, ◌++◌, length, Option, None, Some, IfSome, refl, sym, ap, subst, ◌∙◌, arith}
 use Rattle.std.specs.Prelude.{◌||◌}
 use Rattle.std.specs.Io.KnownBytes.{Consumes, Keeps, IsAtEnd}
 use Rattle.std.proofs.Math.Bool.{or-false, or-true}
@@ -11,6 +11,7 @@ use Rattle.fa_capture.specs.declared.input.TheConstants.{MAX_READ_LIMIT}
 use Rattle.fa_capture.specs.Captures.{IsCaptureOf}
 use Rattle.fa_capture.specs.Pieces.{IsDecided, PlainFeed}
 use Rattle.fa_capture.proofs.CallerLemmas.{decided_capture}
+use Rattle.fa_watch.proofs.CallerLemmas.{consumes_more, consumes_none}
 use Rattle.fa_audit.specs.Run.{AreBytesOf}
 
 -- ---- the loop
@@ -23,25 +24,11 @@ pub record IsFedSoFar (old new : Option (List ℕ)) (feed : PlainFeed) (failed i
   pub unfailed : failed ≡ false
   pub counted : interrupted ≡ false → pulls ≤ length feed.bytes
 
--- bytes that come behind others
-pub consumes_more : (old mid new : Option (List ℕ)) (bytes more : List ℕ) → Consumes old mid bytes → Consumes mid new more → Consumes old new (bytes ++ more)
-consumes_more None mid new bytes more taken next = tt
-consumes_more (Some xs) None new bytes more taken next = absurd taken
-consumes_more (Some xs) (Some ys) None bytes more taken next = absurd next
-consumes_more (Some xs) (Some ys) (Some zs) bytes more taken next = taken ∙ ap (λ (l : List ℕ). bytes ++ l) next ∙ sym (append_assoc bytes more zs)
-
 -- bytes that a feed takes
 pub taken_more : (old mid new : Option (List ℕ)) (feed fed : PlainFeed) (more : List ℕ) (told : Option CaptureFault) → Consumes old mid feed.bytes → Consumes mid new more
     → fed ≡ record { bytes = feed.bytes ++ more; told = told } → Consumes old new fed.bytes
 taken_more old mid new feed fed more told taken next is =
     subst (λ (f : PlainFeed). Consumes old new f.bytes) (sym is) (consumes_more old mid new feed.bytes more taken next)
-
--- no bytes come
-pub consumes_none : (old mid new : Option (List ℕ)) (bytes : List ℕ) → Consumes old mid bytes → Keeps mid new → Consumes old new bytes
-consumes_none None mid new bytes taken kept = tt
-consumes_none (Some xs) None new bytes taken kept = absurd taken
-consumes_none (Some xs) (Some ys) None bytes taken kept = absurd kept
-consumes_none (Some xs) (Some ys) (Some zs) bytes taken kept = taken ∙ ap (λ (l : List ℕ). bytes ++ l) (sym kept)
 
 -- a piece more
 pub fed_more : (old mid new : Option (List ℕ)) (feed fed : PlainFeed) (more : List ℕ) (failed failed_then interrupted interrupted_then : Bool) (pulls : ℕ)

@@ -13,6 +13,8 @@ pub mod CutOrders
 -- what a run writes that cuts a capture, and one that migrates it
 pub mod Fronts
 pub mod Migrated
+-- what a run writes that watches a stream
+pub mod Watching
 -- the statements of the laws
 pub mod Laws
 -- the vocabulary of private contracts

@@ -4,3 +4,5 @@
 pub mod Protocol
 -- answers of calls that may be refused memory
 pub mod Answers
+-- what was seen of a stream
+pub mod Seeing

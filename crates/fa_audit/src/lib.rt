@@ -2,8 +2,8 @@
 //!
 //! [`audit`] judges a capture and an order of its requests from the tree that the server began with, [`audit_capture`] a capture that
 //! was read, as one that came in pieces, and [`verdict_text`] is the line that tells it. [`run`], [`run_propose`], [`run_cut`],
-//! [`run_front`] and [`run_migrate`] go from inputs to an output: they are the commands `check`, `propose`, `cut`, `front` and
-//! `migrate` of the program `fa_audit`.
+//! [`run_front`], [`run_migrate`] and [`run_watch`] go from inputs to an output: they are the commands `check`, `propose`, `cut`,
+//! `front`, `migrate` and `watch` of the program `fa_audit`.
 #![tactic(auto)]
 
 mod cutting;
@@ -17,6 +17,7 @@ mod protocol;
 mod running;
 mod status;
 mod verdict;
+mod watching;
 
 pub use cutting::{cut_order, run_cut};
 pub use fronts::run_front;
@@ -27,3 +28,4 @@ pub use proposing::{proposal, run_propose};
 pub use running::{MAX_CAPTURE_INPUT_BYTES, MAX_TEXT_INPUT_BYTES, RunFault, line_and_status, run};
 pub use status::Status;
 pub use verdict::{AuditError, CutError, StartError};
+pub use watching::run_watch;

@@ -5,50 +5,15 @@ ghost use Rattle.fa_capture.specs.Message.{Message, message};
 ghost use Rattle.fa_capture.specs.Captures.{IsCaptureOf};
 ghost use Rattle.fa_capture.specs.declared.limits.TheConstants.{MAX_MESSAGES};
 ghost use Rattle.fa_ledger.specs.Passing.{Passes};
-ghost use Rattle.fa_audit.specs.parts.Protocol.{ShowBoth, IsRefusal};
+ghost use Rattle.fa_watch.specs.Refusals.{IsRefusal};
+ghost use Rattle.fa_audit.specs.parts.Protocol.{ShowBoth};
 ghost use Rattle.fa_audit.specs.parts.Answers.{AreCallsOf, IsCaptureRefused};
 
 use fa_capture::{Capture, CaptureFault, Packet};
-use fa_ledger::{Calls, Ledger, LedgerError};
-use fa_session::{Session, SessionError};
+use fa_ledger::{Calls, Ledger};
+use fa_session::Session;
+use fa_watch::MessageError;
 use std::alloc::{AllocError, Global};
-
-/// Why a message is not taken.
-#[derive(Clone, Copy, Debug, PartialEq, Eq)]
-pub(crate) enum MessageError {
-    /// It does not keep the protocol: the code of the first check that it fails.
-    Refused(u16),
-    /// Memory was refused.
-    Memory,
-}
-
-impl From<SessionError> for MessageError {
-    ghost use Rattle.fa_audit.specs.parts.Protocol.{session_refusal};
-    ghost use Rattle.std.specs.Prelude.{◌≡◌};
-
-    ghost from_gives = { λ s e. e ≡ session_refusal s };
-
-    fn from(error: SessionError) -> MessageError {
-        match error {
-            SessionError::Refused(code) => MessageError::Refused(code),
-            SessionError::Memory => MessageError::Memory,
-        }
-    }
-}
-
-impl From<LedgerError> for MessageError {
-    ghost use Rattle.fa_audit.specs.parts.Protocol.{ledger_refusal};
-    ghost use Rattle.std.specs.Prelude.{◌≡◌};
-
-    ghost from_gives = { λ l e. e ≡ ledger_refusal l };
-
-    fn from(error: LedgerError) -> MessageError {
-        match error {
-            LedgerError::Refused(code) => MessageError::Refused(code),
-            LedgerError::Memory => MessageError::Memory,
-        }
-    }
-}
 
 /// Why a capture has no calls.
 #[derive(Clone, Copy, Debug, PartialEq, Eq)]

@@ -6,7 +6,7 @@ ghost use Rattle.fa_audit.specs.Status.{status_number};
 /// How a call of the program ends.
 #[derive(Clone, Copy, Debug, PartialEq, Eq, Hash)]
 pub enum Status {
-    /// The verdict is legal, or an order or a capture is written.
+    /// The verdict is legal, an order or a capture is written, or a stream came to its end without a fault.
     Legal = 0,
     /// The capture has a fault.
     Fault = 1,

@@ -4,7 +4,7 @@ ghost use Rattle.std.specs.Prelude.{◌≡◌, false, IfSome};
 ghost use Rattle.fa_capture.specs.Device.{device_failed, device_interrupted};
 
 use crate::answers::{NO_ORDER, NO_TREE, NONE, ROOT, SECOND, not_found};
-use fa_audit::{RunFault, run, run_cut, run_front, run_migrate, run_propose};
+use fa_audit::{RunFault, run, run_cut, run_front, run_migrate, run_propose, run_watch};
 use fa_capture::{Device, Output};
 use std::alloc::Global;
 
@@ -15,6 +15,7 @@ enum Call {
     Propose,
     Cut(u32),
     Front(u32),
+    Watch,
 }
 
 /// A call, a tree text, if one is handed in, an order text, the status, and what is written, all of a LOOKUP that finds nothing.
@@ -26,7 +27,7 @@ type Row = (
     &'static [u8],
 );
 
-static ROWS: [Row; 9] = [
+static ROWS: [Row; 10] = [
     (
         Call::Check,
         None,
@@ -60,6 +61,7 @@ static ROWS: [Row; 9] = [
     (Call::Cut(3), None, SECOND, 0, NONE),
     (Call::Cut(4), None, SECOND, 0, SECOND),
     (Call::Front(0), None, NONE, 0, b"FUSECAP1"),
+    (Call::Watch, None, NONE, 0, b"good: 4 messages\n"),
 ];
 
 /// A text that may be handed in, as an input.
@@ -91,6 +93,7 @@ fn made<'x, W: Output>(
         Call::Propose => run_propose(alloc, &mut capture, tree.as_mut(), out),
         Call::Cut(at) => run_cut(alloc, &mut capture, &mut order, at, out),
         Call::Front(at) => run_front(alloc, &mut capture, at, out),
+        Call::Watch => run_watch(alloc, &mut capture, out),
     }
 }
 

@@ -1,7 +1,8 @@
 use Rattle.std.proofs.lemmas.Result.{err_from_is_err_and}
 use Rattle.fa_capture.specs.Message.{message}
 use Rattle.fa_session.specs.Events.{event_shown}
-use Rattle.fa_audit.proofs.ProtocolLemmas.{session_refuses, next_of_both}
+use Rattle.fa_watch.proofs.CallerLemmas.{session_refuses}
+use Rattle.fa_audit.proofs.ProtocolLemmas.{next_of_both}
 use Rattle.fa_audit.proofs.protocol.accept.Goals as goal
 
 pub returns-in_err-event-clause-refused : goal.returns-in_err-event-clause-refused

@@ -1,7 +1,7 @@
 use Rattle.std.proofs.Common.{sym, ap, subst, ◌∙◌}
 use Rattle.fa_capture.specs.Captures.{records_left}
 use Rattle.fa_capture.specs.Message.{message, recorded, without_times}
-use Rattle.fa_audit.specs.parts.Protocol.{IsRefusal}
+use Rattle.fa_watch.specs.Refusals.{IsRefusal}
 use Rattle.fa_audit.proofs.ProtocolLemmas.{good_at_first, few_before, good_more, message_fault, all_shown, framing_fault, calls_of_good}
 use Rattle.fa_audit.proofs.protocol.good_calls.Goals as goal
 
