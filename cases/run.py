@@ -1,7 +1,7 @@
 #!/usr/bin/env python3
 """Runs the built program on each case of these folders, and compares what it writes and how it ends.
 
-usage: cases/run.py [PROGRAM] [--only TEXT] [--migrated | --piped]
+usage: cases/run.py [PROGRAM] [--only TEXT] [--migrated | --piped | --watched]
 
 PROGRAM is crates/fa_audit_program/out/fa_audit_program of this repository unless it is named. With --only, only the cases whose names,
 as FOLDER/NAME or FOLDER/NAME row N, hold TEXT are run. README.md beside this script says what files a case has. That `messages.py check`
@@ -9,7 +9,12 @@ finds nothing wrong is one case more. Each failure is printed; the last line is 
 failed or none was run.
 
 With --migrated, the cases of `check`, `propose` and `cut` alone, each on its capture as `migrate` of the program writes it, where there
-is X What is expected stays the same.
+is no framing fault. With --piped, these cases, each with its capture from a pipe: a byte at a time, and then some at a time. What is
+expected stays the same.
+
+With --watched, the cases of these commands with an answer, each capture watched by `watch` as it comes from a pipe, as with --piped:
+the line of its fault, where the case has one, or that it is good, with how many records it has. A fault that no byte behind it mends is
+told while the pipe is still open.
 """
 import argparse
 import contextlib
@@ -27,6 +32,8 @@ HERE = os.path.dirname(os.path.abspath(__file__))
 TOP = os.path.dirname(HERE)
 PROGRAM = os.path.join(TOP, "crates", "fa_audit_program", "out", "fa_audit_program")
 SECONDS = 60
+# The codes of a magic and of a record that may be cut off: what follows may complete them.
+CUT_OFF = 1, 2
 # How many reads a capture from a pipe takes at most: a larger one comes some bytes at a time.
 READS = 50_000
 
@@ -166,6 +173,8 @@ class Call:
         self.words = [os.fsdecode(word) for word in words]
         self.input = b""
         self.variables = {}
+        self.expected = None
+        self.held_open = False
 
     def capture(self, folder):
         """The path of the capture that it judges, if there is one in this folder."""
@@ -176,9 +185,27 @@ class Call:
 
     def run(self, program, folder, output=None):
         """Runs the program in this folder. What it writes goes to the file `output`, where one is named."""
+        if self.held_open:
+            return self.run_before_the_end(program, folder)
         with open(output, "wb") if output else contextlib.nullcontext(subprocess.PIPE) as written:
             return subprocess.run([program, *self.words], input=self.input, stdout=written, stderr=subprocess.PIPE, cwd=folder,
                                   env={**os.environ, **self.variables}, timeout=SECONDS)
+
+
+    def run_before_the_end(self, program, folder):
+        """The same, where its standard input comes to no end."""
+        with subprocess.Popen([program, *self.words], stdin=subprocess.PIPE, stdout=subprocess.PIPE, stderr=subprocess.PIPE, cwd=folder,
+                              env={**os.environ, **self.variables}) as ran:
+            try:
+                with contextlib.suppress(BrokenPipeError):
+                    ran.stdin.write(self.input)
+                    ran.stdin.flush()
+                status = ran.wait(SECONDS)
+                return subprocess.CompletedProcess(ran.args, status, ran.stdout.read(), ran.stderr.read())
+            finally:
+                ran.kill()
+                with contextlib.suppress(BrokenPipeError):
+                    ran.stdin.close()
 
 
 def as_it_stands(program, call, folder):
@@ -215,6 +242,32 @@ def piped(shim, seed):
     return change
 
 
+def records(capture):
+    """How many records a capture has that has no framing fault."""
+    header = 5 if capture.startswith(b"FUSECAP1") else 13
+    place, count = 8, 0
+    while place < len(capture):
+        place += header + int.from_bytes(capture[place + header - 4:place + header], "little")
+        count += 1
+    return count
+
+
+def watched(shim, seed, case):
+    """How the capture of a call is watched, from a pipe as `piped` says. None where the case has no answer on a capture."""
+
+    def change(program, call, folder):
+        expected, status = case.expected()
+        if not piped(shim, seed)(program, call, folder) or status > 3:
+            return None
+        call.words = ["watch", "--capture", "-"]
+        good = b"good: %d messages\n" % records(call.input), 0
+        call.expected = (expected, status) if expected.startswith(b"fault: ") else good
+        call.held_open = status == 1 and int(expected.split(b"code ")[1].split(b":")[0]) not in CUT_OFF
+        return call
+
+    return change
+
+
 def differences(program, case, change):
     """What is not as the case expects it, a line each, where its call is changed so. None where it can't be."""
     output, error = case.own("output"), case.own("stderr")
@@ -225,6 +278,7 @@ def differences(program, case, change):
             call = change(program, Call(case.words), folder)
             if call is None:
                 return None
+            expected, status = call.expected or (expected, status)
             ran = call.run(program, folder, output and output.strip())
     except (OSError, ValueError, subprocess.TimeoutExpired) as failure:
         return [str(failure), *case.shown]
@@ -246,6 +300,9 @@ def changes(given, case, room):
     if given.piped:
         shim = short_reads(room)
         return [piped(shim, 0), piped(shim, zlib.crc32(case.name.encode()))]
+    if given.watched:
+        shim = short_reads(room)
+        return [watched(shim, 0, case), watched(shim, zlib.crc32(case.name.encode()), case)]
     return [as_it_stands]
 
 
@@ -278,6 +335,7 @@ def main():
     changed = parser.add_mutually_exclusive_group()
     changed.add_argument("--migrated", action="store_true", help="each capture as `migrate` writes it")
     changed.add_argument("--piped", action="store_true", help="each capture from a pipe, a byte at a time, and then some")
+    changed.add_argument("--watched", action="store_true", help="each capture watched, as it comes from a pipe")
     given = parser.parse_args()
     program = os.path.abspath(given.program)
     cases = list(all_cases())
@@ -285,7 +343,7 @@ def main():
     with tempfile.TemporaryDirectory() as room:
         results = [(case.name, differences(program, case, change)) for case in tried for change in changes(given, case, room)]
     results = [(name, found) for name, found in results if found is not None]
-    if not given.migrated and not given.piped:
+    if not given.migrated and not given.piped and not given.watched:
         if given.only in "messages.py check":
             results.append(("messages.py check", messages.check()))
         results += [(file, ["no case has this file"]) for file in sorted(without_a_case(cases))]

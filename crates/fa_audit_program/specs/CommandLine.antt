@@ -9,8 +9,9 @@ use Rattle.fa_audit_program.specs.declared.command_line.ProposePaths.{ProposePat
 use Rattle.fa_audit_program.specs.declared.command_line.CutPaths.{CutPaths}
 use Rattle.fa_audit_program.specs.declared.command_line.FrontPaths.{FrontPaths}
 use Rattle.fa_audit_program.specs.declared.command_line.MigratePaths.{MigratePaths}
+use Rattle.fa_audit_program.specs.declared.command_line.WatchPaths.{WatchPaths}
 use Rattle.fa_audit_program.specs.declared.command_line.Call.{Call}
-use Rattle.fa_audit_program.specs.declared.command_line.Call.TheVariants.{Check, Propose, Cut, Front, Migrate}
+use Rattle.fa_audit_program.specs.declared.command_line.Call.TheVariants.{Check, Propose, Cut, Front, Migrate, Watch}
 
 -- the value of an option of the command that the words call
 abbrev pub value_of : ArgMatches → List ℕ → Option (List ℕ)
@@ -55,6 +56,11 @@ pub record IsMigrateCallOf (matches : ArgMatches) (paths : MigratePaths) : Type 
   pub command : subcommand_name_of matches ≡ Some (codes "migrate")
   pub capture_is : value_of matches (codes "capture") ≡ Some paths.capture.now
 
+-- the words call `watch` with this file
+pub record IsWatchOf (matches : ArgMatches) (paths : WatchPaths) : Type 0 where
+  pub command : subcommand_name_of matches ≡ Some (codes "watch")
+  pub capture_is : value_of matches (codes "capture") ≡ Some paths.capture.now
+
 -- the words are this call
 abbrev pub IsCallOf : ArgMatches → Call → Type 0
 IsCallOf matches (Check paths) = IsCheckOf matches paths
@@ -62,6 +68,7 @@ IsCallOf matches (Propose paths) = IsProposeOf matches paths
 IsCallOf matches (Cut paths) = IsCutOf matches paths
 IsCallOf matches (Front paths) = IsFrontCallOf matches paths
 IsCallOf matches (Migrate paths) = IsMigrateCallOf matches paths
+IsCallOf matches (Watch paths) = IsWatchOf matches paths
 
 -- the words do not call `check` with all that it needs
 abbrev pub IsNoCheck : ArgMatches → Type 0
@@ -87,3 +94,7 @@ IsNoFrontCall matches =
 -- the words do not call `migrate` with all that it needs
 abbrev pub IsNoMigrateCall : ArgMatches → Type 0
 IsNoMigrateCall matches = (subcommand_name_of matches ≢ Some (codes "migrate")) ⊎ (value_of matches (codes "capture") ≡ None)
+
+-- the words do not call `watch` with all that it needs
+abbrev pub IsNoWatch : ArgMatches → Type 0
+IsNoWatch matches = (subcommand_name_of matches ≢ Some (codes "watch")) ⊎ (value_of matches (codes "capture") ≡ None)

@@ -1,7 +1,7 @@
 //! The words of the command line.
 
 ghost use Rattle.std.specs.Prelude.{ℕ, IfSome, IsNone};
-ghost use Rattle.fa_audit_program.specs.CommandLine.{IsCheckOf, IsProposeOf, IsCutOf, IsFrontCallOf, IsMigrateCallOf, IsCallOf, IsNumberText, IsNoCheck, IsNoPropose, IsNoCutCall, IsNoFrontCall, IsNoMigrateCall};
+ghost use Rattle.fa_audit_program.specs.CommandLine.{IsCheckOf, IsProposeOf, IsCutOf, IsFrontCallOf, IsMigrateCallOf, IsWatchOf, IsCallOf, IsNumberText, IsNoCheck, IsNoPropose, IsNoCutCall, IsNoFrontCall, IsNoMigrateCall, IsNoWatch};
 
 use clap::{Arg, ArgAction, ArgMatches, Command, value_parser};
 use fa_capture::limits::MAX_MESSAGES;
@@ -17,6 +17,8 @@ const CUT: &str = "cut";
 const FRONT: &str = "front";
 /// The command that migrates a capture.
 const MIGRATE: &str = "migrate";
+/// The command that watches a stream.
+const WATCH: &str = "watch";
 /// The option that names the capture.
 const CAPTURE: &str = "capture";
 /// The option that names the tree text.
@@ -136,6 +138,25 @@ impl<'a> MigratePaths<'a> {
     }
 }
 
+/// The file of a call of `watch`.
+#[derive(Clone, Copy, Debug)]
+pub struct WatchPaths<'a> {
+    pub capture: &'a str,
+}
+
+impl<'a> WatchPaths<'a> {
+    /// What a parse by [`command`] found; there is nothing only where the words were no call of `watch`.
+    pub fn new(matches: &ArgMatches<'a>) -> Option<Self>
+        ensures found { IfSome result (IsWatchOf matches.now) }
+        ensures none { IsNone result → IsNoWatch matches.now }
+    {
+        let options = matches.subcommand_matches(WATCH)?;
+        Some(WatchPaths {
+            capture: options.get_str(CAPTURE)?,
+        })
+    }
+}
+
 /// The number that a text is in decimal digits.
 fn number(text: &str) -> Option<u32>
     ensures found { IfSome result (IsNumberText text.now) }
@@ -157,6 +178,8 @@ pub enum Call<'a> {
     Front(FrontPaths<'a>),
     /// A capture is written anew with times.
     Migrate(MigratePaths<'a>),
+    /// A capture is judged while it is written.
+    Watch(WatchPaths<'a>),
 }
 
 impl<'a> Call<'a> {
@@ -164,7 +187,7 @@ impl<'a> Call<'a> {
     pub fn new(matches: &ArgMatches<'a>) -> Option<Self>
         ensures found { IfSome result (IsCallOf matches.now) }
         ensures none { IsNone result →
-            IsNoCheck matches.now × IsNoPropose matches.now × IsNoCutCall matches.now × IsNoFrontCall matches.now × IsNoMigrateCall matches.now }
+            IsNoCheck matches.now × IsNoPropose matches.now × IsNoCutCall matches.now × IsNoFrontCall matches.now × IsNoMigrateCall matches.now × IsNoWatch matches.now }
     {
         if let Some(paths) = CheckPaths::new(matches) {
             return Some(Call::Check(paths));
@@ -178,12 +201,16 @@ impl<'a> Call<'a> {
         if let Some(paths) = FrontPaths::new(matches) {
             return Some(Call::Front(paths));
         }
-        Some(Call::Migrate(MigratePaths::new(matches)?))
+        if let Some(paths) = MigratePaths::new(matches) {
+            return Some(Call::Migrate(paths));
+        }
+        Some(Call::Watch(WatchPaths::new(matches)?))
     }
 }
 
 /// The command line: `fa_audit check --capture FILE [--tree FILE] --order FILE`, `fa_audit propose --capture FILE [--tree FILE]`,
-/// `fa_audit cut --capture FILE --order FILE --at N`, `fa_audit front --capture FILE --at N` or `fa_audit migrate --capture FILE`.
+/// `fa_audit cut --capture FILE --order FILE --at N`, `fa_audit front --capture FILE --at N`, `fa_audit migrate --capture FILE` or
+/// `fa_audit watch --capture FILE`.
 pub fn command<'a>(alloc: Global) -> Result<Command<'a>, AllocError> {
     let order = path_option(alloc, ORDER).help("The order text that is to explain it");
     let check = Command::new(alloc, CHECK)
@@ -208,6 +235,9 @@ pub fn command<'a>(alloc: Global) -> Result<Command<'a>, AllocError> {
     let migrate = Command::new(alloc, MIGRATE)
         .about("Writes a capture anew in the format that has times")
         .arg(capture_option(alloc))?;
+    let watch = Command::new(alloc, WATCH)
+        .about("Tells the first fault of a capture as soon as it is written, or that it has none")
+        .arg(capture_option(alloc))?;
     Command::new(alloc, "fa_audit")
         .bin_name("fa_audit")?
         .about("Audits recorded /dev/fuse traffic")
@@ -216,7 +246,8 @@ pub fn command<'a>(alloc: Global) -> Result<Command<'a>, AllocError> {
         .subcommand(propose)?
         .subcommand(cut)?
         .subcommand(front)?
-        .subcommand(migrate)
+        .subcommand(migrate)?
+        .subcommand(watch)
 }
 
 /// The option that names the capture.

@@ -4,11 +4,12 @@
 //! capture. `fa_audit propose --capture FILE [--tree FILE]` writes the text of an order that may explain it to standard output, or
 //! the line of the fault where the capture has one or the tree text is not in its grammar. `fa_audit cut --capture FILE --order FILE
 //! --at N` writes what is left of the order for the messages before message N, and `fa_audit front --capture FILE --at N` the capture of
-//! these messages. `fa_audit migrate --capture FILE` writes a capture anew in the format that has times. A FILE that is `-` is standard
-//! input.
+//! these messages. `fa_audit migrate --capture FILE` writes a capture anew in the format that has times. `fa_audit watch --capture FILE`
+//! reads a capture while it is written and tells its first fault as soon as that was read, or at the end that there is none. A FILE that
+//! is `-` is standard input.
 //!
-//! Each ends with the status 0 where the verdict is legal or an order or a capture is written, 1 at a fault of the capture, 2 where the
-//! order is not shown to explain the capture, 3 where the tree text or the order text is not in its grammar, 4 where the command line
+//! Each ends with the status 0 where the verdict is legal, an order or a capture is written, or a stream had no fault, 1 at a fault of
+//! the capture, 2 where the order is not shown to explain the capture, 3 where the tree text or the order text is not in its grammar, 4 where the command line
 //! is no call, and 5 where reading, writing or memory failed. What stands behind a status 4 or 5 is told on standard error.
 #![tactic(auto)]
 
@@ -18,9 +19,11 @@ ghost use Rattle.fa_capture.specs.Device.{device_failed, device_interrupted};
 mod command_line;
 mod failure;
 
-use crate::command_line::{Call, CheckPaths, CutPaths, FrontPaths, MigratePaths, ProposePaths};
+use crate::command_line::{
+    Call, CheckPaths, CutPaths, FrontPaths, MigratePaths, ProposePaths, WatchPaths,
+};
 use crate::failure::Failure;
-use fa_audit::{RunFault, run, run_cut, run_front, run_migrate, run_propose};
+use fa_audit::{RunFault, run, run_cut, run_front, run_migrate, run_propose, run_watch};
 use fa_capture::Device;
 use std::env::Env;
 use std::fs::File;
@@ -50,6 +53,7 @@ fn call<R: AllocGlobal + Env + Files + Print>(rt: &R) -> Result<u8, Failure> {
         Call::Cut(paths) => Ok(cut(rt, &paths)?),
         Call::Front(paths) => Ok(front(rt, &paths)?),
         Call::Migrate(paths) => Ok(migrate(rt, &paths)?),
+        Call::Watch(paths) => Ok(watch(rt, &paths)?),
     }
 }
 
@@ -102,6 +106,13 @@ fn migrate<R: AllocGlobal + Files + Print>(
     let mut capture = open(rt, paths.capture)?;
     let mut out = Device::new(io::writer(rt));
     run_migrate(rt.alloc(), &mut capture, &mut out)
+}
+
+/// Runs a call of `watch`: its status.
+fn watch<R: AllocGlobal + Files + Print>(rt: &R, paths: &WatchPaths<'_>) -> Result<u8, RunFault> {
+    let mut capture = open(rt, paths.capture)?;
+    let mut out = Device::new(io::writer(rt));
+    run_watch(rt.alloc(), &mut capture, &mut out)
 }
 
 /// The words of the command line, with the program's name first.
