@@ -2,6 +2,7 @@
 -- placed, whose trees are all to which entries lead that explain the replies before.
 use Rattle.std.proofs.Common.{◌≡◌, ℕ, List, [], None, refl, sym, subst, inl, arith}
 use Rattle.std.specs.Prelude.{Contains}
+use Rattle.std.specs.List.Sorted.{IsStrictlyIncreasing}
 use Rattle.fa_capture.specs.Message.{Message}
 use Rattle.fa_session.specs.Answers.{IsAnsweredBy}
 use Rattle.fa_tree.specs.State.{TreeState}
@@ -42,11 +43,12 @@ module _ (c : List Message) (first : TreeState) (at asked : ℕ) (tree : IsTreeR
       all_waiting c first at asked tree by held work [] settling spent es last (λ y has. omega (arith, has.1)) (are.complete es last comes.explains run)
 
   -- so the codes with which these refuse it are all
-  pub codes_are_all : (codes : List ℕ)
+  pub codes_are_all : (codes : List ℕ) → IsStrictlyIncreasing codes
       → ((code : ℕ) → Contains codes code → (x : PlainConfiguration) × Contains work x × IsRefusedFrom x.tree c asked code)
       → ((x : PlainConfiguration) → Contains work x → (code : ℕ) × Contains codes code × IsRefusedFrom x.tree c asked code)
       → AreCodesAt c first at codes
-  codes_are_all codes of each = record {
+  codes_are_all codes rising of each = record {
+    rising = rising;
     each = λ code has.
         let found = of code has in
         let x : PlainConfiguration = found.0 in

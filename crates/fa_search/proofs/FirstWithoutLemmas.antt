@@ -53,10 +53,10 @@ first_without_is_there c first none never =
     never_without c first never (length c) (omega arith) (subst (λ (all : List Message). HasNoOrder all first) (sym (take_all (length c) c (omega arith))) none)
 
 pub stop_comes_first : StopComesFirst
-stop_comes_first c first stop at good stops without =
+stop_comes_first c first stop at stops without =
     elim (cases_lt at stop) [
       | inl before ↦
           let es : List Entry = stops.before.0 in
-          absurd (explained_front_has_order c first (at + 1) es good (explains_earlier c first (at + 1) stop es (omega (arith, before)) stops.before.1) without.none)
+          absurd (explained_front_has_order c first (at + 1) es stops.good (explains_earlier c first (at + 1) stop es (omega (arith, before)) stops.before.1) without.none)
       | inr behind ↦ behind
     ]

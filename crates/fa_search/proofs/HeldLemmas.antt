@@ -168,9 +168,10 @@ held_answered c first at asked old work settled new tree by are settling spent w
 -- ---- what it says of the messages
 
 -- where some are held before a message, and none behind it, no order goes past it
-pub none_held_stops : (c : List Message) (first : TreeState) (at : ℕ) (x : PlainConfiguration) (held : List PlainConfiguration) → at < length c → Contains held x → AreHeld c first at held
+pub none_held_stops : (c : List Message) (first : TreeState) (at : ℕ) (x : PlainConfiguration) (held : List PlainConfiguration) → AreGood c → at < length c → Contains held x → AreHeld c first at held
     → AreHeld c first (at + 1) [] → IsStop c first at
-none_held_stops c first at x held within has before behind = record {
+none_held_stops c first at x held good within has before behind = record {
+  good = good;
   within = within;
   before = reached_explains c first at x (before.reached x has);
   none = λ es explained. (let found = behind.complete es explained.last explained explained.run in omega (arith, found.there.1));

@@ -51,8 +51,8 @@ module _ (c : List Message) (first tree : TreeState) (at asked : ℕ) (es : List
       }
 
 pub stop_is_refused : StopIsRefused
-stop_is_refused c first tree at asked es good stop comes never =
-    calls_are_there c good (λ calls are.
+stop_is_refused c first tree at asked es stop comes never =
+    calls_are_there c stop.good (λ calls are.
     let found = tree_is_call c calls are asked comes.tree_request in
     let of_request = call_of_message c calls are found.0 asked found.1.0 found.1.1 found.1.2 in
     let so_far = listing_so_far calls found.0 in
@@ -82,8 +82,8 @@ stop_is_come_to c first at es explained stop never =
 
 -- where there is one code alone, it refuses after all entries
 pub one_code_refuses_all : OneCodeRefusesAll
-one_code_refuses_all c first tree at asked code es good stop codes comes never =
-    stop_is_refused c first tree at asked es good stop comes (λ other refused.
+one_code_refuses_all c first tree at asked code es stop codes comes never =
+    stop_is_refused c first tree at asked es stop comes (λ other refused.
     elim (contains_cases code [] other (codes.complete other (es, tree, asked, comes, refused))) [
       | inl same ↦ never (subst (IsRefusedFrom tree c asked) (sym same) refused)
       | inr none ↦ omega (arith, none.1)

@@ -3,6 +3,7 @@ use Rattle.std.proofs.Common.{ℕ, zero, suc, ◌+◌, ◌<◌, ◌≤◌, List,
 use Rattle.std.proofs.lemmas.Bool.{cases_lt}
 use Rattle.std.proofs.lemmas.List.{length-append}
 use Rattle.fa_capture.specs.Message.{Message}
+use Rattle.fa_ledger.specs.Passing.{AreGood}
 use Rattle.fa_tree.specs.State.{TreeState}
 use Rattle.fa_order.specs.declared.entry.Entry.{Entry}
 use Rattle.fa_check.specs.Faults.{EachPlaced}
@@ -55,12 +56,13 @@ pub stop_has_no_order : StopHasNoOrder
 stop_has_no_order c first at stop (es, legal) = stop.none es (legal_explains c first es (at + 1) legal)
 
 -- without a message past which none goes, the replies before each message are explained
-never_stopped : (c : List Message) (first : TreeState) → ((at : ℕ) → IsStop c first at → ⊥) → (n : ℕ) → n ≤ length c
+never_stopped : (c : List Message) (first : TreeState) → AreGood c → ((at : ℕ) → IsStop c first at → ⊥) → (n : ℕ) → n ≤ length c
     → ((es : List Entry) → Explains c first n es → ⊥) → ⊥
-never_stopped c first never zero within none = none [] (explains_nothing c first)
-never_stopped c first never (suc n) within none =
-    never_stopped c first never n (omega (arith, within)) (λ es explained.
+never_stopped c first good never zero within none = none [] (explains_nothing c first)
+never_stopped c first good never (suc n) within none =
+    never_stopped c first good never n (omega (arith, within)) (λ es explained.
     never n (record {
+      good = good;
       within = omega (arith, within);
       before = (es, explained);
       none = λ fs all. none fs (explains_earlier c first (suc n) (n + 1) fs (omega arith) all);
@@ -68,4 +70,4 @@ never_stopped c first never (suc n) within none =
 
 pub stop_is_there : StopIsThere
 stop_is_there c first good no_order never =
-    never_stopped c first never (length c) (omega arith) (λ es explained. no_order (es, explains_all_is_legal c first es good explained))
+    never_stopped c first good never (length c) (omega arith) (λ es explained. no_order (es, explains_all_is_legal c first es good explained))

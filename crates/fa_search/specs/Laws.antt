@@ -40,14 +40,14 @@ StopIsComeTo =
 -- After all entries that come to it, that request is refused: never with no code.
 abbrev pub StopIsRefused : Type 0
 StopIsRefused =
-    (c : List Message) (first tree : TreeState) (at asked : ℕ) (es : List Entry) → AreGood c → IsStop c first at → ComesTo c first at es tree asked
+    (c : List Message) (first tree : TreeState) (at asked : ℕ) (es : List Entry) → IsStop c first at → ComesTo c first at es tree asked
     → ((code : ℕ) → IsRefusedFrom tree c asked code → ⊥) → ⊥
 
 -- Where there is one code alone, it is refused with that one after all of them.
 abbrev pub OneCodeRefusesAll : Type 0
 OneCodeRefusesAll =
     (c : List Message) (first tree : TreeState) (at asked code : ℕ) (es : List Entry)
-    → AreGood c → IsStop c first at → AreCodesAt c first at (code ∷ []) → ComesTo c first at es tree asked → (IsRefusedFrom tree c asked code → ⊥) → ⊥
+    → IsStop c first at → AreCodesAt c first at (code ∷ []) → ComesTo c first at es tree asked → (IsRefusedFrom tree c asked code → ⊥) → ⊥
 
 -- ---- the first messages without an order
 
@@ -67,8 +67,7 @@ FirstWithoutIsThere = (c : List Message) (first : TreeState) → HasNoOrder c fi
 
 -- The message past which no order goes comes no later than that with which the first messages have none any more. It may come earlier: at
 -- the answer to a READ that came in the midst of a WRITE, with bytes that the count of the WRITE's own answer does not explain, while another
--- count does. The messages need to be good: from the first that is not the first messages have no order any more, and entries may still
--- explain replies behind it.
+-- count does.
 abbrev pub StopComesFirst : Type 0
 StopComesFirst =
-    (c : List Message) (first : TreeState) (stop at : ℕ) → AreGood c → IsStop c first stop → IsFirstWithout c first at → stop ≤ at
+    (c : List Message) (first : TreeState) (stop at : ℕ) → IsStop c first stop → IsFirstWithout c first at → stop ≤ at

@@ -1,7 +1,9 @@
 -- What a search of all orders finds where none is legal: the message past which none goes, and why.
 use Rattle.std.specs.Prelude.{◌≡◌, ℕ, ◌+◌, ◌<◌, List, length, take, Contains, None}
+use Rattle.std.specs.List.Sorted.{IsStrictlyIncreasing}
 use Rattle.fa_capture.specs.Message.{Message}
 use Rattle.fa_session.specs.Answers.{IsAnsweredBy}
+use Rattle.fa_ledger.specs.Passing.{AreGood}
 use Rattle.fa_tree.specs.State.{TreeState}
 use Rattle.fa_order.specs.declared.entry.Entry.{Entry}
 use Rattle.fa_check.specs.Orders.{IsTreeRequestAt, numbers}
@@ -11,13 +13,14 @@ use Rattle.fa_check.specs.Cuts.{Explains}
 
 -- ---- no order
 
--- No order of these messages is legal from this first tree. So it is of messages that are not good.
+-- No order of these messages is legal from this first tree. Messages that are not good have none either.
 abbrev pub HasNoOrder : List Message → TreeState → Type 0
 HasNoOrder c first = HasOrder c first → ⊥
 
--- Some entries explain all replies before this message, and none explain its own and those before it. What entries hold is judged by
--- its reply, whenever that came: of a request in flight at this message the reply that comes later is known.
+-- The messages are good; some entries explain all replies before this one, and none explain its own and those before it. What entries
+-- hold is judged by its reply, whenever that came: of a request in flight at this message the reply that comes later is known.
 pub record IsStop (c : List Message) (first : TreeState) (at : ℕ) : Type 0 where
+  pub good : AreGood c
   pub within : at < length c
   pub before : (es : List Entry) × Explains c first at es
   pub none : (es : List Entry) → Explains c first (at + 1) es → ⊥
@@ -40,18 +43,18 @@ pub record ComesTo (c : List Message) (first : TreeState) (at : ℕ) (es : List 
   pub answered : IsAnsweredBy c asked at
   pub left_out : Contains (numbers es) asked → ⊥
 
--- from this tree the tree request at `asked`, which was answered, is refused with this code
+-- from this tree the tree request at `asked`, taken without a count as one that was answered, is refused with this code
 abbrev pub IsRefusedFrom : TreeState → List Message → (asked code : ℕ) → Type 0
 IsRefusedFrom tree c asked code = StepFails tree c (record { at = asked; wrote = None }) code
 
--- The request that this message answers is refused with this code after some entries that come to it. Others may go past it, unless no order
--- does.
+-- The request that this message answers is refused with this code after some entries that come to it. Others may go past it, unless no
+-- order does.
 abbrev pub IsRefusedWith : List Message → TreeState → (at code : ℕ) → Type 0
 IsRefusedWith c first at code =
     (es : List Entry) × (tree : TreeState) × (asked : ℕ) × ComesTo c first at es tree asked × IsRefusedFrom tree c asked code
 
--- These are all codes with which it is refused, after whatever entries come to it. Where there is one alone, it is refused with that one in
--- every order that explains all before.
+-- These are all codes with which it is refused, after whatever entries come to it, each once. What one code alone says stands in the laws.
 pub record AreCodesAt (c : List Message) (first : TreeState) (at : ℕ) (codes : List ℕ) : Type 0 where
+  pub rising : IsStrictlyIncreasing codes
   pub each : (code : ℕ) → Contains codes code → IsRefusedWith c first at code
   pub complete : (code : ℕ) → IsRefusedWith c first at code → Contains codes code
