@@ -125,12 +125,34 @@ verdict() {
     fi
 }
 
+# A capture is watched as this verdict says: the fault, or as many messages as are legal.
+watched_as() {
+    local messages="${1#legal: }" seen
+    seen="$("$program" watch --capture - < "$capture")"
+    case "$1" in
+        fault:*) [ "$seen" = "$1" ] ;;
+        legal:*) [ "$seen" = "good: ${messages%% messages*} messages" ] ;;
+        *) [[ "$seen" == good:* ]] ;;
+    esac || { echo "recorder: watched: $seen" >&2; return 1; }
+}
+
 # The verdict on a session, which is printed with its name, is like a pattern.
 judged() {
     local found
     found="$(verdict)"
     echo "$1$by: $found"
-    [[ "$found" == $2 ]]
+    [[ "$found" == $2 ]] && watched_as "$found"
+}
+
+# Watches the capture while it is recorded.
+watch_on() {
+    tail --pid="${servers[-1]}" -s 0.1 -c +1 -f "$capture" 2> /dev/null | "$program" watch --capture - > "$work/watched" &
+    watcher=$!
+}
+
+# The watch came to its end, with a line like this.
+has_watched() {
+    timeout 20 tail -s 0.1 --pid="$watcher" -f /dev/null && grep -q "^$1\$" "$work/watched"
 }
 
 # The verdict is legal, and some hundred messages were recorded.
@@ -822,6 +844,19 @@ kill -TERM "${servers[-1]}"
 check "signalled: ends" ended_server
 check "signalled: as the server ends" ends 0 "$unanswered\$"
 ! is_mounted || timeout 20 umount -l "$mnt"
+
+# Streams that are watched while they are recorded: to their end, and to a fault that is told before the server ends.
+own watched --
+watch_on
+check "watched: serves" work_in_mount
+check "watched: is unmounted" stop
+check "watched: is good" has_watched "good: [1-9][0-9]* messages"
+own told --keep-refused -- --answer-twice name
+watch_on
+timeout 20 sh -c "echo text > '$mnt/name'; cat '$mnt/name'" > "$work/seen" 2>&1
+check "told: the fault, while the server runs" has_watched "fault: message [0-9]*: code 31: .*"
+check "told: is mounted still" is_mounted
+check "told: is unmounted" stop
 
 # Servers that are tried: what is told, by which status it ends, and that nothing is left of it.
 trying() {
