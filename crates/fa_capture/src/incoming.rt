@@ -1,6 +1,6 @@
 //! A capture that is read as it comes, and is not kept.
 
-ghost use Rattle.std.specs.Prelude.{◌≡◌, ◌≢◌, ◌≤◌, ◌⊎◌, ◌++◌, ℕ, List, [], None, Some, IfOk, IfSome, IsNone};
+ghost use Rattle.std.specs.Prelude.{◌≡◌, ◌≢◌, ◌≤◌, ◌⊎◌, ◌++◌, ℕ, List, [], None, Some, IfOk, IfSome, IsNone, OnOk, drop, vec_len};
 ghost use Rattle.fa_capture.specs.declared.codes.TheConstants.{NO_MAGIC, CUT_OFF};
 ghost use Rattle.fa_capture.specs.declared.limits.TheConstants.{MAX_MESSAGES};
 ghost use Rattle.fa_capture.specs.Captures.{records_left};
@@ -81,8 +81,9 @@ impl Incoming {
     ///
     /// # Cost
     ///
-    /// Time linear in the piece and in the bytes of the records that it completes. Memory in `arena` for these records, and for itself
-    /// as much as the record that is begun, of at most [`MAX_MESSAGE_BYTES`](crate::limits::MAX_MESSAGE_BYTES), and the piece.
+    /// Over all pieces, time linear in their bytes and their number: a record that comes in several pieces is not copied anew with
+    /// each. Memory in `arena` for the records that the piece completes, and for itself for the record that is begun, of at most
+    /// [`MAX_MESSAGE_BYTES`](crate::limits::MAX_MESSAGE_BYTES), and the piece, which grows by doubling.
     pub fn take<'a>(&mut self, piece: &[u8], arena: &'a Bump) -> Result<Arrived<'a>, AllocError>
         ensures come { IfOk result (λ arrived. (bytes : List ℕ) (rs : List Recorded) → HasCome bytes rs self.old →
             HasCome (bytes ++ piece.now) (rs ++ records_left arrived.packets) self.new) }
@@ -100,7 +101,7 @@ impl Incoming {
         };
         let whole = whole_records(walk, arena)?;
         let read = self.kept.len() - whole.left;
-        self.kept = self.kept.split_off(read)?;
+        give_up(&mut self.kept, read)?;
         self.so_far = Some(whole.so_far);
         self.code = whole.code;
         Ok(Arrived {
@@ -131,6 +132,17 @@ struct WholeRecords<'a> {
     code: Option<u16>,
     /// How many bytes stand behind them.
     left: usize,
+}
+
+/// Keeps what stands behind so many bytes, which is copied unless they are none.
+fn give_up(kept: &mut Vec<u8>, read: usize) -> Result<(), AllocError>
+    requires { read ≤ vec_len kept.old }
+    ensures { OnOk result (kept.new.items ≡ drop read kept.old.items) }
+{
+    if read > 0 {
+        *kept = kept.split_off(read)?;
+    }
+    Ok(())
 }
 
 /// The walk over these bytes, which stand behind the records that another one read; over all of them where there was none. None where

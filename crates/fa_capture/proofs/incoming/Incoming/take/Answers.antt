@@ -50,18 +50,18 @@ have_here c bytes rs come =
     (piece_behind bytes c.args.piece.now rs c.self.inside.kept.items c.deref.result.now c.self.inside.so_far (c.deref.ensures.value ∙ c.in_ok-extend_from_slice.ensures.items) old.stands)
 
 -- what stands behind the whole records is kept
-kept_here : (c : After-decided_fault) → c.in_ok-self-inside.field-0.items ≡ c.in_ok-whole.ensures.after.left
+kept_here : (c : After-decided_fault) → c.give_up.new.kept.items ≡ c.in_ok-whole.ensures.after.left
 kept_here c =
     let kept : List ℕ = c.extend_from_slice.new.self.items in
     let on = c.in_ok-whole.ensures.on in
     let left : List ℕ = c.in_ok-whole.ensures.after.left in
     let all : length kept ≡ c.len.result = omega (arith, ap length c.deref.ensures.value, c.deref.ensures.len, c.len.ensures) in
-    c.in_ok-self-inside.ensures.tail ∙ ap (λ (n : ℕ). drop n kept) (omega (arith, all, c.in_ok-whole.ensures.left))
+    c.in_ok-give_up.ensures ∙ ap (λ (n : ℕ). drop n kept) (omega (arith, all, c.in_ok-whole.ensures.left))
     ∙ left_behind kept c.in-Some.ensures.left.0 on.over left c.in-Some.walk.left (sym c.deref.ensures.value ∙ c.in-Some.ensures.left.1) on.left
 
 pub returns-clause-come : goal.returns-clause-come
 returns-clause-come c bytes rs come =
-    come_behind (bytes ++ c.args.piece.now) rs c.in-Some.walk c.in_ok-whole.whole c.in_ok-whole.ensures (have_here c bytes rs come) c.in_ok-self-inside.field-0.items (kept_here c)
+    come_behind (bytes ++ c.args.piece.now) rs c.in-Some.walk c.in_ok-whole.whole c.in_ok-whole.ensures (have_here c bytes rs come) c.give_up.new.kept.items (kept_here c)
 
 pub returns-clause-decided : goal.returns-clause-decided
 returns-clause-decided c bytes rs come =
