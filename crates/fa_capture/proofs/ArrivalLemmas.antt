@@ -19,7 +19,8 @@ use Rattle.fa_capture.specs.Reading.{HasMagic, IsRecording}
 use Rattle.fa_capture.specs.Records.{AreSpelledBy, SpelledRecords}
 use Rattle.fa_capture.specs.parts.Arrivals.{end_fault, AreWholeRecords}
 use Rattle.fa_capture.specs.parts.RecordsLaws.{records_one}
-use Rattle.fa_capture.specs.parts.Walks.{PlainWalk, HaveRead, StandsBehind, IsMagicBegun, walk_behind, fault_at}
+use Rattle.fa_capture.specs.Walks.{PlainWalk, HaveRead, HaveReadIfAny}
+use Rattle.fa_capture.specs.parts.Walks.{IsMagicBegun, walk_behind, fault_at, walk_if_any}
 use Rattle.fa_capture.proofs.PieceLemmas.{reading_decides, other_decides, whole_is_open, cut_is_open, begun_is_open}
 use Rattle.fa_capture.proofs.ReadingLemmas.{has_magic, reads_without}
 
@@ -37,7 +38,7 @@ pub records_are : (format : Format) (bytes : List ℕ) (rs : List Recorded) (rec
 records_are format bytes rs records are = ∥∥₁_elim records.1 (recorded_set records.0 rs) (λ held. records_one format bytes records.0 rs held are)
 
 -- one piece more
-pub piece_behind : (bytes piece : List ℕ) (rs : List Recorded) (kept more : List ℕ) (so_far : Option Progress) → more ≡ kept ++ piece → StandsBehind bytes rs kept so_far → StandsBehind (bytes ++ piece) rs more so_far
+pub piece_behind : (bytes piece : List ℕ) (rs : List Recorded) (kept more : List ℕ) (so_far : Option Progress) → more ≡ kept ++ piece → HaveReadIfAny bytes rs kept (walk_if_any so_far kept) → HaveReadIfAny (bytes ++ piece) rs more (walk_if_any so_far more)
 piece_behind bytes piece rs kept more None is (all, none) = (ap (λ (x : List ℕ). x ++ piece) all ∙ sym is, none)
 piece_behind bytes piece rs kept more (Some so_far) is have = record {
   framed = have.framed;
@@ -58,16 +59,16 @@ left_behind kept front over left walk is on =
 
 -- what came before it, and with it, is no magic
 pub come_without : (bytes piece : List ℕ) (rs records : List Recorded) (kept more : List ℕ) (so_far : Option Progress) (code : Option ℕ) → so_far ≡ None → more ≡ kept ++ piece → (HasMagic more → ⊥) → records ≡ []
-    → HasCome bytes rs (record { kept = kept; so_far = so_far; fault = end_fault so_far code }) → (bytes ++ piece ≡ more) × HasCome (bytes ++ piece) (rs ++ records) (record { kept = more; so_far = so_far; fault = end_fault so_far code })
+    → HasCome bytes rs (record { kept = kept; walk = walk_if_any so_far kept; fault = end_fault so_far code }) → (bytes ++ piece ≡ more) × HasCome (bytes ++ piece) (rs ++ records) (record { kept = more; walk = walk_if_any so_far more; fault = end_fault so_far code })
 come_without bytes piece rs records kept more (Some so_far) code none is without nothing come = absurd cc
 come_without bytes piece rs records kept more None code none is without nothing come =
-    let all : bytes ++ piece ≡ more = ap (λ (x : List ℕ). x ++ piece) come.stands.0 ∙ sym is in
-    let no_records : rs ++ records ≡ [] = ap (λ (x : List Recorded). x ++ records) come.stands.1 ∙ nothing in (
+    let all : bytes ++ piece ≡ more = ap (λ (x : List ℕ). x ++ piece) come.read.0 ∙ sym is in
+    let no_records : rs ++ records ≡ [] = ap (λ (x : List Recorded). x ++ records) come.read.1 ∙ nothing in (
       all,
       record {
         recording = subst (λ (x : List Recorded). IsRecording (bytes ++ piece) x (Some (record { whole = 0; code = NO_MAGIC }))) (sym no_records)
             (reads_without (bytes ++ piece) (λ has. without (subst HasMagic all has)));
-        stands = (all, no_records);
+        read = (all, no_records);
       },
     )
 
@@ -92,10 +93,10 @@ module _ (bytes : List ℕ) (rs : List Recorded) (walk : PlainWalk) (whole : Who
       let many : length (rs ++ are.on.more) ≡ whole.so_far.count = sym have_all.count_is ∙ ap (λ (w : PlainWalk). w.count) are.so_far in
       subst (λ (n : ℕ). IsRecording bytes (rs ++ are.on.more) (fault_at n whole.code)) many (are.fault bytes (rs ++ are.on.more) have_all)
 
-  pub come_behind : (kept : List ℕ) → kept ≡ are.after.left → HasCome bytes (rs ++ records_left whole.packets) (record { kept = kept; so_far = Some whole.so_far; fault = fault_at whole.so_far.count whole.code })
+  pub come_behind : (kept : List ℕ) → kept ≡ are.after.left → HasCome bytes (rs ++ records_left whole.packets) (record { kept = kept; walk = Some (walk_behind whole.so_far kept); fault = fault_at whole.so_far.count whole.code })
   come_behind kept is = record {
     recording = subst (λ (x : List Recorded). IsRecording bytes (rs ++ x) (fault_at whole.so_far.count whole.code)) (sym are.packets) recorded_all;
-    stands = subst (λ (x : List Recorded). HaveRead bytes (rs ++ x) (walk_behind whole.so_far kept)) (sym are.packets)
+    read = subst (λ (x : List Recorded). HaveRead bytes (rs ++ x) (walk_behind whole.so_far kept)) (sym are.packets)
         (subst (λ (x : List ℕ). HaveRead bytes (rs ++ are.on.more) (walk_behind whole.so_far x)) (sym is) (subst (HaveRead bytes (rs ++ are.on.more)) are.so_far have_all));
   }
 

@@ -9,7 +9,7 @@ use Rattle.fa_capture.specs.declared.format.Format.{Format}
 use Rattle.fa_capture.specs.Message.{Message, Recorded, without_times}
 use Rattle.fa_capture.specs.Framing.{record_spelling, capture_spelling, BeginsWith}
 use Rattle.fa_capture.specs.Reading.{IsInFormat, IsRecording, IsReading, IsFrontOf}
-use Rattle.fa_capture.specs.parts.Walks.{PlainWalk, HaveRead}
+use Rattle.fa_capture.specs.Walks.{PlainWalk, HaveRead}
 use Rattle.fa_capture.proofs.FramingLemmas.{Fits, same_records}
 use Rattle.fa_capture.proofs.ReadingLemmas.{IsSoFar, framed_fit, behind_magic, in_format, has_magic, same_format, one_recording, reads_whole, so_far_of, records_length, messages_on}
 use Rattle.fa_capture.proofs.ListLemmas.{get_last, get_of_front}

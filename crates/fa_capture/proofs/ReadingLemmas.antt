@@ -23,7 +23,7 @@ use Rattle.fa_capture.specs.declared.packet.Packet.{Packet}
 use Rattle.fa_capture.specs.Message.{Message, message, messages, Recorded, recorded, recordings, without_times}
 use Rattle.fa_capture.specs.Framing.{magic, direction_byte, time_spelling, IsTime, record_spelling, capture_spelling, counted_bytes, IsFramed, BeginsWith}
 use Rattle.fa_capture.specs.Reading.{IsInFormat, HasMagic, header_size, stated_length, record_checks, IsRecord, AreRecords, IsFault, IsRecording, IsReading, OneRecording, OneReading}
-use Rattle.fa_capture.specs.parts.Walks.{PlainWalk, HaveRead}
+use Rattle.fa_capture.specs.Walks.{PlainWalk, HaveRead}
 use Rattle.fa_capture.proofs.ChecksLemmas.{no_failure, one_failure}
 use Rattle.fa_capture.proofs.FramingLemmas.{Fits, one_format, same_records, next_record}
 

@@ -21,7 +21,8 @@ use Rattle.fa_capture.specs.Pieces.{IsDecided, IsOpen}
 use Rattle.fa_capture.proofs.PieceLemmas.{whole_is_open, cut_is_open, reading_decides}
 use Rattle.fa_capture.specs.Records.{AreSpelledBy, SpelledRecords, AreSpelled}
 use Rattle.fa_capture.specs.parts.RecordsLaws.{records_one, record_size}
-use Rattle.fa_capture.specs.parts.Walks.{PlainWalk, HaveRead, HasRead, ReadsOn, IsWithinLimits, IsAt, IsStop, IsReadTo, IsReadOn, walk_behind, walk_at, stop_fault, fault_behind}
+use Rattle.fa_capture.specs.Walks.{PlainWalk, HaveRead}
+use Rattle.fa_capture.specs.parts.Walks.{HasRead, ReadsOn, IsWithinLimits, IsAt, IsStop, IsReadTo, IsReadOn, walk_behind, walk_at, stop_fault, fault_behind}
 use Rattle.fa_capture.proofs.ReadingLemmas.{one_recording, has_magic, magic_or_not, none_framed, reads_without, records_length}
 use Rattle.fa_capture.proofs.ReadingThereLemmas.{reading_is_there}
 

@@ -12,6 +12,8 @@ pub mod Reading
 pub mod Records
 pub mod Captures
 pub mod Pieces
+-- how far the records of a capture were read
+pub mod Walks
 -- a capture that is read as it comes, and is not kept
 pub mod Incoming
 -- what a pull does to an input

@@ -2,7 +2,7 @@
 
 -- that bytes are the records of one list of messages
 pub mod RecordsLaws
--- a walk over the records of a capture
+-- a walk over the records of a capture, and where it stops
 pub mod Walks
 -- what a feed keeps of its pieces
 pub mod Fed

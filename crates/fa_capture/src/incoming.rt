@@ -9,7 +9,8 @@ ghost use Rattle.fa_capture.specs.Message.{Recorded};
 ghost use Rattle.fa_capture.specs.Pieces.{IsDecided, IsOpen};
 ghost use Rattle.fa_capture.specs.Reading.{HasMagic, IsRecording};
 ghost use Rattle.fa_capture.specs.parts.Arrivals.{AreWholeRecords};
-ghost use Rattle.fa_capture.specs.parts.Walks.{HaveRead, StandsBehind, IsMagicBegun, IsWithinLimitsIfAny, fault_at};
+ghost use Rattle.fa_capture.specs.Walks.{HaveRead, HaveReadIfAny};
+ghost use Rattle.fa_capture.specs.parts.Walks.{IsMagicBegun, IsWithinLimitsIfAny, fault_at, walk_if_any};
 
 use crate::codes;
 use crate::fault::CaptureFault;
@@ -149,7 +150,7 @@ fn give_up(kept: &mut Vec<u8>, read: usize) -> Result<(), AllocError>
 /// they begin with no magic.
 fn walk_over(kept: &[u8], so_far: Option<Progress>) -> Option<Walk<'_>>
     requires { IsWithinLimitsIfAny so_far }
-    ensures some { IfSome result (λ walk. (bytes : List ℕ) (rs : List Recorded) → StandsBehind bytes rs kept.now so_far → HaveRead bytes rs walk) }
+    ensures some { IfSome result (λ walk. (bytes : List ℕ) (rs : List Recorded) → HaveReadIfAny bytes rs kept.now (walk_if_any so_far kept.now) → HaveRead bytes rs walk) }
     ensures left { IfSome result (λ walk. (front : List ℕ) × (kept.now ≡ front ++ walk.left)) }
     ensures none { IsNone result → (so_far ≡ None) × (HasMagic kept.now → ⊥) }
 {

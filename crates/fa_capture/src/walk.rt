@@ -6,7 +6,8 @@ ghost use Rattle.fa_capture.specs.Checks.{FirstFailure};
 ghost use Rattle.fa_capture.specs.Message.{Recorded, recorded};
 ghost use Rattle.fa_capture.specs.Framing.{magic, time_spelling, IsTime};
 ghost use Rattle.fa_capture.specs.Reading.{HasMagic, IsRecording, IsRecord, header_size, record_checks};
-ghost use Rattle.fa_capture.specs.parts.Walks.{HaveRead, HasRead, ReadsOn, IsWithinLimits, walk_behind, IsAt, IsStop, walk_at, stop_fault, fault_at, fault_behind};
+ghost use Rattle.fa_capture.specs.Walks.{HaveRead};
+ghost use Rattle.fa_capture.specs.parts.Walks.{HasRead, ReadsOn, IsWithinLimits, walk_behind, IsAt, IsStop, walk_at, stop_fault, fault_at, fault_behind};
 ghost use Rattle.fa_capture.specs.declared.limits.TheConstants.{MAX_CAPTURE_BYTES, MAX_MESSAGES};
 
 use crate::codes;
@@ -73,7 +74,8 @@ pub(crate) struct Walk<'a> {
 }
 
 impl<'a> Model for Walk<'a> {
-    ghost use Rattle.fa_capture.specs.parts.Walks.{PlainWalk, IsWithinLimits};
+    ghost use Rattle.fa_capture.specs.Walks.{PlainWalk};
+    ghost use Rattle.fa_capture.specs.parts.Walks.{IsWithinLimits};
 
     ghost Value = { PlainWalk };
 

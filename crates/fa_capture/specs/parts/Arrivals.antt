@@ -9,7 +9,8 @@ use Rattle.fa_capture.specs.Incoming.{PlainIncoming}
 use Rattle.fa_capture.specs.Captures.{records_left}
 use Rattle.fa_capture.specs.Message.{Recorded}
 use Rattle.fa_capture.specs.Reading.{IsRecording}
-use Rattle.fa_capture.specs.parts.Walks.{PlainWalk, HaveRead, ReadsOn, IsWithinLimits, IsWithinLimitsIfAny, fault_at, fault_behind, walk_behind}
+use Rattle.fa_capture.specs.Walks.{PlainWalk, HaveRead}
+use Rattle.fa_capture.specs.parts.Walks.{ReadsOn, IsWithinLimits, IsWithinLimitsIfAny, fault_at, fault_behind, walk_behind, walk_if_any}
 
 -- the fault where nothing follows
 abbrev pub end_fault : Option Progress → Option ℕ → Option CaptureFault
@@ -17,7 +18,7 @@ end_fault None code = Some (record { whole = 0; code = NO_MAGIC })
 end_fault (Some so_far) code = fault_at so_far.count code
 
 abbrev pub incoming_shown : Inside → PlainIncoming
-incoming_shown s = record { kept = s.kept.items; so_far = s.so_far; fault = end_fault s.so_far s.code }
+incoming_shown s = record { kept = s.kept.items; walk = walk_if_any s.so_far s.kept.items; fault = end_fault s.so_far s.code }
 
 abbrev pub IsIncoming : Inside → Type 0
 IsIncoming s = IsWithinLimitsIfAny s.so_far

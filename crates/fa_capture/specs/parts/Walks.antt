@@ -1,29 +1,15 @@
 -- A walk over the records of a capture, and where it stopped.
-use Rattle.std.specs.Prelude.{◌≡◌, ℕ, ◌≤◌, List, [], ◌++◌, length, drop, All, Option, None, Some, option_map}
+use Rattle.std.specs.Prelude.{◌≡◌, ℕ, ◌≤◌, List, ◌++◌, length, drop, Option, None, Some, option_map}
 use Rattle.fa_capture.specs.declared.fault.CaptureFault.{CaptureFault}
 use Rattle.fa_capture.specs.declared.format.Format.{Format}
 use Rattle.fa_capture.specs.declared.limits.TheConstants.{MAX_MESSAGES, MAX_CAPTURE_BYTES}
 use Rattle.fa_capture.specs.declared.walk.Progress.{Progress}
 use Rattle.fa_capture.specs.declared.walk.Stop.{Stop}
-use Rattle.fa_capture.specs.Message.{Recorded, without_times}
-use Rattle.fa_capture.specs.Framing.{magic, IsTime, capture_spelling, counted_bytes, IsFramed}
+use Rattle.fa_capture.specs.Message.{Recorded}
+use Rattle.fa_capture.specs.Framing.{magic}
 use Rattle.fa_capture.specs.Reading.{HasMagic, IsRecording}
 use Rattle.fa_capture.specs.Records.{AreSpelledBy}
-
--- a walk over the records of a capture: its format, how many records were read, how many bytes count so far, and what is left
-pub record PlainWalk : Type 0 where
-  pub format : Format
-  pub count : ℕ
-  pub counted : ℕ
-  pub left : List ℕ
-
--- a walk over these bytes has read these records, which are within the limits
-pub record HaveRead (bytes : List ℕ) (rs : List Recorded) (walk : PlainWalk) : Type 0 where
-  pub framed : IsFramed (without_times rs)
-  pub times : All (λ r. IsTime walk.format r.time) rs
-  pub spelled : bytes ≡ capture_spelling walk.format rs ++ walk.left
-  pub count_is : walk.count ≡ length rs
-  pub counted_is : walk.counted ≡ counted_bytes (without_times rs)
+use Rattle.fa_capture.specs.Walks.{PlainWalk, HaveRead}
 
 -- the walk goes on from the one place to the other, over some records or none, which these bytes are
 pub record ReadsOn (old new : PlainWalk) : Type 0 where
@@ -94,7 +80,7 @@ abbrev pub IsWithinLimitsIfAny : Option Progress → Type 0
 IsWithinLimitsIfAny None = Unit {0}
 IsWithinLimitsIfAny (Some so_far) = IsWithinLimits so_far
 
--- These bytes stand behind the records that a walk which has come so far has read; without one they are all bytes, and no record was.
-abbrev pub StandsBehind : (bytes : List ℕ) → List Recorded → (kept : List ℕ) → Option Progress → Type 0
-StandsBehind bytes rs kept None = (bytes ≡ kept) × (rs ≡ [])
-StandsBehind bytes rs kept (Some so_far) = HaveRead bytes rs (walk_behind so_far kept)
+-- the walk that has come so far, if there is one, where these bytes are left
+abbrev pub walk_if_any : Option Progress → List ℕ → Option PlainWalk
+walk_if_any None left = None
+walk_if_any (Some so_far) left = Some (walk_behind so_far left)

@@ -1,7 +1,7 @@
 use Rattle.std.proofs.Common.{ap, sym, subst, ◌∙◌, List, ℕ}
 use Rattle.fa_capture.specs.declared.format.Format.{Format}
 use Rattle.fa_capture.specs.Records.{AreSpelledBy}
-use Rattle.fa_capture.specs.parts.Walks.{PlainWalk}
+use Rattle.fa_capture.specs.Walks.{PlainWalk}
 use Rattle.fa_capture.proofs.ArrivalLemmas.{records_are}
 use Rattle.fa_capture.proofs.incoming.whole_records.Goals as goal
 

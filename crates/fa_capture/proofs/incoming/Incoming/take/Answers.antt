@@ -6,7 +6,8 @@ use Rattle.fa_capture.specs.Message.{Recorded}
 use Rattle.fa_capture.specs.Incoming.{HasCome}
 use Rattle.fa_capture.specs.Reading.{HasMagic}
 use Rattle.fa_capture.specs.parts.Arrivals.{incoming_shown}
-use Rattle.fa_capture.specs.parts.Walks.{HaveRead, IsMagicBegun}
+use Rattle.fa_capture.specs.Walks.{HaveRead}
+use Rattle.fa_capture.specs.parts.Walks.{IsMagicBegun}
 use Rattle.fa_capture.proofs.ArrivalLemmas.{piece_behind, come_without, decided_without, open_without, come_behind, decided_behind, open_behind, left_behind}
 use Rattle.fa_capture.proofs.StopLemmas.{none_held, empty_records}
 use Rattle.fa_capture.proofs.incoming.Incoming.take.Goals as goal
@@ -47,7 +48,7 @@ have_here : (c : After-decided_fault) (bytes : List ℕ) (rs : List Recorded) �
 have_here c bytes rs come =
     let old = subst (HasCome bytes rs) (sym c.self.view_is) come in
     c.in-Some.ensures.some (bytes ++ c.args.piece.now) rs
-    (piece_behind bytes c.args.piece.now rs c.self.inside.kept.items c.deref.result.now c.self.inside.so_far (c.deref.ensures.value ∙ c.in_ok-extend_from_slice.ensures.items) old.stands)
+    (piece_behind bytes c.args.piece.now rs c.self.inside.kept.items c.deref.result.now c.self.inside.so_far (c.deref.ensures.value ∙ c.in_ok-extend_from_slice.ensures.items) old.read)
 
 -- what stands behind the whole records is kept
 kept_here : (c : After-decided_fault) → c.give_up.new.kept.items ≡ c.in_ok-whole.ensures.after.left

@@ -1,6 +1,7 @@
 use Rattle.std.proofs.Common.{ap, is_some, subst, sym}
 use Rattle.fa_capture.specs.Message.{recorded}
-use Rattle.fa_capture.specs.parts.Walks.{HaveRead, ReadsOn}
+use Rattle.fa_capture.specs.Walks.{HaveRead}
+use Rattle.fa_capture.specs.parts.Walks.{ReadsOn}
 use Rattle.fa_capture.proofs.StopLemmas.{reads_none, reads_one}
 use Rattle.fa_capture.proofs.walk.Walk.first_failure.Goals as goal
 

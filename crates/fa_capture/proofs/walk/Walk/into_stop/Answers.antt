@@ -1,5 +1,6 @@
 use Rattle.std.proofs.Common.{sym, subst, refl}
-use Rattle.fa_capture.specs.parts.Walks.{HasRead, HaveRead, walk_behind}
+use Rattle.fa_capture.specs.Walks.{HaveRead}
+use Rattle.fa_capture.specs.parts.Walks.{HasRead, walk_behind}
 use Rattle.fa_capture.proofs.StopLemmas.{left_within, some_read, stops}
 use Rattle.fa_capture.proofs.walk.Walk.into_stop.Goals as goal
 

@@ -2,7 +2,7 @@ use Rattle.std.proofs.Common.{sym, subst, ◌∙◌}
 use Rattle.std.proofs.lemmas.Bool.{eqb-true, eqb-false}
 use Rattle.std.proofs.lemmas.List.{nil_from_length}
 use Rattle.std.proofs.lemmas.Result.{err_from_is_err_and}
-use Rattle.fa_capture.specs.parts.Walks.{HaveRead}
+use Rattle.fa_capture.specs.Walks.{HaveRead}
 use Rattle.fa_capture.proofs.ReadingLemmas.{read_whole, read_to_fault}
 use Rattle.fa_capture.proofs.walk.Walk.next.Goals as goal
 

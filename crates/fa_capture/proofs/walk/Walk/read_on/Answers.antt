@@ -1,5 +1,5 @@
 use Rattle.std.proofs.Common.{ap, sym, ◌∙◌, ◌++◌, List, ℕ}
-use Rattle.fa_capture.specs.parts.Walks.{PlainWalk}
+use Rattle.fa_capture.specs.Walks.{PlainWalk}
 use Rattle.fa_capture.proofs.ArrivalLemmas.{over_there}
 use Rattle.fa_capture.proofs.walk.Walk.read_on.Goals as goal
 
