@@ -15,7 +15,7 @@ use Rattle.fa_bodies.specs.FlagBits.{atomic_o_trunc}
 use Rattle.fa_bodies.specs.Requests.{PlainRequest}
 use Rattle.fa_bodies.specs.Replies.{PlainReply, IsReply}
 use Rattle.fa_bodies.proofs.CallerLemmas.{request_is_one, reply_is_one}
-use Rattle.fa_session.specs.Allowed.{session_checks}
+use Rattle.fa_session.specs.Allowed.{session_checks, IsAllowed}
 use Rattle.fa_session.specs.Answers.{IsRequestMessage}
 use Rattle.fa_session.specs.Events.{PlainEvent, IsEvent}
 use Rattle.fa_session.specs.Events.PlainEvent.{Asked, Answered, Notice}
@@ -36,7 +36,7 @@ use Rattle.fa_ledger.specs.Plain.{PlainLedger}
 use Rattle.fa_ledger.specs.Shows.{ShowsEvents, Shows, IsNodeOf, place_in}
 use Rattle.fa_ledger.specs.declared.listings.Place.{Place}
 use Rattle.fa_ledger.specs.parts.ListingParts.{place_of, listed_shown}
-use Rattle.fa_ledger.specs.Refusals.{IsNext, IsRefusal, IsMoreKept}
+use Rattle.fa_ledger.specs.Refusals.{IsNext, IsRefusal, IsMoreKept, IsRefusedWith}
 use Rattle.fa_ledger.specs.parts.TableParts.{asked_checks, IsAskedRefusal, IsAnsweredRefusal, IsLedgerRefusal}
 use Rattle.fa_ledger.specs.parts.BookParts.{BooksShow, Stands, AreSame}
 use Rattle.fa_ledger.specs.parts.View.{by_id, ledger_shown}
@@ -134,8 +134,8 @@ answered_hold c m at asked r reply is may =
     )
 
 pub answered_fail : (c : List Message) (m : Message) (at asked : ℕ) (r : PlainRequest) (reply : PlainReply) (code : ℕ) → IsEvent c m (Answered at asked r reply)
-    → IsAnsweredRefusal [] at asked r reply (Refused code) → FirstFailure (ledger_checks c m) code
-answered_fail c m at asked r reply code is fails =
+    → (Wanted : Type 0) → IsAnsweredRefusal r reply Wanted (Refused code) → FirstFailure (ledger_checks c m) code
+answered_fail c m at asked r reply code is Wanted fails =
     subst (λ (d : Direction). FirstFailure (ledger_checks_by d c m) code) (sym is.1.reply.1.0)
     (inl ((λ each. fails.1 (each asked r reply is.1 is.2)), fails.0))
 
@@ -183,15 +183,17 @@ next_shows s t old c m e view next keeps shows counted =
       shown = shown_parts t (es ++ e ∷ []) (shows es stands) (omega (arith, counted, before, length-append es (e ∷ [])));
     }
 
+-- a message that the session allows, and these rules refuse
+pub refused_with : (c : List Message) (m : Message) (Wanted : List PlainEvent → Type 0) (es : List PlainEvent) (error : LedgerError) → AreEvents c es → IsAllowed c m
+    → IsLedgerRefusal c m (Wanted es) error → IsRefusedWith c m ((other : List PlainEvent) → AreEvents c other → Wanted other) error
+refused_with c m Wanted es (Refused code) are allowed refused = fails_behind (session_checks c m) (ledger_checks c m) code allowed refused
+refused_with c m Wanted es Memory are allowed why =
+    (hold_both (session_checks c m) (ledger_checks c m) allowed why.0, λ other too. subst Wanted (events_are_one c es other are too) why.1)
+
 pub next_refused : (s : Inside) (old : PlainLedger) (c : List Message) (m : Message) (e : PlainEvent) (error : LedgerError) → ledger_shown s ≡ old → IsNext c m old e
-    → ((es : List PlainEvent) → Stands c m es e s.books → IsLedgerRefusal c m es e error) → IsRefusal c m e error
-next_refused s old c m e (Refused code) view next refused =
-    fails_behind (session_checks c m) (ledger_checks c m) code next.allowed (refused next.shows.events (next_stands s old c m e view next))
-next_refused s old c m e Memory view next refused =
-    let why = refused next.shows.events (next_stands s old c m e view next) in (
-      hold_both (session_checks c m) (ledger_checks c m) next.allowed why.0,
-      λ es are. subst (λ x. IsMoreKept x e) (events_are_one c next.shows.events es next.shows.are are) why.1,
-    )
+    → ((es : List PlainEvent) → Stands c m es e s.books → IsLedgerRefusal c m (IsMoreKept es e) error) → IsRefusal c m e error
+next_refused s old c m e error view next refused =
+    refused_with c m (λ es. IsMoreKept es e) next.shows.events error next.shows.are next.allowed (refused next.shows.events (next_stands s old c m e view next))
 
 -- fields that have what they had show what they showed
 pub same_shown : (s t : Inside) → AreSame s.books t.books → t.messages ≡ s.messages → ledger_shown t ≡ ledger_shown s
@@ -214,15 +216,15 @@ nothing_shown s counted books = record {
 
 -- ---- refusals of the next message
 
-pub asked_refused : (c : List Message) (m : Message) (es : List PlainEvent) (at : ℕ) (r : PlainRequest) (error : LedgerError) → AreEvents c es → IsEvent c m (Asked at r) → IsAskedRefusal es r error
-    → IsLedgerRefusal c m es (Asked at r) error
-asked_refused c m es at r (Refused code) are is fails = asked_fail c m es at r code are is fails
-asked_refused c m es at r Memory are is why = (asked_hold c m es at r are is why.0, why.1)
+pub asked_refused : (c : List Message) (m : Message) (es : List PlainEvent) (at : ℕ) (r : PlainRequest) (Wanted : Type 0) (error : LedgerError) → AreEvents c es → IsEvent c m (Asked at r)
+    → IsAskedRefusal es r Wanted error → IsLedgerRefusal c m Wanted error
+asked_refused c m es at r Wanted (Refused code) are is fails = asked_fail c m es at r code are is fails
+asked_refused c m es at r Wanted Memory are is why = (asked_hold c m es at r are is why.0, why.1)
 
-pub answered_refused : (c : List Message) (m : Message) (es : List PlainEvent) (at asked : ℕ) (r : PlainRequest) (reply : PlainReply) (error : LedgerError) → IsEvent c m (Answered at asked r reply)
-    → IsAnsweredRefusal es at asked r reply error → IsLedgerRefusal c m es (Answered at asked r reply) error
-answered_refused c m es at asked r reply (Refused code) is fails = answered_fail c m at asked r reply code is fails
-answered_refused c m es at asked r reply Memory is why = (answered_hold c m at asked r reply is why.0, why.1)
+pub answered_refused : (c : List Message) (m : Message) (at asked : ℕ) (r : PlainRequest) (reply : PlainReply) (Wanted : Type 0) (error : LedgerError) → IsEvent c m (Answered at asked r reply)
+    → IsAnsweredRefusal r reply Wanted error → IsLedgerRefusal c m Wanted error
+answered_refused c m at asked r reply Wanted (Refused code) is fails = answered_fail c m at asked r reply code is Wanted fails
+answered_refused c m at asked r reply Wanted Memory is why = (answered_hold c m at asked r reply is why.0, why.1)
 
 -- ---- notifications
 

@@ -20,7 +20,7 @@ use Rattle.fa_ledger.specs.Names.{name_at, nodes_named}
 use Rattle.fa_ledger.specs.Keys.{key_eq}
 use Rattle.fa_ledger.specs.Handles.{is_closing, opening}
 use Rattle.fa_ledger.specs.Passing.{MayBeGiven}
-use Rattle.fa_ledger.specs.Refusals.{IsMoreKept}
+use Rattle.fa_ledger.specs.Refusals.{GivesMore}
 use Rattle.fa_ledger.specs.Standing.{OpensItsNode}
 use Rattle.fa_ledger.specs.parts.LiveParts.{LiveShows, Stands, OpeningsShow, opened_under}
 use Rattle.fa_ledger.specs.parts.TableParts.{NodesShow, KeysShow, IsUsed}
@@ -114,8 +114,8 @@ module _ (c : List Message) (m : Message) (es : List PlainEvent) (at asked : ℕ
     opening = openings_answered es at asked r reply old.opening.entries new.opening.entries event_place took stands.shown.opening;
   }
 
-  -- what opens a key anew is more to be kept
-  pub keys_more : IsTrue (opens_new old.tables.handles.opened.entries which) → IsMoreKept es (Answered at asked r reply)
+  -- what opens a key anew gives more
+  pub keys_more : IsTrue (opens_new old.tables.handles.opened.entries which) → GivesMore es at asked r reply
   keys_more new = opens_more es at asked r reply old.tables.handles.opened.entries which event_place stands.shown.keys opening_is new
 
 -- ---- notifications

@@ -32,7 +32,7 @@ use Rattle.fa_ledger.specs.Handles.{opening}
 use Rattle.fa_ledger.specs.Passing.{MayBeGiven}
 use Rattle.fa_ledger.specs.Calls.{PlainCall, PlainAnswer, IsNegotiatedFlag, OpensAnew, AreCallsOf}
 use Rattle.fa_ledger.specs.Shows.{IsNodeOf, IsKeyOf, ArePlaces}
-use Rattle.fa_ledger.specs.Refusals.{IsMoreKept}
+use Rattle.fa_ledger.specs.Refusals.{GivesMore, IsMoreKept}
 use Rattle.fa_ledger.specs.parts.Steps.{given_to, given_again, times_named, opened_with, opens_new, with_answer, IsOpenedBy, SettlesTruncation}
 use Rattle.fa_ledger.specs.parts.CallParts.{WaitsAt, waiting_of}
 use Rattle.fa_ledger.specs.parts.ListingParts.{place_of, noted, ListsNew, ListsStillIfAny, IsNotedBy}
@@ -152,9 +152,9 @@ module _ (c : List Message) (m : Message) (es : List PlainEvent) (at asked : ℕ
         calls = subst (AreCallsOf (here at)) (sym answered) (subst (λ n. AreCallsOf (here n) (with_answer old.calls asked o answer)) (sym place) calls);
       }
 
-  -- what opens a key anew is more to be kept
+  -- what opens a key anew gives more
   pub keys_more : (names : List NodeName) (which : Option (Key × OpenOut))
-      → IsPrepared c m es at asked r reply old names which → IsTrue (opens_new old.tables.handles.opened.entries which) → IsMoreKept es (Answered at asked r reply)
+      → IsPrepared c m es at asked r reply old names which → IsTrue (opens_new old.tables.handles.opened.entries which) → GivesMore es at asked r reply
   keys_more names which p new =
       let place = event_place p.stands in
       let shown = p.stands.shown in
@@ -163,14 +163,14 @@ module _ (c : List Message) (m : Message) (es : List PlainEvent) (at asked : ℕ
       opening_answered es at asked r reply p.waiting.node names (asked_name names which p) named ∙ sym p.opens in
       opens_more es at asked r reply old.tables.handles.opened.entries which place shown.keys opening_is new
 
-  -- and so is where a listing has its offsets
+  -- and where a listing has its offsets more is kept
   pub listed_more : (place : ℕ) (call : PlainCall) (waiting : WaitingCall) (listed : Option ListedOn)
       → Stands c m es (Answered at asked r reply) old → WaitsAt old.calls asked place call → waiting ≡ waiting_of call → ListsStillIfAny old.tables.handles.opened.entries waiting r.body reply listed → ListsNew old.listings.by_key.entries listed
       → IsMoreKept es (Answered at asked r reply)
   listed_more place call waiting None stands waits own lists new = absurd new
   listed_more place call waiting (Some l) stands waits own lists new =
-      inr (inr (inr (lists_on c m es at asked r reply stands.are stands.event old.calls stands.shown.calls place call waits old.tables.handles.opened.entries stands.shown.keys l
-      (subst (λ x. ListsStillIfAny old.tables.handles.opened.entries x r.body reply (Some l)) own lists) old.listings.by_key.entries stands.shown.places new)))
+      inr (lists_on c m es at asked r reply stands.are stands.event old.calls stands.shown.calls place call waits old.tables.handles.opened.entries stands.shown.keys l
+      (subst (λ x. ListsStillIfAny old.tables.handles.opened.entries x r.body reply (Some l)) own lists) old.listings.by_key.entries stands.shown.places new)
 
   -- no place that the books have is of this request
   pub listed_anew : Stands c m es (Answered at asked r reply) old
@@ -213,6 +213,6 @@ module _ (c : List Message) (m : Message) (es : List PlainEvent) (at asked : ℕ
   -- want of memory for an answer that may be noted
   pub answer_refused : (error : LedgerError) → Stands c m es (Answered at asked r reply) old
       → All MayBeGiven (nodes_given r.body reply)
-      → (error ≡ Memory) × ((b : List Message) (n : Message) (fs : List PlainEvent) → Stands b n fs (Answered at asked r reply) old → IsMoreKept fs (Answered at asked r reply)) → IsAnsweredRefusal es at asked r reply error
+      → (error ≡ Memory) × ((b : List Message) (n : Message) (fs : List PlainEvent) → Stands b n fs (Answered at asked r reply) old → IsMoreKept fs (Answered at asked r reply)) → IsAnsweredRefusal r reply (IsMoreKept es (Answered at asked r reply)) error
   answer_refused error stands may why =
-      subst (IsAnsweredRefusal es at asked r reply) (sym why.0) (may, why.1 c m es stands)
+      subst (IsAnsweredRefusal r reply (IsMoreKept es (Answered at asked r reply))) (sym why.0) (may, why.1 c m es stands)

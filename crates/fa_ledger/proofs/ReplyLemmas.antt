@@ -39,7 +39,7 @@ use Rattle.fa_ledger.specs.Passing.{MayBeGiven}
 use Rattle.fa_ledger.specs.Standing.{OpensItsNode}
 use Rattle.fa_ledger.specs.Calls.{IsNegotiatedFlag, OpensAnew}
 use Rattle.fa_ledger.specs.Shows.{IsNodeOf, IsKeyOf}
-use Rattle.fa_ledger.specs.Refusals.{GivesNew, ListsNodes, IsMoreKept}
+use Rattle.fa_ledger.specs.Refusals.{GivesNew, ListsNodes, GivesMore}
 use Rattle.fa_ledger.specs.parts.TableParts.{NodesShow, KeysShow}
 use Rattle.fa_ledger.specs.parts.Steps.{IsListedReply, created_with, opened_with, SettlesTruncation, given_again, given_to, times_named, count_left, opens_new, is_new, some_new, opened_again, IsOpenedBy}
 use Rattle.fa_ledger.proofs.NameLemmas.{not_root}
@@ -379,17 +379,17 @@ give_fits c m es at asked r reply known names are below event shown is node =
     let few : length es < 16777216 = omega (arith, below, are.counted) in
     omega (arith, long, few, reply_few c m at asked r reply event, left_within es node (lookup (nat_eq node) known) (shown node), given_within c es node are)
 
--- ---- what more is to be kept
+-- ---- what more is given
 
-pub names_more : (es : List PlainEvent) (at asked : ℕ) (r : PlainRequest) (reply : PlainReply) → IsListedReply reply × ((nodes_given r.body reply ≡ []) → ⊥) → IsMoreKept es (Answered at asked r reply)
+pub names_more : (es : List PlainEvent) (at asked : ℕ) (r : PlainRequest) (reply : PlainReply) → IsListedReply reply × ((nodes_given r.body reply ≡ []) → ⊥) → GivesMore es at asked r reply
 names_more es at asked r reply why = inr (inl (some_is_listed r reply why.0 why.1))
 
 pub nodes_more : (es : List PlainEvent) (at asked : ℕ) (r : PlainRequest) (reply : PlainReply) (known : List (ℕ × Lookups)) (names : List NodeName) → NodesShow es known
-    → names ≡ map (λ id. given_to id at (lookup (nat_eq id) known)) (nodes_given r.body reply) → IsTrue (some_new known names) → IsMoreKept es (Answered at asked r reply)
+    → names ≡ map (λ id. given_to id at (lookup (nat_eq id) known)) (nodes_given r.body reply) → IsTrue (some_new known names) → GivesMore es at asked r reply
 nodes_more es at asked r reply known names shown named new = inl (new_is_uncounted es r reply at known names shown named new)
 
 pub opens_more : (es : List PlainEvent) (at asked : ℕ) (r : PlainRequest) (reply : PlainReply) (opened : List (Key × Handle)) (which : Option (Key × OpenOut))
-    → at ≡ length es → KeysShow es opened → opening es (Answered at asked r reply) ≡ which → IsTrue (opens_new opened which) → IsMoreKept es (Answered at asked r reply)
+    → at ≡ length es → KeysShow es opened → opening es (Answered at asked r reply) ≡ which → IsTrue (opens_new opened which) → GivesMore es at asked r reply
 opens_more es at asked r reply opened which place shown opening_is new =
     let anew = opens_answered es at asked r reply opened place shown which opening_is (opens_new opened which) refl in
-    inr (inr (inl (subst (OpensAnew (es ++ Answered at asked r reply ∷ [])) (sym place) (anew.0 new))))
+    inr (inr (subst (OpensAnew (es ++ Answered at asked r reply ∷ [])) (sym place) (anew.0 new)))

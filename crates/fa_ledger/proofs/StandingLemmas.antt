@@ -3,27 +3,24 @@ use Rattle.std.proofs.Common.{◌≡◌, ℕ, ◌+◌, List, [], ◌∷◌, ◌+
 use Rattle.std.proofs.lemmas.List.{length-append}
 use Rattle.fa_capture.specs.Checks.{AllHold}
 use Rattle.fa_capture.specs.Message.{Message}
-use Rattle.fa_capture.proofs.CallerLemmas.{fails_behind, hold_both}
+use Rattle.fa_capture.proofs.CallerLemmas.{hold_both}
 use Rattle.fa_session.specs.Allowed.{session_checks}
 use Rattle.fa_session.specs.Events.{PlainEvent}
 use Rattle.fa_ledger.specs.declared.error.LedgerError.{LedgerError}
-use Rattle.fa_ledger.specs.declared.error.LedgerError.TheVariants.{Refused, Memory}
 use Rattle.fa_ledger.specs.declared.handles.Handle.{Handle}
 use Rattle.fa_ledger.specs.declared.key.Key.{Key}
 use Rattle.fa_ledger.specs.declared.name.NodeName.{NodeName}
 use Rattle.fa_ledger.specs.declared.nodes.Lookups.{Lookups}
 use Rattle.fa_ledger.specs.declared.standing.Standing.TheInside.{Inside}
 use Rattle.fa_ledger.specs.Passing.{ledger_checks, Passes}
-use Rattle.fa_ledger.specs.Refusals.{IsRefusal, IsMoreKept}
 use Rattle.fa_ledger.specs.Shows.{IsNodeOf}
-use Rattle.fa_ledger.specs.Standing.{PlainStanding, StandBehind, ShowsStanding, IsNextBehind}
+use Rattle.fa_ledger.specs.Standing.{PlainStanding, StandBehind, ShowsStanding, IsNextBehind, IsMoreStanding, IsStandingRefusal}
 use Rattle.fa_ledger.specs.parts.LiveParts.{LiveShows, Stands, AreSame}
 use Rattle.fa_ledger.specs.parts.StandingView.{standing_shown}
 use Rattle.fa_ledger.specs.parts.TableParts.{IsLedgerRefusal}
 use Rattle.fa_ledger.specs.parts.View.{by_id}
 use Rattle.fa_ledger.proofs.CallStepLemmas.{events_more}
-use Rattle.fa_ledger.proofs.EventLemmas.{events_are_one}
-use Rattle.fa_ledger.proofs.LedgerLemmas.{find_by_id, by_id_rises, same_by_id, good_more}
+use Rattle.fa_ledger.proofs.LedgerLemmas.{find_by_id, by_id_rises, same_by_id, good_more, refused_with}
 
 -- ---- what the fields show
 
@@ -88,8 +85,5 @@ module _ (s : Inside) (old : PlainStanding) (c : List Message) (m : Message) (e 
         shown = shown_parts t (es ++ e ∷ []) (shows es next_stands) (omega (arith, counted, before, length-append es (e ∷ [])));
       }
 
-  pub next_refused : (error : LedgerError) → ((es : List PlainEvent) → Stands c m es e s.live → IsLedgerRefusal c m es e error) → IsRefusal c m e error
-  next_refused (Refused code) refused = fails_behind (session_checks c m) (ledger_checks c m) code next.allowed (refused next.shows.events next_stands)
-  next_refused Memory refused =
-      let why = refused next.shows.events next_stands in
-      (hold_both (session_checks c m) (ledger_checks c m) next.allowed why.0, λ es are. subst (λ x. IsMoreKept x e) (events_are_one c next.shows.events es next.shows.are are) why.1)
+  pub next_refused : (error : LedgerError) → ((es : List PlainEvent) → Stands c m es e s.live → IsLedgerRefusal c m (IsMoreStanding es e) error) → IsStandingRefusal c m e error
+  next_refused error refused = refused_with c m (λ es. IsMoreStanding es e) next.shows.events error next.shows.are next.allowed (refused next.shows.events next_stands)

@@ -1,5 +1,5 @@
 -- Kinds of requests: which act on the tree, and which of those leave what is stored, the names and the files, as it is (this profile).
-use Rattle.std.specs.Prelude.{◌⊎◌, Option, None, IsSome}
+use Rattle.std.specs.Prelude.{◌⊎◌, None, IsSome}
 use Rattle.fa_bodies.specs.Requests.{PlainBody}
 use Rattle.fa_ledger.specs.declared.operation.Outcome.{Outcome}
 use Rattle.fa_ledger.specs.declared.operation.Outcome.TheVariants.{Fails}

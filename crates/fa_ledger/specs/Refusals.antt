@@ -49,16 +49,22 @@ pub record ListsOn (es : List PlainEvent) (asked : ℕ) (r : PlainRequest) (repl
   pub listed : Contains entries entry
   pub new : IsNeverReached es handle entry.off
 
--- More is to be kept after the event: a further call; a node that was not counted, the names of a listing's nodes, a key that
--- was not open, or, on a handle that is still open, an offset that no earlier answer on it had.
+-- The answer wants room for what it gives: a node that was not counted, the names of a listing's nodes, or a key that was not open.
+abbrev pub GivesMore : List PlainEvent → (at asked : ℕ) → PlainRequest → PlainReply → Type 0
+GivesMore es at asked r reply = GivesNew es r reply ⊎ (ListsNodes r reply ⊎ OpensAnew (es ++ Answered at asked r reply ∷ []) at)
+
+-- More is to be kept after the event: a further call; what an answer gives, or, on a handle that is still open, an offset that no earlier
+-- answer on it had.
 abbrev pub IsMoreKept : List PlainEvent → PlainEvent → Type 0
 IsMoreKept es (Asked at r) = IsTreeRequest r.body
-IsMoreKept es (Answered at asked r reply) =
-    GivesNew es r reply ⊎ (ListsNodes r reply ⊎ (OpensAnew (es ++ Answered at asked r reply ∷ []) at ⊎ ListsOn es asked r reply))
+IsMoreKept es (Answered at asked r reply) = GivesMore es at asked r reply ⊎ ListsOn es asked r reply
 IsMoreKept es (Notice at) = ⊥
 
--- The next message is refused with the code of the first check that it fails. Memory is wanted only for a message that
--- passes, where more is to be kept after it.
+-- The next message is refused with the code of the first check that it fails; or it passes, and memory was refused that this wants.
+abbrev pub IsRefusedWith : List Message → Message → (Wanted : Type 0) → LedgerError → Type 0
+IsRefusedWith before m Wanted (Refused code) = FirstFailure (message_checks before m) code
+IsRefusedWith before m Wanted Memory = Passes before m × Wanted
+
+-- A ledger wants memory only where more is to be kept after the message.
 abbrev pub IsRefusal : List Message → Message → PlainEvent → LedgerError → Type 0
-IsRefusal before m e (Refused code) = FirstFailure (message_checks before m) code
-IsRefusal before m e Memory = Passes before m × ((es : List PlainEvent) → AreEvents before es → IsMoreKept es e)
+IsRefusal before m e error = IsRefusedWith before m ((es : List PlainEvent) → AreEvents before es → IsMoreKept es e) error

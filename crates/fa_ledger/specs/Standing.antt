@@ -10,7 +10,8 @@ use Rattle.fa_bodies.specs.Requests.PlainBody.{Open, Opendir}
 use Rattle.fa_bodies.specs.Replies.{PlainReply}
 use Rattle.fa_session.specs.Allowed.{IsAllowed}
 use Rattle.fa_session.specs.Events.{PlainEvent, IsEvent}
-use Rattle.fa_session.specs.Events.PlainEvent.{Asked, Answered}
+use Rattle.fa_session.specs.Events.PlainEvent.{Asked, Answered, Notice}
+use Rattle.fa_ledger.specs.declared.error.LedgerError.{LedgerError}
 use Rattle.fa_ledger.specs.declared.handles.Handle.{Handle}
 use Rattle.fa_ledger.specs.declared.key.Key.{Key}
 use Rattle.fa_ledger.specs.declared.name.NodeName.{NodeName}
@@ -19,6 +20,7 @@ use Rattle.fa_ledger.specs.Events.{AreEvents}
 use Rattle.fa_ledger.specs.Names.{name_at}
 use Rattle.fa_ledger.specs.Keys.{key_eq}
 use Rattle.fa_ledger.specs.Passing.{AreGood}
+use Rattle.fa_ledger.specs.Refusals.{GivesMore, IsRefusedWith}
 use Rattle.fa_ledger.specs.Shows.{IsNodeOf, IsKeyOf}
 
 -- How many messages came; the nodes that are known but for the root, by rising ids; the keys that are open; and, by the numbers of their
@@ -61,6 +63,16 @@ pub record ShowsStanding (c : List Message) (s : PlainStanding) : Type 0 where
   pub events : List PlainEvent
   pub are : AreEvents c events
   pub shown : StandBehind events s
+
+-- More stands after the event: an OPEN or OPENDIR that waits, or what an answer gives.
+abbrev pub IsMoreStanding : List PlainEvent → PlainEvent → Type 0
+IsMoreStanding es (Asked at r) = OpensItsNode r.body
+IsMoreStanding es (Answered at asked r reply) = GivesMore es at asked r reply
+IsMoreStanding es (Notice at) = ⊥
+
+-- The next message is refused as by a ledger, but that memory is wanted only where more stands after it.
+abbrev pub IsStandingRefusal : List Message → Message → PlainEvent → LedgerError → Type 0
+IsStandingRefusal before m e error = IsRefusedWith before m ((es : List PlainEvent) → AreEvents before es → IsMoreStanding es e) error
 
 -- These stand behind these messages, and the event is what the session says of the next message.
 pub record IsNextBehind (c : List Message) (m : Message) (s : PlainStanding) (e : PlainEvent) : Type 0 where

@@ -70,7 +70,7 @@ impl<'a> Books<'a> {
         requires { StandBefore (event_shown event.now) self.old }
         ensures keeps { OnOk result (WhereStands (event_shown event.now) self.old (λ c m es. AllHold (ledger_checks c m))) }
         ensures shows { OnOk result (ShowNext (event_shown event.now) self.old self.new) }
-        ensures refused { IfErr result (λ error. WhereStands (event_shown event.now) self.old (λ c m es. IsLedgerRefusal c m es (event_shown event.now) error)) }
+        ensures refused { IfErr result (λ error. WhereStands (event_shown event.now) self.old (λ c m es. IsLedgerRefusal c m (IsMoreKept es (event_shown event.now)) error)) }
         ensures unchanged { OnErr result (AreSame self.old self.new) }
     {
         match event {
@@ -90,7 +90,7 @@ impl<'a> Books<'a> {
         requires { StandBefore (Asked at (request_shown message.now.request)) self.old }
         ensures keeps { OnOk result (WhereStands (Asked at (request_shown message.now.request)) self.old (λ c m es. AllHold (asked_checks es (request_shown message.now.request)))) }
         ensures shows { OnOk result (ShowNext (Asked at (request_shown message.now.request)) self.old self.new) }
-        ensures refused { IfErr result (λ error. WhereStands (Asked at (request_shown message.now.request)) self.old (λ c m es. IsAskedRefusal es (request_shown message.now.request) error)) }
+        ensures refused { IfErr result (λ error. WhereStands (Asked at (request_shown message.now.request)) self.old (λ c m es. IsAskedRefusal es (request_shown message.now.request) (IsTreeRequest (body_shown message.now.request.body)) error)) }
         ensures unchanged { OnErr result (AreSame self.old self.new) }
     {
         let request = &message.request;
@@ -118,7 +118,7 @@ impl<'a> Books<'a> {
         requires { StandBefore (Answered at asked (request_shown messages.now.to.request) (reply_shown messages.now.reply)) self.old }
         ensures allowed { OnOk result (All MayBeGiven (nodes_given (body_shown messages.now.to.request.body) (reply_shown messages.now.reply))) }
         ensures shows { OnOk result (ShowNext (Answered at asked (request_shown messages.now.to.request) (reply_shown messages.now.reply)) self.old self.new) }
-        ensures refused { IfErr result (λ error. WhereStands (Answered at asked (request_shown messages.now.to.request) (reply_shown messages.now.reply)) self.old (λ c m es. IsAnsweredRefusal es at asked (request_shown messages.now.to.request) (reply_shown messages.now.reply) error)) }
+        ensures refused { IfErr result (λ error. WhereStands (Answered at asked (request_shown messages.now.to.request) (reply_shown messages.now.reply)) self.old (λ c m es. IsAnsweredRefusal (request_shown messages.now.to.request) (reply_shown messages.now.reply) (IsMoreKept es (Answered at asked (request_shown messages.now.to.request) (reply_shown messages.now.reply))) error)) }
         ensures unchanged { OnErr result (AreSame self.old self.new) }
     {
         if !may_be_given(&messages.to.request.body, &messages.reply) {

@@ -9,10 +9,10 @@ ghost use Rattle.fa_bodies.specs.Replies.{reply_shown};
 ghost use Rattle.fa_session.specs.Events.{PlainEvent, event_shown};
 ghost use Rattle.fa_session.specs.Events.PlainEvent.{Asked, Answered};
 ghost use Rattle.fa_ledger.specs.Counts.{nodes_given, request_takes};
-ghost use Rattle.fa_ledger.specs.Kinds.{IsTreeRequest};
 ghost use Rattle.fa_ledger.specs.Names.{name_at};
 ghost use Rattle.fa_ledger.specs.Passing.{MayBeGiven, ledger_checks};
-ghost use Rattle.fa_ledger.specs.Refusals.{IsMoreKept};
+ghost use Rattle.fa_ledger.specs.Refusals.{GivesMore};
+ghost use Rattle.fa_ledger.specs.Standing.{OpensItsNode, IsMoreStanding};
 
 use crate::error::LedgerError;
 use crate::giving::{created, may_be_given, names_given, opened};
@@ -58,7 +58,7 @@ impl Live {
         requires { StandBefore (event_shown event.now) self.old }
         ensures keeps { OnOk result (WhereStands (event_shown event.now) self.old (λ c m es. AllHold (ledger_checks c m))) }
         ensures shows { OnOk result (ShowNext (event_shown event.now) self.old self.new) }
-        ensures refused { IfErr result (λ error. WhereStands (event_shown event.now) self.old (λ c m es. IsLedgerRefusal c m es (event_shown event.now) error)) }
+        ensures refused { IfErr result (λ error. WhereStands (event_shown event.now) self.old (λ c m es. IsLedgerRefusal c m (IsMoreStanding es (event_shown event.now)) error)) }
         ensures unchanged { OnErr result (AreSame self.old self.new) }
     {
         match event {
@@ -77,7 +77,7 @@ impl Live {
         requires { StandBefore (Asked at (request_shown request.now)) self.old }
         ensures keeps { OnOk result (WhereStands (Asked at (request_shown request.now)) self.old (λ c m es. AllHold (asked_checks es (request_shown request.now)))) }
         ensures shows { OnOk result (ShowNext (Asked at (request_shown request.now)) self.old self.new) }
-        ensures refused { IfErr result (λ error. WhereStands (Asked at (request_shown request.now)) self.old (λ c m es. IsAskedRefusal es (request_shown request.now) error)) }
+        ensures refused { IfErr result (λ error. WhereStands (Asked at (request_shown request.now)) self.old (λ c m es. IsAskedRefusal es (request_shown request.now) (OpensItsNode (body_shown request.now.body)) error)) }
         ensures unchanged { OnErr result (AreSame self.old self.new) }
     {
         match &request.body {
@@ -104,7 +104,7 @@ impl Live {
     ) -> Result<(), AllocError>
         requires { (c : List Message) × (m : Message) × (es : List PlainEvent) × Stands c m es (Asked at (request_shown request.now)) self.old × IsUsedIfAny es (request_shown request.now) self.old.tables.handles.opened.entries used × (request_takes (request_shown request.now) ≡ []) }
         ensures shows { OnOk result (WhereStands (Asked at (request_shown request.now)) self.old (λ c m es. name_at es request.now.node ≡ Some node → IsUsedIfAny es (request_shown request.now) self.old.tables.handles.opened.entries used → LiveShows (es ++ Asked at (request_shown request.now) ∷ []) self.new)) }
-        ensures wanted { OnErr result (IsTreeRequest (body_shown request.now.body)) }
+        ensures wanted { OnErr result (OpensItsNode (body_shown request.now.body)) }
         ensures unchanged { OnErr result (AreSame self.old self.new) }
     {
         if opens_its_node(&request.body) {
@@ -127,7 +127,7 @@ impl Live {
         requires { StandBefore (Answered at asked (request_shown messages.now.to.request) (reply_shown messages.now.reply)) self.old }
         ensures allowed { OnOk result (All MayBeGiven (nodes_given (body_shown messages.now.to.request.body) (reply_shown messages.now.reply))) }
         ensures shows { OnOk result (ShowNext (Answered at asked (request_shown messages.now.to.request) (reply_shown messages.now.reply)) self.old self.new) }
-        ensures refused { IfErr result (λ error. WhereStands (Answered at asked (request_shown messages.now.to.request) (reply_shown messages.now.reply)) self.old (λ c m es. IsAnsweredRefusal es at asked (request_shown messages.now.to.request) (reply_shown messages.now.reply) error)) }
+        ensures refused { IfErr result (λ error. WhereStands (Answered at asked (request_shown messages.now.to.request) (reply_shown messages.now.reply)) self.old (λ c m es. IsAnsweredRefusal (request_shown messages.now.to.request) (reply_shown messages.now.reply) (GivesMore es at asked (request_shown messages.now.to.request) (reply_shown messages.now.reply)) error)) }
         ensures unchanged { OnErr result (AreSame self.old self.new) }
     {
         if !may_be_given(&messages.to.request.body, &messages.reply) {
@@ -147,7 +147,7 @@ impl Live {
         requires stands { StandBefore (Answered at asked (request_shown messages.now.to.request) (reply_shown messages.now.reply)) self.old }
         requires allowed { All MayBeGiven (nodes_given (body_shown messages.now.to.request.body) (reply_shown messages.now.reply)) }
         ensures shows { OnOk result (ShowNext (Answered at asked (request_shown messages.now.to.request) (reply_shown messages.now.reply)) self.old self.new) }
-        ensures wanted { OnErr result (WhereStands (Answered at asked (request_shown messages.now.to.request) (reply_shown messages.now.reply)) self.old (λ c m es. IsMoreKept es (Answered at asked (request_shown messages.now.to.request) (reply_shown messages.now.reply)))) }
+        ensures wanted { OnErr result (WhereStands (Answered at asked (request_shown messages.now.to.request) (reply_shown messages.now.reply)) self.old (λ c m es. GivesMore es at asked (request_shown messages.now.to.request) (reply_shown messages.now.reply))) }
         ensures unchanged { OnErr result (AreSame self.old self.new) }
     {
         let body = &messages.to.request.body;

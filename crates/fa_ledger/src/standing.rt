@@ -4,8 +4,7 @@ ghost use Rattle.std.specs.Prelude.{◌≡◌, ◌∷◌, ◌++◌, [], List, le
 ghost use Rattle.fa_capture.specs.Message.{Message};
 ghost use Rattle.fa_session.specs.Events.{event_shown};
 ghost use Rattle.fa_ledger.specs.Passing.{Passes};
-ghost use Rattle.fa_ledger.specs.Refusals.{IsRefusal};
-ghost use Rattle.fa_ledger.specs.Standing.{ShowsStanding, IsNextBehind};
+ghost use Rattle.fa_ledger.specs.Standing.{ShowsStanding, IsNextBehind, IsStandingRefusal};
 
 use crate::error::LedgerError;
 use crate::live::Live;
@@ -72,7 +71,7 @@ impl Standing {
         requires { (c : List Message) × (m : Message) × IsNextBehind c m self.old (event_shown event.now) }
         ensures passes { OnOk result ((c : List Message) (m : Message) → IsNextBehind c m self.old (event_shown event.now) → Passes c m) }
         ensures shows { OnOk result ((c : List Message) (m : Message) → IsNextBehind c m self.old (event_shown event.now) → ShowsStanding (c ++ m ∷ []) self.new) }
-        ensures refused { IfErr result (λ error. (c : List Message) (m : Message) → IsNextBehind c m self.old (event_shown event.now) → IsRefusal c m (event_shown event.now) error) }
+        ensures refused { IfErr result (λ error. (c : List Message) (m : Message) → IsNextBehind c m self.old (event_shown event.now) → IsStandingRefusal c m (event_shown event.now) error) }
         ensures unchanged { OnErr result (self.new ≡ self.old) }
     {
         self.live.note(event)?;

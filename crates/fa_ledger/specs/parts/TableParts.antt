@@ -7,7 +7,6 @@ use Rattle.fa_capture.specs.Message.{Message}
 use Rattle.fa_bodies.specs.Requests.{PlainRequest}
 use Rattle.fa_bodies.specs.Replies.{PlainReply}
 use Rattle.fa_session.specs.Events.{PlainEvent}
-use Rattle.fa_session.specs.Events.PlainEvent.{Answered}
 use Rattle.fa_ledger.specs.declared.error.LedgerError.{LedgerError}
 use Rattle.fa_ledger.specs.declared.error.LedgerError.TheVariants.{Refused, Memory}
 use Rattle.fa_ledger.specs.declared.handles.Handle.{Handle}
@@ -18,10 +17,8 @@ use Rattle.fa_ledger.specs.declared.tables.Used.{Used}
 use Rattle.fa_ledger.specs.Counts.{nodes_given}
 use Rattle.fa_ledger.specs.Names.{name_at, nodes_named}
 use Rattle.fa_ledger.specs.Keys.{key_eq, handle_used, key_used}
-use Rattle.fa_ledger.specs.Kinds.{IsTreeRequest}
 use Rattle.fa_ledger.specs.Passing.{NamesKnown, MayBeGiven, asked_rules, ledger_checks}
 use Rattle.fa_ledger.specs.Shows.{IsNodeOf, IsOpenAs, IsKeyOf}
-use Rattle.fa_ledger.specs.Refusals.{IsMoreKept}
 
 -- what the tables of nodes and of keys show of these events
 abbrev pub NodesShow : List PlainEvent → List (ℕ × Lookups) → Type 0
@@ -59,20 +56,20 @@ abbrev pub asked_checks : List PlainEvent → PlainRequest → List (ℕ × Type
 asked_checks es r = checks_of (λ Such. Such es r) asked_rules
 
 -- why a request is refused
-abbrev pub IsAskedRefusal : List PlainEvent → PlainRequest → LedgerError → Type 0
-IsAskedRefusal es r (Refused code) = FirstFailure (asked_checks es r) code
-IsAskedRefusal es r Memory = AllHold (asked_checks es r) × IsTreeRequest r.body
+abbrev pub IsAskedRefusal : List PlainEvent → PlainRequest → (Wanted : Type 0) → LedgerError → Type 0
+IsAskedRefusal es r Wanted (Refused code) = FirstFailure (asked_checks es r) code
+IsAskedRefusal es r Wanted Memory = AllHold (asked_checks es r) × Wanted
 
 -- ---- answers
 
 -- why an answer is refused
-abbrev pub IsAnsweredRefusal : List PlainEvent → (at asked : ℕ) → PlainRequest → PlainReply → LedgerError → Type 0
-IsAnsweredRefusal es at asked r reply (Refused code) = (code ≡ NODE_ID_NOT_ALLOWED) × (All MayBeGiven (nodes_given r.body reply) → ⊥)
-IsAnsweredRefusal es at asked r reply Memory = All MayBeGiven (nodes_given r.body reply) × IsMoreKept es (Answered at asked r reply)
+abbrev pub IsAnsweredRefusal : PlainRequest → PlainReply → (Wanted : Type 0) → LedgerError → Type 0
+IsAnsweredRefusal r reply Wanted (Refused code) = (code ≡ NODE_ID_NOT_ALLOWED) × (All MayBeGiven (nodes_given r.body reply) → ⊥)
+IsAnsweredRefusal r reply Wanted Memory = All MayBeGiven (nodes_given r.body reply) × Wanted
 
 -- ---- events
 
 -- why an event is refused
-abbrev pub IsLedgerRefusal : List Message → Message → List PlainEvent → PlainEvent → LedgerError → Type 0
-IsLedgerRefusal c m es e (Refused code) = FirstFailure (ledger_checks c m) code
-IsLedgerRefusal c m es e Memory = AllHold (ledger_checks c m) × IsMoreKept es e
+abbrev pub IsLedgerRefusal : List Message → Message → (Wanted : Type 0) → LedgerError → Type 0
+IsLedgerRefusal c m Wanted (Refused code) = FirstFailure (ledger_checks c m) code
+IsLedgerRefusal c m Wanted Memory = AllHold (ledger_checks c m) × Wanted

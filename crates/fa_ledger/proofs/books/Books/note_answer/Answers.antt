@@ -1,4 +1,4 @@
-use Rattle.std.proofs.Common.{◌+◌, ◌≤◌, Some, List, length, sym, ap, subst, refl, ◌∙◌, ◌≡◌, nat_eq}
+use Rattle.std.proofs.Common.{◌+◌, ◌≤◌, Some, inl, List, length, sym, ap, subst, refl, ◌∙◌, ◌≡◌, nat_eq}
 use Rattle.std.specs.Prelude.{IsTrue}
 use Rattle.std.proofs.lemmas.Result.{err_from_is_err_and}
 use Rattle.std.specs.Map.{lookup}
@@ -15,7 +15,7 @@ use Rattle.fa_ledger.proofs.books.Books.note_answer.Goals as goal
 pub returns-in_err-given-clause-memory : goal.returns-in_err-given-clause-memory
 returns-in_err-given-clause-memory c =
     let p = err_from_is_err_and c.from_residual.result c.from_residual.ensures.1 in
-    rw p.1 (p.2, λ before m es stands. names_more es c.args.at c.args.asked (request_shown c.args.messages.now.to.request) (reply_shown c.args.messages.now.reply) c.in_err-given.ensures.wanted)
+    rw p.1 (p.2, λ before m es stands. inl (names_more es c.args.at c.args.asked (request_shown c.args.messages.now.to.request) (reply_shown c.args.messages.now.reply) c.in_err-given.ensures.wanted))
 
 pub returns-in_err-reserve-clause-memory : goal.returns-in_err-reserve-clause-memory
 returns-in_err-reserve-clause-memory c =
@@ -24,7 +24,7 @@ returns-in_err-reserve-clause-memory c =
     rw p.1 (
       p.2,
       λ before m es stands.
-          nodes_more es c.args.at c.args.asked (request_shown c.args.messages.now.to.request) (reply_shown c.args.messages.now.reply) c.args.self.now.tables.nodes.known.entries c.as_slice-names.result.now stands.shown.nodes named c.in_err-reserve.ensures.wanted,
+          inl (nodes_more es c.args.at c.args.asked (request_shown c.args.messages.now.to.request) (reply_shown c.args.messages.now.reply) c.args.self.now.tables.nodes.known.entries c.as_slice-names.result.now stands.shown.nodes named c.in_err-reserve.ensures.wanted),
     )
 
 pub returns-in_err-reserve-2-clause-memory : goal.returns-in_err-reserve-2-clause-memory
@@ -33,7 +33,7 @@ returns-in_err-reserve-2-clause-memory c =
     rw p.1 (
       p.2,
       λ before m es stands.
-          keys_more before m es c.args.at c.args.asked (request_shown c.args.messages.now.to.request) (reply_shown c.args.messages.now.reply) c.args.self.now c.as_slice-names.result.now c.opened-opened.result (record {
+          inl (keys_more before m es c.args.at c.args.asked (request_shown c.args.messages.now.to.request) (reply_shown c.args.messages.now.reply) c.args.self.now c.as_slice-names.result.now c.opened-opened.result (record {
             stands = stands;
             may = c.requires.allowed;
             waiting = c.args.waiting;
@@ -43,7 +43,7 @@ returns-in_err-reserve-2-clause-memory c =
             own = c.requires.waits.3;
             named = c.as_slice-names.ensures ∙ c.in_ok-given.ensures.named;
             opens = c.opened-opened.ensures;
-          }) c.in_err-reserve-2.ensures.wanted,
+          }) c.in_err-reserve-2.ensures.wanted),
     )
 
 pub give-requires-clause-room : goal.give-requires-clause-room

@@ -16,7 +16,7 @@ returns-in-Asked-clause-shows c = rw c.in-Asked.is c.note_request.ensures.shows
 pub returns-in-Asked-clause-refused : goal.returns-in-Asked-clause-refused
 returns-in-Asked-clause-refused c =
     rw c.in-Asked.is (err_also c.note_request.result _ _
-    (λ error why before m es stands. asked_refused before m es c.in-Asked.at (request_shown c.in-Asked.message.request) error stands.are stands.event (why before m es stands)) c.note_request.ensures.refused)
+    (λ error why before m es stands. asked_refused before m es c.in-Asked.at (request_shown c.in-Asked.message.request) _ error stands.are stands.event (why before m es stands)) c.note_request.ensures.refused)
 
 pub returns-in-Answered-clause-keeps : goal.returns-in-Answered-clause-keeps
 returns-in-Answered-clause-keeps c =
@@ -29,7 +29,7 @@ returns-in-Answered-clause-shows c = rw c.in-Answered.is c.note_reply.ensures.sh
 pub returns-in-Answered-clause-refused : goal.returns-in-Answered-clause-refused
 returns-in-Answered-clause-refused c =
     rw c.in-Answered.is (err_also c.note_reply.result _ _
-    (λ error why before m es stands. answered_refused before m es c.in-Answered.at c.in-Answered.asked (request_shown c.in-Answered.messages.to.request) (reply_shown c.in-Answered.messages.reply) error stands.event (why before m es stands)) c.note_reply.ensures.refused)
+    (λ error why before m es stands. answered_refused before m c.in-Answered.at c.in-Answered.asked (request_shown c.in-Answered.messages.to.request) (reply_shown c.in-Answered.messages.reply) _ error stands.event (why before m es stands)) c.note_reply.ensures.refused)
 
 pub returns-in-Notice-clause-keeps : goal.returns-in-Notice-clause-keeps
 returns-in-Notice-clause-keeps c = rw c.in-Notice.is (λ before m es stands. notice_hold before m c.in-Notice.at stands.event)
