@@ -14,7 +14,7 @@ use crate::judge::audit_capture;
 use crate::line::{order_fault_text, tree_fault_text, verdict_text};
 use crate::status::Status;
 use crate::verdict::AuditError;
-use fa_capture::{Broken, Feed, FeedError, Input, Output, Pull, ReadError, Stored, read_all};
+use fa_capture::{Broken, Feed, FeedError, Input, Output, PIECE, Pull, ReadError, SPARE_PULLS, Stored, read_all};
 use fa_check::Verdict;
 use std::alloc::{AllocError, AllocFailed, Global};
 use thiserror::Error;
@@ -26,12 +26,9 @@ pub const MAX_CAPTURE_INPUT_BYTES: usize = 402_653_184;
 /// How many bytes the input of a tree text or of an order text may have.
 pub const MAX_TEXT_INPUT_BYTES: usize = 268_435_456;
 
-/// How many bytes of a capture one pull asks for.
-const PIECE: usize = 65_536;
-
 /// How many pulls of a capture are made at most. A capture that no framing fault was told of has fewer bytes, so they come to an end
 /// unless some are interrupted.
-const MAX_PULLS: usize = MAX_CAPTURE_INPUT_BYTES + 65_536;
+const MAX_PULLS: usize = MAX_CAPTURE_INPUT_BYTES + SPARE_PULLS;
 
 /// Why no answer was told.
 #[derive(Clone, Copy, Debug, PartialEq, Eq, Hash, Error)]

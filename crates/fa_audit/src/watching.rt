@@ -47,7 +47,7 @@ fn tell_seen<W: Output>(alloc: Global, seen: Seen, out: &mut W) -> Result<u8, Ru
 }
 
 /// Watches a stream: reads a capture as it comes, and writes a line and a line feed by one put where its first fault was read, with at
-/// most [`PIECE`](fa_watch::PIECE) bytes behind it, or once it came to its end without one.
+/// most [`PIECE`](fa_capture::PIECE) bytes behind it, or once it came to its end without one.
 ///
 /// The line is `fault: message N: code C: TEXT`, as [`run`](crate::run) writes it, with the status 1, or `good: M messages` with the
 /// status 0. No order is judged, and no message is kept. No mark of the input or of the output is set at the call.

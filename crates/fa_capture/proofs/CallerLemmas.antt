@@ -8,6 +8,8 @@ pub use Rattle.fa_capture.proofs.ReadingLemmas.{one_reading_lem as one_reading}
 pub use Rattle.fa_capture.proofs.ReadingLemmas.{reads_without}
 -- where a framing fault is decided, what came is the capture of all that comes; how much comes before one is; and what follows
 pub use Rattle.fa_capture.proofs.PieceLemmas.{decided_capture, open_is_short, recording_is_short, records_stay}
+-- before anything came there is no magic, and no fault is decided
+pub use Rattle.fa_capture.proofs.PieceLemmas.{nothing_yet}
 -- two recordings of the same bytes agree
 pub use Rattle.fa_capture.proofs.ReadingLemmas.{one_recording}
 -- as many messages as records, and one record more

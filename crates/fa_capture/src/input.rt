@@ -51,11 +51,11 @@ pub trait Input {
 /// The greatest limit that [`read_all`] takes.
 pub const MAX_READ_LIMIT: usize = 402_653_184;
 
-/// How many bytes one pull asks for.
-const PIECE: usize = 65_536;
+/// How many bytes one pull asks for, where an input is read to its end.
+pub const PIECE: usize = 65_536;
 
-/// How many pulls [`read_all`] may make beyond one for each byte of its limit.
-const SPARE_PULLS: usize = 65_536;
+/// How many pulls may be made beyond one for each byte, where an input is read to its end: so many may be interrupted.
+pub const SPARE_PULLS: usize = 65_536;
 
 /// Why an input could not be read to its end.
 #[derive(Clone, Copy, Debug, PartialEq, Eq, Hash, Error)]
@@ -66,7 +66,7 @@ pub enum ReadError {
     /// More bytes came than the limit allows.
     #[error("the input is longer than its limit")]
     TooLong,
-    /// The end did not come in `limit + 65536` pulls.
+    /// The end did not come in so many pulls as the limit and [`SPARE_PULLS`] are.
     #[error("the input was interrupted too often")]
     Turns,
     /// Memory for the bytes was refused.
@@ -87,7 +87,7 @@ impl From<AllocError> for ReadError {
 
 /// All the bytes that an input has left.
 ///
-/// An interrupted pull is made again. No more than `limit + 65536` pulls are made. The limit is at
+/// An interrupted pull is made again. No more than `limit` and [`SPARE_PULLS`] pulls are made. The limit is at
 /// most [`MAX_READ_LIMIT`], and no mark of the reader is set at the call.
 ///
 /// # Errors
@@ -101,7 +101,7 @@ impl From<AllocError> for ReadError {
 ///
 /// # Cost
 ///
-/// Each pull asks for 65,536 bytes. Each byte is copied into the result once, and the result grows by
+/// Each pull asks for [`PIECE`] bytes. Each byte is copied into the result once, and the result grows by
 /// doubling: time is linear in the bytes and the pulls, memory in the bytes.
 pub fn read_all<R: Input>(alloc: Global, reader: &mut R, limit: usize) -> Result<Vec<u8>, ReadError>
     requires limit { limit ≤ MAX_READ_LIMIT }

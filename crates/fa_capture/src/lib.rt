@@ -31,7 +31,7 @@ pub use fault::CaptureFault;
 pub use feed::{Feed, FeedError, Stored};
 pub use format::Format;
 pub use incoming::{Arrived, Incoming};
-pub use input::{Input, MAX_READ_LIMIT, Pull, ReadError, read_all};
+pub use input::{Input, MAX_READ_LIMIT, PIECE, Pull, ReadError, SPARE_PULLS, read_all};
 pub use migration::{MigrateError, migrate};
 pub use output::{Broken, Output};
 pub use packet::{Direction, Packet};

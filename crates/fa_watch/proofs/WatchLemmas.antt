@@ -4,13 +4,9 @@ use Rattle.std.specs.Prelude.{◌||◌}
 use Rattle.std.specs.Io.KnownBytes.{Consumes, Keeps, IsAtEnd}
 use Rattle.std.proofs.Math.Bool.{or-false, or-true}
 use Rattle.std.proofs.lemmas.Bool.{true≢false}
-use Rattle.std.proofs.lemmas.List.{append-nil, length-append, nil_from_length}
-use Rattle.std.specs.List.{flat_map}
-use Rattle.fa_capture.specs.declared.format.Format.TheVariants.{Plain}
-use Rattle.fa_capture.specs.Framing.{magic, record_spelling}
-use Rattle.fa_capture.specs.Pieces.{IsOpen}
+use Rattle.std.proofs.lemmas.List.{append-nil, length-append}
 use Rattle.fa_capture.specs.Message.{without_times}
-use Rattle.fa_capture.proofs.CallerLemmas.{recording_is_short}
+use Rattle.fa_capture.proofs.CallerLemmas.{recording_is_short, nothing_yet}
 use Rattle.fa_session.specs.Plain.{PlainSession}
 use Rattle.fa_watch.specs.declared.stream.Stream.{Stream}
 use Rattle.fa_watch.specs.declared.watching.Seen.{Seen}
@@ -97,13 +93,6 @@ module _ (first now : Option (List ℕ)) (stream : Stream) (session : PlainSessi
 
 -- ---- from one generation to the next
 
--- no fault is decided before anything came: a magic may come
-nothing_decided : IsOpen []
-nothing_decided fault decided =
-    let spelled : List ℕ = flat_map (record_spelling Plain) decided.records in
-    let (left, some, all, fails) = (decided.stays (magic Plain)).ended.2 Plain ([], sym (append-nil (magic Plain))) in
-    some (nil_from_length left (omega (arith, ap length all, length-append (magic Plain ++ spelled) left, length-append (magic Plain) spelled)))
-
 -- nothing was read
 pub nothing_so_far : (first : Option (List ℕ)) (stream : Stream) (session : PlainSession) (failed interrupted : Bool) → HasBeen [] [] stream session → failed ≡ false → IsSoFar first first stream session failed interrupted 0
 nothing_so_far first stream session failed interrupted been unfailed = record {
@@ -111,7 +100,7 @@ nothing_so_far first stream session failed interrupted been unfailed = record {
   rs = [];
   read = consumes_nothing first;
   been = been;
-  opens = nothing_decided;
+  opens = nothing_yet.1;
   short = omega arith;
   unfailed = unfailed;
   counted = λ calm. omega arith;

@@ -5,8 +5,8 @@ use Rattle.fa_capture.specs.Message.{Message}
 use Rattle.fa_capture.specs.Pieces.{IsOpen}
 use Rattle.fa_capture.specs.Reading.{IsReading}
 use Rattle.fa_capture.specs.declared.fault.CaptureFault.{CaptureFault}
+use Rattle.fa_capture.specs.declared.input.TheConstants.{PIECE}
 use Rattle.fa_ledger.specs.Passing.{AreGood, IsGoodCapture, IsFirstFault}
-use Rattle.fa_watch.specs.declared.watching.TheConstants.{PIECE}
 use Rattle.fa_watch.specs.declared.watching.Seen.{Seen}
 use Rattle.fa_watch.specs.declared.watching.Seen.TheVariants.{Good, Fault}
 

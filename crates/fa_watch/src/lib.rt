@@ -9,4 +9,4 @@ mod stream;
 mod watching;
 
 pub use message::MessageError;
-pub use watching::{MAX_PULLS, PIECE, Seen, WatchError, watch};
+pub use watching::{MAX_PULLS, Seen, WatchError, watch};

@@ -6,7 +6,7 @@ ghost use Rattle.fa_watch.specs.parts.Watching.{IsSoFar};
 
 use crate::stream::Stream;
 use bumpalo::Bump;
-use fa_capture::{Input, MAX_READ_LIMIT, Pull};
+use fa_capture::{Input, MAX_READ_LIMIT, PIECE, Pull, SPARE_PULLS};
 use fa_session::{Parked, Session};
 use std::alloc::{AllocError, Global};
 use thiserror::Error;
@@ -43,12 +43,9 @@ impl From<AllocError> for WatchError {
     }
 }
 
-/// How many bytes one pull asks for.
-pub const PIECE: usize = 65_536;
-
 /// How many pulls are made at most. A capture without a framing fault has fewer bytes, so they come to an end unless some are
 /// interrupted.
-pub const MAX_PULLS: usize = MAX_READ_LIMIT + 65_536;
+pub const MAX_PULLS: usize = MAX_READ_LIMIT + SPARE_PULLS;
 
 /// How many bytes are read at least before the outstanding requests are copied, so that all others can go.
 const GENERATION: usize = 1_048_576;

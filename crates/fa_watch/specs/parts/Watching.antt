@@ -3,7 +3,7 @@ use Rattle.std.specs.Prelude.{◌≡◌, ℕ, ◌+◌, ◌<◌, ◌≤◌, Bool,
 use Rattle.std.specs.Io.KnownBytes.{Consumes}
 use Rattle.fa_capture.specs.Message.{Recorded}
 use Rattle.fa_capture.specs.Pieces.{IsOpen}
-use Rattle.fa_capture.specs.declared.input.TheConstants.{MAX_READ_LIMIT}
+use Rattle.fa_capture.specs.declared.input.TheConstants.{MAX_READ_LIMIT, SPARE_PULLS}
 use Rattle.fa_session.specs.Plain.{PlainSession}
 use Rattle.fa_watch.specs.declared.stream.Stream.{Stream}
 use Rattle.fa_watch.specs.parts.Streams.{HasBeen}
@@ -15,6 +15,6 @@ pub record IsSoFar (old new : Option (List ℕ)) (stream : Stream) (session : Pl
   pub read : Consumes old new bytes
   pub been : HasBeen bytes rs stream session
   pub opens : IsOpen bytes
-  pub short : length bytes < MAX_READ_LIMIT + 65536
+  pub short : length bytes < MAX_READ_LIMIT + SPARE_PULLS
   pub unfailed : failed ≡ false
   pub counted : interrupted ≡ false → pulls ≤ length bytes
