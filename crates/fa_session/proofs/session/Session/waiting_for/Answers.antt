@@ -1,8 +1,7 @@
-use Rattle.std.proofs.Common.{Bor, ℕ, Option, Some, ap, ◌∙◌, sym}
+use Rattle.std.proofs.Common.{Bor, ℕ, Some, ap, ◌∙◌, sym}
 use Rattle.std.specs.Option.{option_map}
 use Rattle.fa_bodies.specs.Requests.{PlainRequest}
 use Rattle.fa_session.specs.declared.waiting.Waiting.{Waiting}
-use Rattle.fa_session.specs.declared.event.RequestMessage.{RequestMessage}
 use Rattle.fa_session.specs.Plain.{PlainSession, PlainWaiting}
 use Rattle.fa_session.specs.parts.Steps.{waiting_for}
 use Rattle.fa_session.specs.parts.View.{waiting_shown}
