@@ -14,7 +14,9 @@ use crate::judge::audit_capture;
 use crate::line::{order_fault_text, tree_fault_text, verdict_text};
 use crate::status::Status;
 use crate::verdict::AuditError;
-use fa_capture::{Broken, Feed, FeedError, Input, Output, PIECE, Pull, ReadError, SPARE_PULLS, Stored, read_all};
+use fa_capture::{
+    Broken, Feed, FeedError, Input, Output, PIECE, Pull, ReadError, SPARE_PULLS, Stored, read_all,
+};
 use fa_check::Verdict;
 use std::alloc::{AllocError, AllocFailed, Global};
 use thiserror::Error;
