@@ -9,12 +9,15 @@
 #include <sys/wait.h>
 
 #include "fuse-record.h"
+#include "stream.h"
 #include "trace.h"
 
 static const char usage[] =
     "usage: fuse-record [options] -o FILE -- SERVER WORDS..\n"
     "Starts SERVER and records its FUSE messages in FILE, and in FILE.log what it changed of them.\n"
-    "  -o, --output FILE      the capture; its folder is not to be below the mount\n"
+    "  -o, --output FILE      the capture; its folder is not to be below the mount. Where it is a FIFO, the server starts when\n"
+    "                         that has a reader, and the capture is not kept\n"
+    "  --live FIFO            writes the capture to a FIFO too; - is standard output, and SERVER then has standard error for it\n"
     "  --plain                leaves out the time of each message: FILE begins with FUSECAP1 and not with FUSECAP2\n"
     "  --force                replaces FILE, FILE.log and FILE.tree of an earlier recording\n"
     "  --lower DIR            writes the tree text of DIR to FILE.tree before the server starts\n"
@@ -42,6 +45,13 @@ struct output {
 };
 static struct output outputs[3];
 enum { CAPTURE, LOG, TREE };
+
+/* The pipe that the capture is handed on to while it is recorded, beside its file or in its place. */
+static struct {
+    const char *path; /* NULL: there is none */
+    bool in_place;
+    int pipe, memory;
+} live;
 
 /* Takes away what was made, and puts back what stood there. */
 static void undo_outputs(void)
@@ -144,6 +154,13 @@ static void refuse_places(const char *lower, char **words)
         fail(FAILED, "%s: is below %s, which is taken for the mount", path, mount);
 }
 
+/* Whether there is a FIFO or a pipe at a path. */
+static bool is_pipe(const char *path)
+{
+    struct stat found;
+    return stat(path, &found) == 0 && S_ISFIFO(found.st_mode);
+}
+
 /* Holds a capture as long as this descriptor is open, where its file system can. Refuses one that another recorder holds. */
 static void hold(int capture)
 {
@@ -163,7 +180,7 @@ static bool is_empty(int file)
 static void refuse_files(bool forced)
 {
     struct stat found;
-    int capture = open(outputs[CAPTURE].path, O_RDONLY | O_CLOEXEC | O_NONBLOCK);
+    int capture = live.in_place ? -1 : open(outputs[CAPTURE].path, O_RDONLY | O_CLOEXEC | O_NONBLOCK);
     if (capture >= 0) {
         if (fstat(capture, &found) != 0 || !S_ISREG(found.st_mode))
             fail(FAILED, "%s: no regular file", outputs[CAPTURE].path);
@@ -171,7 +188,7 @@ static void refuse_files(bool forced)
         forced |= is_empty(capture);
         close(capture);
     }
-    for (int i = CAPTURE; i <= TREE; i++) {
+    for (int i = live.in_place ? LOG : CAPTURE; i <= TREE; i++) {
         if (lstat(outputs[i].path, &found) != 0)
             continue;
         if (!S_ISREG(found.st_mode))
@@ -227,13 +244,64 @@ static void write_tree(const char *folder, const sigset_t *before)
     close(file);
 }
 
+/* Takes a capture that is a FIFO for the pipe as well. What leads to one by a link of /proc has no place for a log beside it. */
+static void choose_pipe(void)
+{
+    struct stat found;
+    live.in_place = lstat(outputs[CAPTURE].path, &found) == 0 && S_ISFIFO(found.st_mode);
+    if (live.in_place && live.path)
+        fail(MISUSED, "%s: is a FIFO, and --live is for a capture that is kept", outputs[CAPTURE].path);
+    if (live.in_place)
+        live.path = outputs[CAPTURE].path;
+}
+
+/*
+ * Opens the pipe, which waits until it has a reader, and makes what is needed to hand the capture on. From then on what the server
+ * and others write to standard output goes to standard error, where that is the pipe.
+ */
+static void open_pipe(void)
+{
+    struct stat found, output;
+    bool is_output = strcmp(live.path, "-") == 0;
+    const char *path = is_output ? "/proc/self/fd/1" : live.path;
+    if (!is_pipe(path))
+        fail(FAILED, "%s: no FIFO and no pipe", is_output ? "standard output" : path);
+    live.pipe = open(path, O_WRONLY | O_CLOEXEC | (is_output ? O_NONBLOCK : 0));
+    if (live.pipe < 0 || fcntl(live.pipe, F_SETFL, O_NONBLOCK) != 0 || fstat(live.pipe, &found) != 0)
+        fail(FAILED, "%s: %s", is_output ? "standard output" : path, strerror(errno));
+    if (fstat(STDOUT_FILENO, &output) == 0 && output.st_dev == found.st_dev && output.st_ino == found.st_ino)
+        dup2(STDERR_FILENO, STDOUT_FILENO);
+    if (live.in_place)
+        hold(live.pipe);
+    live.memory = stream_make();
+    if (live.memory < 0)
+        fail(FAILED, "memory for a stream: %s", strerror(errno));
+}
+
+/* Makes a file without a name, in the folder of a FIFO, for what its reader has not taken yet. */
+static int create_unnamed(struct output *output)
+{
+    char folder[sizeof output->path], name[sizeof output->kept];
+    strcpy(folder, output->path);
+    output->file = open(dirname(folder), O_TMPFILE | O_RDWR | O_CLOEXEC, 0600);
+    if (output->file >= 0)
+        return output->file;
+    snprintf(name, sizeof name, "%s.XXXXXX", output->path);
+    output->file = mkostemp(name, O_CLOEXEC);
+    if (output->file < 0)
+        fail(FAILED, "%s: %s", name, strerror(errno));
+    unlink(name);
+    return output->file;
+}
+
 /* Makes the files anew, and holds the capture. */
 static void make_outputs(const char *lower, const sigset_t *before)
 {
-    for (int i = CAPTURE; i <= TREE; i++)
+    for (int i = live.in_place ? LOG : CAPTURE; i <= TREE; i++)
         keep(&outputs[i]);
-    int capture = create(&outputs[CAPTURE]);
-    hold(capture);
+    int capture = live.in_place ? create_unnamed(&outputs[CAPTURE]) : create(&outputs[CAPTURE]);
+    if (!live.in_place)
+        hold(capture);
     const char *magic = fuse_record_setup.plain ? FUSE_RECORD_PLAIN_MAGIC : FUSE_RECORD_MAGIC;
     if (write(capture, magic, strlen(magic)) != (ssize_t)strlen(magic))
         fail(FAILED, "%s: %s", outputs[CAPTURE].path, strerror(errno));
@@ -329,6 +397,20 @@ static void count_answer(struct sum *sum, const struct fuse_out_header *header)
     }
 }
 
+/* Counts a record, of which the message is there up to what is looked at. */
+static void count_record(struct sum *sum, unsigned char direction, const unsigned char *message, size_t length)
+{
+    struct request request = {0};
+    struct fuse_out_header answer;
+    memcpy(&request, message, length < sizeof request ? length : sizeof request);
+    memcpy(&answer, &request, sizeof answer);
+    if (direction == FUSE_RECORD_READ && length >= sizeof request.header)
+        count_request(sum, &request);
+    else if (direction == FUSE_RECORD_WRITE && length >= sizeof answer)
+        count_answer(sum, &answer);
+    sum->messages++;
+}
+
 /* Counts the whole records of the capture. Its path is not asked for: what was mounted may stand above it. */
 static struct sum sum_up(void)
 {
@@ -336,23 +418,16 @@ static struct sum sum_up(void)
     const size_t head = fuse_record_head_size();
     unsigned char record[FUSE_RECORD_HEAD + sizeof(struct request)] = {0};
     struct stat found;
-    struct request request;
-    struct fuse_out_header answer;
     off_t size = fstat(outputs[CAPTURE].file, &found) == 0 ? found.st_size : 0;
     off_t at = sizeof FUSE_RECORD_MAGIC - 1;
-    for (; pread(outputs[CAPTURE].file, record, head + sizeof request, at) >= (ssize_t)head; sum.messages++) {
+    while (pread(outputs[CAPTURE].file, record, head + sizeof(struct request), at) >= (ssize_t)head) {
         uint32_t stated;
         memcpy(&stated, record + head - sizeof stated, sizeof stated);
         size_t length = le32toh(stated);
         at += (off_t)(head + length);
         if (at > size)
             break;
-        memcpy(&request, record + head, sizeof request);
-        memcpy(&answer, record + head, sizeof answer);
-        if (record[0] == FUSE_RECORD_READ && length >= sizeof request.header)
-            count_request(&sum, &request);
-        else if (record[0] == FUSE_RECORD_WRITE && length >= sizeof answer)
-            count_answer(&sum, &answer);
+        count_record(&sum, record[0], record + head, length);
     }
     return sum;
 }
@@ -398,10 +473,38 @@ static int status_of(int ended)
     return WEXITSTATUS(ended) == NOT_WHOLE || WEXITSTATUS(ended) == NOT_TRACED ? FAILED : WEXITSTATUS(ended);
 }
 
-/* Tells at the end what was recorded, and answers the status to end with. */
-static int tell_sum(int ended)
+/* What was handed on of the capture is counted as it goes. */
+static struct sum streamed;
+
+static void count_streamed(unsigned char direction, const unsigned char *message, size_t length)
 {
-    struct sum sum = sum_up();
+    count_record(&streamed, direction, message, length);
+}
+
+static void tell_left(const char *cause, uint32_t messages)
+{
+    tell(true, "%s: %s: the stream ends with %" PRIu32 " messages", strcmp(live.path, "-") == 0 ? "standard output" : live.path, cause,
+         messages);
+}
+
+/* Begins to hand the capture on. The server has started, and goes on without a stream where there can be none. */
+static void start_stream(void)
+{
+    const struct stream_setup setup = {live.pipe, outputs[CAPTURE].file, !live.in_place, fuse_record_head_size(), count_streamed, tell_left};
+    int error = stream_start(&setup);
+    if (error == 0)
+        return;
+    tell_left(strerror(error), 0);
+    close(live.pipe);
+    live.path = NULL;
+}
+
+/* Tells at the end what was recorded, and answers the status to end with. */
+static int tell_sum(int ended, const sigset_t *signals)
+{
+    uint32_t written = 0;
+    bool whole = live.path ? stream_end(signals, &written) : !live.in_place;
+    struct sum sum = live.path ? streamed : sum_up();
     char fault[200] = "";
     size_t unnamed = 0, missed = 0;
     for (size_t i = 0; i < sum.waits; i++) {
@@ -417,6 +520,8 @@ static int tell_sum(int ended)
         snprintf(fault, sizeof fault, ": no message was seen, and the server %s", how_it_ended(ended));
     else if (missed > 0)
         snprintf(fault, sizeof fault, ": the server %s with requests unanswered", how_it_ended(ended));
+    else if (live.in_place && !whole)
+        snprintf(fault, sizeof fault, ": the stream ended with %" PRIu32 " messages", written);
     tell(true,
          "%s: %" PRIu32 " messages, %" PRIu32 " requests, %" PRIu32 " answers; "
          "%zu requests were never answered, %zu of them of operations that no order names%s",
@@ -512,6 +617,17 @@ static int64_t milliseconds(void)
     return (int64_t)now.tv_sec * 1000 + now.tv_nsec / 1000000;
 }
 
+/* Tells the server where it finds what this process has open for a stream. */
+static void name_stream(void)
+{
+    char path[64];
+    snprintf(path, sizeof path, "/proc/%d/fd/%d", (int)getpid(), live.memory);
+    setenv("FUSE_RECORD_STREAM", path, 1);
+    snprintf(path, sizeof path, "/proc/%d/fd/%d", (int)getpid(), outputs[CAPTURE].file);
+    if (live.in_place)
+        setenv("FUSE_RECORD_KEPT", path, 1);
+}
+
 /* Starts the server and waits for the end of all its processes. Answers the status to end with. */
 static int watch(pid_t first, bool traced, char **words, const sigset_t *signals, const sigset_t *before)
 {
@@ -521,7 +637,11 @@ static int watch(pid_t first, bool traced, char **words, const sigset_t *signals
     bool failed = false, handed_back = false, told = false, busy = false;
     prctl(PR_SET_CHILD_SUBREAPER, 1);
     prctl(PR_SET_PDEATHSIG, SIGTERM);
+    if (live.path)
+        name_stream();
     pid_t server = traced ? start_traced(words, before) : start(words, before);
+    if (live.path)
+        start_stream();
     for (int i = CAPTURE; i <= TREE; i++)
         if (outputs[i].kept[0])
             unlink(outputs[i].kept);
@@ -543,13 +663,13 @@ static int watch(pid_t first, bool traced, char **words, const sigset_t *signals
             }
         }
         if (child < 0)
-            return told ? FAILED : tell_sum(ended);
+            return told ? FAILED : tell_sum(ended, signals);
         if (server > 0 || handed_back)
             continue;
         /* What a server leaves behind that failed is no server in the background. What is traced can't do without this process. */
         bool late = milliseconds() > patience;
         if (failed && late) {
-            int result = tell_sum(ended);
+            int result = tell_sum(ended, signals);
             if (!traced)
                 return result;
             hand_back(first, result);
@@ -578,9 +698,10 @@ static int follow(pid_t watcher, const sigset_t *signals)
 
 int main(int count, char **words)
 {
-    enum { LOWER = 256, REFUSE, FORCE, PLAIN, KEEP_INIT, KEEP_REFUSED, KEEP_OWN, TRACE, PRELOAD };
+    enum { LOWER = 256, REFUSE, FORCE, PLAIN, KEEP_INIT, KEEP_REFUSED, KEEP_OWN, TRACE, PRELOAD, LIVE };
     static const struct option options[] = {
         {"output", required_argument, NULL, 'o'},
+        {"live", required_argument, NULL, LIVE},
         {"plain", no_argument, NULL, PLAIN},
         {"force", no_argument, NULL, FORCE},
         {"lower", required_argument, NULL, LOWER},
@@ -596,6 +717,8 @@ int main(int count, char **words)
     const char *output = NULL, *lower = NULL, *traced = NULL;
     uint64_t refused = 0;
     bool forced = false, preloaded = false;
+    unsetenv("FUSE_RECORD_KEPT");
+    unsetenv("FUSE_RECORD_STREAM");
     unsetenv("FUSE_RECORD_PLAIN");
     unsetenv("FUSE_RECORD_KEEP_INIT");
     unsetenv("FUSE_RECORD_KEEP_REFUSED");
@@ -603,6 +726,7 @@ int main(int count, char **words)
     for (int option; (option = getopt_long(count, words, "+o:h", options, NULL)) != -1;) {
         switch (option) {
         case 'o': output = optarg; break;
+        case LIVE: live.path = optarg; break;
         case PLAIN:
             fuse_record_setup.plain = true;
             setenv("FUSE_RECORD_PLAIN", "1", 1);
@@ -626,9 +750,14 @@ int main(int count, char **words)
 
     char mask[20];
     sigset_t signals, before;
+    if (strcmp(output, "-") == 0)
+        fail(MISUSED, "the log stands beside the capture: -o FILE --live - writes it to standard output too");
     name_outputs(output);
+    choose_pipe();
     refuse_places(lower, words + optind);
     refuse_files(forced);
+    if (live.path)
+        open_pipe();
     signal(SIGCHLD, SIG_DFL);
     choose_signals(&signals);
     sigprocmask(SIG_BLOCK, &signals, &before);
@@ -637,7 +766,7 @@ int main(int count, char **words)
     setenv("FUSE_RECORD_CAPTURE", outputs[CAPTURE].path, 1);
     setenv("FUSE_RECORD_REFUSE", mask, 1);
     if (!traced && !preloaded)
-        traced = trace_is_needed(words[optind]);
+        traced = trace_is_needed(words[optind], live.path);
     if (traced)
         tell(false, "%s %s: its system calls are stopped, and it loads no library", words[optind], traced);
     else
@@ -648,5 +777,7 @@ int main(int count, char **words)
     if (watcher == 0)
         return watch(first, traced, words + optind, &signals, &before);
     close(outputs[CAPTURE].file);
+    if (live.path)
+        close(live.pipe);
     return follow(watcher, &signals);
 }

@@ -16,6 +16,7 @@
 #include <fcntl.h>
 #include <inttypes.h>
 #include <linux/fuse.h>
+#include <linux/futex.h>
 #include <poll.h>
 #include <pthread.h>
 #include <signal.h>
@@ -35,10 +36,12 @@
 enum fuse_record_way { FUSE_RECORD_READ, FUSE_RECORD_WRITE };
 
 /*
- * The section by which fuse-record sees that a program has this text in itself, and records without its help. One that has the text
- * of before, which writes no times, has the older mark: it is not handed a capture.
+ * The section by which fuse-record sees that a program has this text in itself, and records without its help. A text of before has
+ * an older mark: the one does not tell what is held back from a stream, and serves where there is none; the other writes no times
+ * either, and is not handed a capture.
  */
-#define FUSE_RECORD_MARK "fuse_record_timed"
+#define FUSE_RECORD_MARK "fuse_record_held"
+#define FUSE_RECORD_TIMED_MARK "fuse_record_timed"
 #define FUSE_RECORD_OLDER_MARK "fuse_record"
 __attribute__((used, section(FUSE_RECORD_MARK))) static const char fuse_record_mark[] = FUSE_RECORD_MARK;
 
@@ -66,6 +69,8 @@ __attribute__((used, section(FUSE_RECORD_MARK))) static const char fuse_record_m
 #define FUSE_RECORD_PARTS 16
 /* How many requests are kept to tell which one an answer was for that the kernel refused. */
 #define FUSE_RECORD_ASKED 4096u
+/* How many messages may be held back from a stream at once: each needs a thread that is writing it. */
+#define FUSE_RECORD_HELD 1024u
 /*
  * Servers made with go-fuse look up a name in their root when they have mounted, and find a file of their own there, which no tree has.
  * What is said of it is left out. How many such nodes may be alive, and how many requests are kept for their answers.
@@ -146,11 +151,23 @@ struct fuse_record_progress {
     uint32_t own_turn;
 };
 
+/*
+ * What fuse-record has to know to hand a capture on while it grows, in memory that it shares with the server. A message that is not
+ * written to the device yet may be taken out of the capture: it is held, and nothing is handed on from there.
+ */
+struct fuse_record_stream {
+    uint64_t length;                 /* of the capture up to its last whole record. A record is held before it counts here */
+    uint64_t held[FUSE_RECORD_HELD]; /* where the records begin that are held, in no order; 0 where there is none */
+    uint32_t sleeps;                 /* fuse-record waits for more: a futex */
+};
+
 /* What fuse-record handed over, by the environment. */
 static struct {
+    char name[FUSE_RECORD_PATH]; /* of the capture, for people. It may be kept elsewhere */
     struct fuse_record_file capture;
     struct fuse_record_file log;
     struct fuse_record_progress *progress; /* NULL: nothing is recorded */
+    struct fuse_record_stream *stream;     /* NULL: nothing is handed on */
     uint64_t refused;                      /* the operations that are answered in the server's place, a bit each */
     bool plain;                            /* records have no times */
     bool keeps_init;
@@ -162,6 +179,7 @@ static struct {
 struct fuse_record_place {
     uint64_t offset;
     uint32_t message;
+    uint64_t *held; /* where a stream has it as held; NULL where it is not */
 };
 
 /* Opens a file again where its descriptor is no longer its own, and answers the descriptor, or -1. */
@@ -261,7 +279,7 @@ static void fuse_record_tell_end(const char *cause, uint32_t messages)
 {
     char line[512];
     snprintf(line, sizeof line, "fuse-record: %.300s: %s: the recording ends with %" PRIu32 " messages\n",
-             fuse_record_setup.capture.path, cause, messages);
+             fuse_record_setup.name, cause, messages);
     fuse_record_say(line);
     fuse_record_note("%s: the recording ends with %" PRIu32 " messages", cause, messages);
 }
@@ -318,6 +336,35 @@ static void fuse_record_put_head(unsigned char head[FUSE_RECORD_HEAD], enum fuse
         memcpy(head + FUSE_RECORD_DIRECTION, &time, sizeof time);
     }
     memcpy(head + fuse_record_head_size() - sizeof stated, &stated, sizeof stated);
+}
+
+/* Wakes fuse-record where it waits for more of the capture. */
+static void fuse_record_wake(void)
+{
+    struct fuse_record_stream *stream = fuse_record_setup.stream;
+    if (__atomic_load_n(&stream->sleeps, __ATOMIC_SEQ_CST) != 0 && __atomic_exchange_n(&stream->sleeps, 0, __ATOMIC_SEQ_CST) != 0)
+        syscall(SYS_futex, &stream->sleeps, FUTEX_WAKE, 1, NULL, NULL, 0);
+}
+
+/* Holds the next record of the capture back from the stream, before it is written. Answers NULL where no more can be. The lock is held. */
+static uint64_t *fuse_record_hold(void)
+{
+    uint64_t *held = fuse_record_setup.stream->held;
+    for (size_t i = 0; i < FUSE_RECORD_HELD; i++)
+        if (__atomic_load_n(&held[i], __ATOMIC_SEQ_CST) == 0) {
+            __atomic_store_n(&held[i], fuse_record_setup.progress->length, __ATOMIC_SEQ_CST);
+            return &held[i];
+        }
+    return NULL;
+}
+
+/* Lets a stream have the record at this place, if it was held: it is taken out no more. */
+static void fuse_record_let_go(struct fuse_record_place place)
+{
+    if (!place.held)
+        return;
+    __atomic_store_n(place.held, 0, __ATOMIC_SEQ_CST);
+    fuse_record_wake();
 }
 
 /* Adds a record to the capture by one write, or tells why there is none. What was written of it is then taken off. */
@@ -384,16 +431,28 @@ static struct fuse_record_place fuse_record_parts(enum fuse_record_way way, cons
         left -= taken;
     }
     struct fuse_record_progress *progress = fuse_record_setup.progress;
+    struct fuse_record_stream *stream = fuse_record_setup.stream;
+    bool may_be_refused = stream && way == FUSE_RECORD_WRITE && !fuse_record_setup.keeps_refused;
+    const char *cause = NULL;
     fuse_record_lock();
-    struct fuse_record_place place = {progress->length, progress->messages};
+    struct fuse_record_place place = {progress->length, progress->messages, NULL};
     fuse_record_put_head(head, way, length);
-    const char *cause = progress->ended ? NULL : fuse_record_add(record, 1 + count, record->iov_len + length);
+    if (!progress->ended && may_be_refused && !(place.held = fuse_record_hold()))
+        cause = "too many messages are written at once";
+    else if (!progress->ended)
+        cause = fuse_record_add(record, 1 + count, record->iov_len + length);
     progress->ended |= cause != NULL;
-    if (progress->ended)
-        place.offset = 0;
-    else
+    if (!progress->ended) {
         fuse_record_follow(way, parts, count, length);
+        if (stream)
+            __atomic_store_n(&stream->length, progress->length, __ATOMIC_SEQ_CST);
+    } else {
+        fuse_record_let_go(place);
+        place = (struct fuse_record_place){0, place.message, NULL};
+    }
     fuse_record_unlock();
+    if (stream && !place.held)
+        fuse_record_wake();
     if (cause)
         fuse_record_tell_end(cause, place.message);
     return place;
@@ -407,7 +466,7 @@ static struct fuse_record_place fuse_record_message(enum fuse_record_way way, co
     struct iovec joined = {malloc(length), length};
     if (!joined.iov_base) {
         fuse_record_stop(strerror(ENOMEM));
-        return (struct fuse_record_place){0, 0};
+        return (struct fuse_record_place){0, 0, NULL};
     }
     fuse_record_copy(joined.iov_base, length, parts, count, false);
     struct fuse_record_place place = fuse_record_parts(way, &joined, 1, length);
@@ -572,7 +631,7 @@ static enum fuse_record_share fuse_record_share(const struct fuse_in_header *hea
 static struct fuse_record_place fuse_record_asks(const struct fuse_in_header *header, const struct iovec *parts, int count, size_t length)
 {
     struct iovec copy = {NULL, 0};
-    struct fuse_record_place place = {0, 0};
+    struct fuse_record_place place = {0, 0, NULL};
     enum fuse_record_share share = fuse_record_share(header, parts, count, length, &copy);
     if (share == FUSE_RECORD_WHOLE)
         place = fuse_record_message(FUSE_RECORD_READ, parts, count, length);
@@ -789,6 +848,14 @@ static void fuse_record_failed(const struct fuse_record_sent *sent, int error)
         fuse_record_strike(sent->place, &sent->header, sent->length, error);
 }
 
+/* Takes what came of the write of a message that was recorded: the error with which it failed, or 0. */
+static void fuse_record_after(const struct fuse_record_sent *sent, int error)
+{
+    if (error != 0)
+        fuse_record_failed(sent, error);
+    fuse_record_let_go(sent->place);
+}
+
 /* Records a message from the server, and writes it. A thread is cancelled before both or not at all. */
 static ssize_t fuse_record_send(int device, const struct iovec *parts, int count)
 {
@@ -812,8 +879,7 @@ static ssize_t fuse_record_send(int device, const struct iovec *parts, int count
     struct fuse_record_sent sent = fuse_record_before(parts, count);
     ssize_t written = FUSE_RECORD_WRITEV(device, parts, count);
     int error = errno;
-    if (written < 0)
-        fuse_record_failed(&sent, error);
+    fuse_record_after(&sent, written < 0 ? error : 0);
     pthread_setcancelstate(cancels, NULL);
     errno = error;
     return written;
@@ -905,14 +971,29 @@ static void fuse_record_open(struct fuse_record_file *file, int flags, const cha
     fuse_record_descriptor(file);
 }
 
+/* Maps the memory that is shared with fuse-record for a stream; MAP_FAILED where that fails. */
+static struct fuse_record_stream *fuse_record_map_stream(const char *path)
+{
+    int memory = open(path, O_RDWR | O_CLOEXEC);
+    if (memory < 0)
+        return MAP_FAILED;
+    struct fuse_record_stream *stream = mmap(NULL, sizeof *stream, PROT_READ | PROT_WRITE, MAP_SHARED, memory, 0);
+    int error = errno;
+    close(memory);
+    errno = error;
+    return stream;
+}
+
 /* Takes what fuse-record handed over before the server begins, and mounts anything above these files. */
 __attribute__((constructor)) static void fuse_record_begin(void)
 {
     const char *path = getenv("FUSE_RECORD_CAPTURE"), *refused = getenv("FUSE_RECORD_REFUSE");
+    const char *kept = getenv("FUSE_RECORD_KEPT"), *memory = getenv("FUSE_RECORD_STREAM");
     if (!path)
         return;
+    struct fuse_record_stream *stream = memory ? fuse_record_map_stream(memory) : NULL;
     struct fuse_record_progress *progress =
-        mmap(NULL, sizeof *progress, PROT_READ | PROT_WRITE, MAP_SHARED | MAP_ANONYMOUS, -1, 0);
+        stream == MAP_FAILED ? MAP_FAILED : mmap(NULL, sizeof *progress, PROT_READ | PROT_WRITE, MAP_SHARED | MAP_ANONYMOUS, -1, 0);
     if (progress == MAP_FAILED) {
         dprintf(STDERR_FILENO, "fuse-record: nothing is recorded: %s\n", strerror(errno));
         return;
@@ -924,13 +1005,15 @@ __attribute__((constructor)) static void fuse_record_begin(void)
     pthread_mutex_init(&progress->lock, &shared);
     pthread_mutexattr_destroy(&shared);
     progress->length = sizeof FUSE_RECORD_MAGIC - 1;
-    fuse_record_open(&fuse_record_setup.capture, O_WRONLY, path, "");
+    snprintf(fuse_record_setup.name, sizeof fuse_record_setup.name, "%s", path);
+    fuse_record_open(&fuse_record_setup.capture, O_WRONLY, kept ? kept : path, "");
     fuse_record_open(&fuse_record_setup.log, O_WRONLY | O_APPEND, path, ".log");
     fuse_record_setup.refused = refused ? strtoull(refused, NULL, 16) : 0;
     fuse_record_setup.plain = getenv("FUSE_RECORD_PLAIN");
     fuse_record_setup.keeps_init = getenv("FUSE_RECORD_KEEP_INIT");
     fuse_record_setup.keeps_refused = getenv("FUSE_RECORD_KEEP_REFUSED");
     fuse_record_setup.keeps_own = getenv("FUSE_RECORD_KEEP_OWN");
+    fuse_record_setup.stream = stream;
     fuse_record_setup.progress = progress;
 }
 

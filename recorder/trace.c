@@ -70,7 +70,7 @@ static bool has_segment(const struct program *program, const Elf64_Ehdr *head, u
 }
 
 /* Why a program that is in memory has to be traced, or NULL. Scripts are run by a program that loads the C library. */
-static const char *why_traced(const struct program *program)
+static const char *why_traced(const struct program *program, bool streams)
 {
     Elf64_Ehdr head;
     const void *at = part_of(program, 0, sizeof head);
@@ -79,6 +79,8 @@ static const char *why_traced(const struct program *program)
     memcpy(&head, at, sizeof head);
     if (has_section(program, &head, FUSE_RECORD_MARK))
         return NULL;
+    if (has_section(program, &head, FUSE_RECORD_TIMED_MARK))
+        return streams ? "has an older recorder in itself, which holds nothing back from a stream" : NULL;
     if (has_section(program, &head, FUSE_RECORD_OLDER_MARK))
         return "has an older recorder in itself, which writes no times";
     /* Go's linker writes the one or the other: what a build can be told by, and a note with its name. */
@@ -105,7 +107,7 @@ static int open_program(const char *name)
     return -1;
 }
 
-const char *trace_is_needed(const char *server)
+const char *trace_is_needed(const char *server, bool streams)
 {
     const char *why = NULL;
     struct stat found;
@@ -118,7 +120,7 @@ const char *trace_is_needed(const char *server)
         void *bytes = mmap(NULL, program.length, PROT_READ, MAP_PRIVATE, file, 0);
         if (bytes != MAP_FAILED) {
             program.bytes = bytes;
-            why = why_traced(&program);
+            why = why_traced(&program, streams);
             munmap(bytes, program.length);
         }
     }
@@ -179,10 +181,13 @@ static struct thread *thread_of(pid_t id)
     return &traced.threads[traced.count++];
 }
 
+/* What a thread was about to write stays in the capture: nothing tells whether the kernel took it. */
 static void forget_thread(pid_t id)
 {
     for (size_t i = 0; i < traced.count; i++)
         if (traced.threads[i].id == id) {
+            if (traced.threads[i].doing == SENDS)
+                fuse_record_let_go(traced.threads[i].sent.place);
             traced.threads[i] = traced.threads[--traced.count];
             return;
         }
@@ -566,8 +571,8 @@ static void ends_call(struct thread *thread, int64_t result)
 {
     enum doing doing = thread->doing;
     thread->doing = NOTHING;
-    if (doing == SENDS && result < 0)
-        fuse_record_failed(&thread->sent, (int)-result);
+    if (doing == SENDS)
+        fuse_record_after(&thread->sent, result < 0 ? (int)-result : 0);
     else if (doing == RECEIVES && result >= (int64_t)sizeof(struct fuse_in_header))
         received(thread, (size_t)result);
     else if (doing == RECEIVES_INTO_PIPE && result >= (int64_t)sizeof(struct fuse_in_header))
@@ -770,6 +775,8 @@ enum trace_start trace_start(char **words, const sigset_t *blocked, pid_t *serve
     struct beginning *told = mmap(NULL, sizeof *told, PROT_READ | PROT_WRITE, MAP_SHARED | MAP_ANONYMOUS, -1, 0);
     fuse_record_begin();
     unsetenv("FUSE_RECORD_CAPTURE");
+    unsetenv("FUSE_RECORD_KEPT");
+    unsetenv("FUSE_RECORD_STREAM");
     unsetenv("FUSE_RECORD_REFUSE");
     unsetenv("FUSE_RECORD_PLAIN");
     unsetenv("FUSE_RECORD_KEEP_INIT");

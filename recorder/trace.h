@@ -12,8 +12,11 @@ enum trace_start {
     TRACE_NO_SERVER /* there is no such program */
 };
 
-/* Why a server can't be recorded by the library, in words to follow its name; NULL where it can, or records itself. */
-const char *trace_is_needed(const char *server);
+/*
+ * Why a server can't be recorded by the library, in words to follow its name; NULL where it can, or records itself. Of the latter an
+ * older one can't where the capture is handed on as a stream.
+ */
+const char *trace_is_needed(const char *server, bool streams);
 
 /*
  * Starts a server with these signals blocked. Else errno tells why there is none, and call what was refused. What
