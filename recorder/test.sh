@@ -31,6 +31,7 @@ work="$(mktemp -d)"
 lower="$work/lower"
 mnt="$work/mnt"
 capture="$work/a.cap"
+live="$work/live"
 # What fuse-record is started by.
 under=(env)
 [ ${#sanitizer[@]} -eq 0 ] || under=(env "LD_PRELOAD=$("${CC:-cc}" -print-file-name=libtsan.so)" "TSAN_OPTIONS=log_path=$work/races")
@@ -144,16 +145,46 @@ judged() {
     [[ "$found" == $2 ]] && watched_as "$found"
 }
 
-# Watches the capture while it is recorded.
-watch_on() {
-    tail --pid="${servers[-1]}" -s 0.1 -c +1 -f "$capture" 2> /dev/null | "$program" watch --capture - > "$work/watched" &
-    watcher=$!
-}
+# What reads the FIFO has ended.
+has_read() { timeout 20 tail -s 0.1 --pid="$reader" -f /dev/null; }
 
 # The watch came to its end, with a line like this.
-has_watched() {
-    timeout 20 tail -s 0.1 --pid="$watcher" -f /dev/null && grep -q "^$1\$" "$work/watched"
+has_watched() { has_read && grep -q "^$1\$" "$work/watched"; }
+
+# It was good, with as many messages as fuse-record told at the end.
+has_watched_all() {
+    local messages
+    messages="$(tail -n 1 "$work/errors" | sed -n "s|^fuse-record: $capture: \([0-9]*\) messages.*|\1|p")"
+    [ "${messages:-0}" -gt 0 ] && has_watched "good: $messages messages"
 }
+
+# Makes a FIFO without a reader: fifo, and what a stream was before is gone.
+fifo() {
+    rm -f "$work"/live* "$work/copy" "$work/watched"
+    mkfifo "$live"
+}
+
+# Makes a FIFO, of which what is read is kept and watched.
+fifo_watched() {
+    fifo
+    tee "$work/copy" < "$live" | "$program" watch --capture - > "$work/watched" &
+    reader=$!
+}
+
+# Makes a FIFO that a watch reads alone, so that it has no reader once that has told a fault.
+fifo_watched_alone() {
+    fifo
+    "$program" watch --capture "$live" > "$work/watched" &
+    reader=$!
+}
+
+# Makes a FIFO that is open to be read, and of which nothing is read until read_on.
+fifo_unread() {
+    fifo
+    { until [ -e "$work/read_on" ]; do sleep 0.05; done; cat > "$work/copy"; } < "$live" &
+    reader=$!
+}
+read_on() { touch "$work/read_on" && has_read && rm "$work/read_on"; }
 
 # The verdict is legal, and some hundred messages were recorded.
 is_legal() { judged "$1" "legal: [1-9][0-9][0-9]* messages, *"; }
@@ -322,6 +353,17 @@ check "INIT can't be refused" refuses 2 "INIT: no operation" --refuse IOCTL,INIT
 check "a device is no capture" refuses 1 "/dev/null: no regular file" -o /dev/null -- true
 check "a folder that is not there has no tree" refuses 1 "no tree text of" --lower "$work/none" -o "$capture" -- true
 check "a server that is not there" refuses 127 "No such file" -o "$capture" -- "$work/none"
+check "standard output has no log beside it" refuses 2 "--live - writes it to standard output too" -o - -- true
+check "a file is no stream" refuses 1 "errors: no FIFO and no pipe" --live "$work/errors" -o "$capture" -- true
+check "a pipe of the shell has no log beside it" refuses 1 "no regular file" -o >(true) -- true
+check "nothing is left of them" [ -z "$(cd "$work" && ls -d a.cap* 2> /dev/null)" ]
+# A FIFO is waited for, before anything else is done.
+fifo
+check "two streams are a fault of the command line" refuses 2 "live: is a FIFO, and --live is" -o "$live" --live "$live" -- true
+status=0
+timeout 1 "$work/recorder/fuse-record" -o "$live" -- touch "$work/begun" || status=$?
+check "no reader: is waited for" [ "$status" -eq 124 ]
+check "no reader: nothing is begun" [ "$(cd "$work" && ls -d live* begun 2> /dev/null)" = live ]
 
 # Made-up messages, which stand in texts as those of the cases do.
 as_bytes() { "$here/../cases/messages.py" read - > "$work/given"; }
@@ -463,6 +505,46 @@ given_of | as_bytes
 check "own file, refused: is recorded" replay 0 --plain --refuse POLL
 check "own file, refused: is left out" has_messages "$work/expected"
 check "own file, refused: is told" logged "^POLL, unique 6: answered ENOSYS in the server's place" 1
+# Nothing is handed on from a message that the kernel may refuse, which it does here after two seconds, and all before it is.
+cat > "$work/own" << 'LINES'
+> unique 2 INIT
+< unique 2 init
+> unique 4 LOOKUP node 1 "a"
+< unique 4 ENOENT
+LINES
+as_bytes < "$work/own"
+before="$(stat -c %s "$work/given")"
+printf '%s\n' '< unique 4 ENOENT' '> unique 6 LOOKUP node 1 "b"' '< unique 6 ENOENT' | cat "$work/own" - > "$work/everything"
+printf '%s\n' '< INVAL_INODE' '> unique 6 LOOKUP node 1 "b"' '< unique 6 ENOENT' | cat "$work/own" - > "$work/expected"
+as_bytes < "$work/everything"
+reads_up_to() {
+    for _ in $(seq 36); do
+        [ ! -e "$work/copy" ] || [ "$(stat -c %s "$work/copy")" -lt "$1" ] || break
+        sleep 0.05
+    done
+    [ "$(stat -c %s "$work/copy")" -eq "$1" ]
+}
+held_back() {
+    local name="$1"
+    shift
+    rm -f "$work"/a.cap*
+    "${under[@]}" "$work/recorder/fuse-record" "$@" -- "$work/replay" "$work/given" "$work/shown" 2000 2> "$work/errors" &
+    servers+=($!)
+    check "$name: up to it" reads_up_to "$before"
+    check "$name: ends" ended_server
+    check "$name: ends well" ends 0 "$unanswered\$"
+    check "$name: is good" has_watched_all
+}
+fifo_watched
+held_back "held back" --plain -o "$capture" --live "$live"
+check "held back: the capture is as ever" has_messages "$work/expected"
+check "held back: is the capture" cmp "$capture" "$work/copy"
+capture="$live"
+fifo_watched
+held_back "held back alone" --plain -o "$capture"
+capture="$work/a.cap"
+check "held back alone: is the capture" cp "$work/copy" "$capture"
+check "held back alone: with all messages" has_messages "$work/expected"
 rm -f "$work/given" "$work/shown"
 
 # Servers that others wrote, by the library and by their system calls: libfuse's own example, and bindfs.
@@ -845,18 +927,126 @@ check "signalled: ends" ended_server
 check "signalled: as the server ends" ends 0 "$unanswered\$"
 ! is_mounted || timeout 20 umount -l "$mnt"
 
-# Streams that are watched while they are recorded: to their end, and to a fault that is told before the server ends.
-own watched --
-watch_on
-check "watched: serves" work_in_mount
-check "watched: is unmounted" stop
-check "watched: is good" has_watched "good: [1-9][0-9]* messages"
-own told --keep-refused -- --answer-twice name
-watch_on
-timeout 20 sh -c "echo text > '$mnt/name'; cat '$mnt/name'" > "$work/seen" 2>&1
-check "told: the fault, while the server runs" has_watched "fault: message [0-9]*: code 31: .*"
-check "told: is mounted still" is_mounted
-check "told: is unmounted" stop
+# Streams that are watched while they are recorded, beside a capture that is kept and in its place. From a server of four threads, of
+# which the kernel refuses many an answer, each message comes once and as it stands in the capture.
+look_often() { timeout 60 bash -c 'for i in {1..1000}; do [ ! -e "$0/name" ] || exit; done' "$mnt"; }
+work_and_look() {
+    look_often &
+    local looks=$!
+    work_in_mount && wait "$looks"
+}
+# What of the capture has no name takes so many blocks of 512 bytes at most.
+takes_blocks() {
+    local watcher file
+    watcher="$(ps -o pid= --ppid "${servers[-1]}" | head -n 1)"
+    for _ in $(seq 100); do
+        for file in "/proc/${watcher// /}"/fd/*; do
+            [[ "$(readlink "$file")" != /memfd:* && "$(readlink "$file")" == *" (deleted)" ]] && [ "$(stat -L -c %b "$file")" -lt "$1" ] && return
+        done
+        sleep 0.05
+    done
+    return 1
+}
+streams() {
+    fifo_watched
+    own live --live "$live" -- --threads 4 --answer-twice name
+    check "live: serves" work_and_look
+    check "live: is unmounted" stop
+    check "live: ends well" ends 0 "$unanswered\$"
+    check "live: some were refused" logged "it was answered before; it stands as a notification"
+    check "live: is good, with all messages" has_watched_all
+    check "live: is the capture" cmp "$capture" "$work/copy"
+
+    capture="$live"
+    fifo_watched
+    own fifo --
+    check "fifo: serves" work_in_mount
+    check "fifo: what was read takes no room" takes_blocks 8192
+    check "fifo: is unmounted" stop
+    check "fifo: ends well" ends 0 "$unanswered\$"
+    check "fifo: is good, with all messages" has_watched_all
+    check "fifo: nothing else is made" [ "$(cd "$work" && echo live*)" = "live live.log" ]
+    capture="$work/a.cap"
+    cp "$work/copy" "$capture"
+    check "fifo: is legal" is_legal "memory, read from a FIFO"
+
+    # A server that is killed: the line is that of a capture, and the stream has all that was recorded.
+    capture="$live"
+    fifo_watched
+    own "fifo, killed" -- --die-after 200
+    ! work_in_mount 2> /dev/null
+    stop
+    check "fifo, killed: is told" ends 125 "[1-9]$unanswered: the server was ended by signal 9 (Killed) with requests unanswered\$"
+    check "fifo, killed: is good, with all messages" has_watched_all
+
+    # A fault is told while the server runs. The watch then reads no more, and the mount goes on.
+    fifo_watched_alone
+    own told --keep-refused -- --answer-twice name
+    timeout 20 sh -c "echo text > '$mnt/name'; cat '$mnt/name'" > "$work/seen" 2>&1
+    check "told: the fault, while the server runs" has_watched "fault: message [0-9]*: code 31: .*"
+    check "told: serves on" work_in_mount
+    check "told: that the reader went away" grep -q "^fuse-record: $live: its reader went away: the stream ends with [0-9]* messages\$" "$work/errors"
+    check "told: is unmounted" stop
+    check "told: ends so" ends 125 "$unanswered: the stream ended with [0-9]* messages\$"
+    capture="$work/a.cap"
+    fifo_watched_alone
+    own "told, kept" --keep-refused --live "$live" -- --answer-twice name
+    timeout 20 sh -c "echo text > '$mnt/name'; cat '$mnt/name'" > "$work/seen" 2>&1
+    check "told, kept: the fault, while the server runs" has_watched "fault: message [0-9]*: code 31: .*"
+    check "told, kept: serves on" work_in_mount
+    check "told, kept: is unmounted" stop
+    check "told, kept: that the reader went away" logged "live: its reader went away: the stream ends with [0-9]* messages" 1
+    check "told, kept: ends as without it" ends 0 "$unanswered\$"
+    check "told, kept: the capture is whole" judged "memory that answers twice, watched" "$(cat "$work/watched")"
+
+    # A reader that reads nothing holds neither the server up nor its end, and then has all; or a signal comes first.
+    fifo_unread
+    own unread --live "$live" --
+    check "unread: serves" work_in_mount
+    timeout 20 umount "$mnt"
+    sleep 0.5
+    check "unread: the reader is waited for" kill -0 "${servers[-1]}"
+    check "unread: is read" read_on
+    check "unread: ends" ended_server
+    check "unread: ends well" ends 0 "$unanswered\$"
+    check "unread: is the capture" cmp "$capture" "$work/copy"
+    capture="$live"
+    fifo_unread
+    own "given up" --
+    check "given up: serves" work_in_mount
+    timeout 20 umount "$mnt"
+    sleep 0.5
+    kill -TERM "${servers[-1]}"
+    check "given up: ends" ended_server
+    check "given up: ends so" ends 125 "$unanswered: the stream ended with [0-9]* messages\$"
+    check "given up: is told" logged "live: a signal came before its reader took all: the stream ends with [0-9]* messages" 1
+    check "given up: what was written is read" read_on
+    capture="$work/a.cap"
+
+    # A server in the background, and standard output, which then has nothing but the capture.
+    fifo_watched
+    how+=(--live "$live")
+    check "live, in the background: mounts" in_background "$work/memory"
+    unset 'how[-1]' 'how[-1]'
+    check "live, in the background: serves" work_in_mount
+    timeout 20 umount "$mnt"
+    check "live, in the background: is told at the end" told "$unanswered\$"
+    check "live, in the background: is good, with all messages" has_watched_all
+    rm -f "$work"/a.cap*
+    "${under[@]}" "$work/recorder/fuse-record" -o "$capture" "${how[@]}" --live - -- sh -c "echo words; exec '$work/memory' '$mnt'" \
+        2> "$work/errors" | "$program" watch --capture - > "$work/watched" &
+    reader=$!
+    for _ in $(seq 100); do
+        is_mounted && break
+        sleep 0.05
+    done
+    check "output: serves" work_in_mount
+    timeout 20 umount "$mnt"
+    check "output: is told at the end" told "$unanswered\$"
+    check "output: is good, with all messages" has_watched_all
+    check "output: has none of the server's words" grep -q "^words\$" "$work/errors"
+}
+streams
 
 # Servers that are tried: what is told, by which status it ends, and that nothing is left of it.
 trying() {
@@ -922,6 +1112,7 @@ traced_checks() {
     sessions_of_others
     of_own_server
     started_again "a second mount begins"
+    streams
     check "a server that is not there" refuses 127 "No such file" --trace --force -o "$capture" -- "$work/none"
 
     # Without a filter all system calls are stopped.
@@ -944,6 +1135,13 @@ traced_checks() {
     check "the server with an older header compiles" "${CC:-cc}" -O2 -o "$work/memory-older" "$here/tests/memory.c" "$work/mark.c" &&
         check "memory, older: mounts" record -- "$work/memory-older" "$mnt" && whole_session "memory, older"
     check "memory, older: is told" logged "has an older recorder in itself, which writes no times: its system calls are stopped" 1
+    # And one with a header that tells nothing of what is held back, where that is needed.
+    echo '__attribute__((used, section("fuse_record_timed"))) static const char mark[] = "fuse_record_timed";' > "$work/mark.c"
+    fifo_watched
+    check "the server with a header without streams compiles" "${CC:-cc}" -O2 -o "$work/memory-older" "$here/tests/memory.c" "$work/mark.c" &&
+        check "memory, without streams: mounts" record --live "$live" -- "$work/memory-older" "$mnt" && whole_session "memory, without streams"
+    check "memory, without streams: is told" logged "has an older recorder in itself, which holds nothing back from a stream: its" 1
+    check "memory, without streams: is good, with all messages" has_watched_all
     servers_in_go
 }
 servers_in_go() {

@@ -1179,21 +1179,24 @@ static void *serve_too(void *nothing)
     return nothing;
 }
 
-/* The signals are this thread's. It ends all. */
+/* The signals are this thread's. It ends all; where the mount is gone the others end by themselves. */
 static void serve_by_threads(void)
 {
     sigset_t all, before;
+    pthread_t *started = resized(NULL, options.threads * sizeof *started);
     sigfillset(&all);
     pthread_sigmask(SIG_SETMASK, &all, &before);
-    for (uint64_t thread = 1; thread < options.threads; thread++) {
-        pthread_t started;
-        if (pthread_create(&started, NULL, serve_too, NULL) != 0)
+    for (uint64_t thread = 1; thread < options.threads; thread++)
+        if (pthread_create(&started[thread], NULL, serve_too, NULL) != 0)
             fail("a thread");
-    }
     pthread_sigmask(SIG_SETMASK, &before, NULL);
     serve();
-    if (!stopped)
+    if (!stopped) {
         server.mounted = false;
+        for (uint64_t thread = 1; thread < options.threads; thread++)
+            pthread_join(started[thread], NULL);
+    }
+    free(started);
 }
 
 /* The alarm comes again each second, so that a signal just before a read does not leave that waiting. */

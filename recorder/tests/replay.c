@@ -1,8 +1,8 @@
 /*
- * The device and a server that are made up, for tests: replay FILE [SEEN]. It has the recorder's header in itself, and is started by
- * fuse-record. FILE is a capture without times: its requests are what the device gives, its other messages what the server writes.
+ * The device and a server that are made up, for tests: replay FILE [SEEN [WAIT]]. It has the recorder's header in itself, and is started
+ * by fuse-record. FILE is a capture without times: its requests are what the device gives, its other messages what the server writes.
  * SEEN becomes a capture of what the server was shown and what it or the recorder handed to the device, which refuses, as the kernel
- * does, an answer to a request that does not wait for one.
+ * does, an answer to a request that does not wait for one, and takes so many milliseconds for that.
  */
 #include <stddef.h>
 #include <stdio.h>
@@ -25,6 +25,7 @@ struct record {
 };
 
 static FILE *given, *seen;
+static unsigned refusal_takes; /* milliseconds */
 static struct record next;
 static uint64_t waiting[MOST_WAITING]; /* uniques; 0 where there is none */
 
@@ -86,6 +87,7 @@ static ssize_t device_takes(const struct iovec *parts, int count)
     uint64_t *place = place_of(header.unique - of_interrupt);
     note(true, bytes, length);
     if (header.unique != 0 && !place) {
+        usleep(refusal_takes * 1000);
         errno = ENOENT;
         return -1;
     }
@@ -111,6 +113,7 @@ int main(int count, char **words)
     char magic[sizeof FUSE_RECORD_PLAIN_MAGIC] = "";
     given = count > 1 ? fopen(words[1], "r") : NULL;
     seen = count > 2 ? fopen(words[2], "w") : NULL;
+    refusal_takes = count > 3 ? (unsigned)strtoul(words[3], NULL, 10) : 0;
     if (!given || fread(magic, sizeof magic - 1, 1, given) != 1 || strcmp(magic, FUSE_RECORD_PLAIN_MAGIC) != 0)
         return 2;
     if (seen)
