@@ -20,7 +20,7 @@ pub use Rattle.fa_check.proofs.MessageLemmas.{call_is_tree, tree_is_call, call_a
 pub use Rattle.fa_check.proofs.OrderLemmas.{valid_where_each_is_placed, placed_valid, number_more, number_still, number_now}
 -- one entry more, and an order without a fault
 pub use Rattle.fa_check.proofs.EntryLemmas.{each_more, allowed_choice, choice_allowed}
-pub use Rattle.fa_check.proofs.FaultLemmas.{placed_no_fault}
+pub use Rattle.fa_check.proofs.FaultLemmas.{placed_no_fault, legal_has_no_fault}
 -- a step that is taken fails no check, and the first that one fails is one
 pub use Rattle.fa_check.proofs.FaultLemmas.{no_step_failure, one_step_failure}
 -- a legal order explains the replies before each message, what explains all replies is legal, and what explains those before a message is

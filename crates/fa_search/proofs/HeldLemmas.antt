@@ -77,6 +77,13 @@ reached_more c first at x y e may lacks steps one reached =
       );
     }
 
+-- those that came to it, and this one
+pub reached_more_by : (c : List Message) (first : TreeState) (at : ℕ) (x y : PlainConfiguration) (e : Entry) (may : MayBeTried c at e) (lacks : Contains x.placed e.at → ⊥)
+    (steps : EntrySteps x.tree y.tree c e) (one : IsOneMore x.placed e.at y.placed) (reached : IsReached c first at x)
+    → (reached_more c first at x y e may lacks steps one reached).entries ≡ reached.entries ++ e ∷ []
+unfolding reached_more
+reached_more_by c first at x y e may lacks steps one reached = refl
+
 -- entries that come to a configuration explain the replies before the message
 pub reached_explains : (c : List Message) (first : TreeState) (at : ℕ) (x : PlainConfiguration) → IsReached c first at x → (es : List Entry) × Explains c first at es
 reached_explains c first at x reached = (
@@ -92,9 +99,9 @@ reached_explains c first at x reached = (
 -- ---- from message to message
 
 -- before the first message the first tree is held, with nothing placed
-pub held_first : (c : List Message) (first : TreeState) → AreHeld c first 0 (record { placed = []; tree = first } ∷ [])
+pub held_first : (c : List Message) (first : TreeState) → AreHeld c first 0 (record { placed = []; tree = first; entries = [] } ∷ [])
 held_first c first =
-    let x : PlainConfiguration = record { placed = []; tree = first } in
+    let x : PlainConfiguration = record { placed = []; tree = first; entries = [] } in
     record {
       reached = λ y has. elim (contains_cases x [] y has) [
         | inl here ↦ subst (IsReached c first 0) here (record {

@@ -9,3 +9,12 @@ pub mod HeldLemmas
 pub mod CodeLemmas
 pub mod TriedLemmas
 pub mod FlightLemmas
+pub mod TracedLemmas
+pub mod PlacedLemmas
+pub mod BetweenLemmas
+pub mod TakenLemmas
+pub mod ReplyLemmas
+pub mod SearchLemmas
+pub mod LoopLemmas
+pub mod ThereLemmas
+pub mod MergedLemmas

@@ -11,6 +11,7 @@ use Rattle.fa_session.proofs.CallerLemmas.{answers_one, answered_once, answer_af
 use Rattle.fa_order.specs.declared.entry.Entry.{Entry}
 use Rattle.fa_check.specs.Orders.{IsTreeRequestAt, IsChoice}
 use Rattle.fa_check.specs.Cuts.{IsAnsweredBefore}
+use Rattle.fa_search.specs.Searches.{AreSerialBefore}
 use Rattle.fa_search.specs.parts.Going.{MayCome}
 use Rattle.fa_search.specs.parts.Configurations.{IsDoneAt, IsPending, ArePending, MayBeTried, IsOneLess, AnswersNone}
 
@@ -29,7 +30,7 @@ answered_at : (c : List Message) (p q r : ℕ) → IsAnsweredBy c p q → IsAnsw
 answered_at c p q r first second = answered_once c q r p first.0 second.0 first.1 second.1
 
 -- behind its request
-answered_behind : (c : List Message) (p q : ℕ) → IsAnsweredBy c p q → p < q
+pub answered_behind : (c : List Message) (p q : ℕ) → IsAnsweredBy c p q → p < q
 answered_behind c p q by = answer_after c q p by.0 by.1
 
 -- a request answers none
@@ -150,22 +151,22 @@ answered_pending c at asked tree by = record {
   named = (None, record { answered = λ q answered. refl; unanswered = λ o waits. absurd (waits.0 at by) });
 }
 
--- Where of each two tree requests the earlier one is answered before the later one is sent (`IsSerial` of fa_propose), it is the only one.
-pub serial_alone : (c : List Message) (at asked : ℕ) → ((p later : ℕ) → IsTreeRequestAt c p → IsTreeRequestAt c later → p < later → (q : ℕ) × IsAnsweredBy c p q × (q < later))
-    → IsTreeRequestAt c asked → IsAnsweredBy c asked at → (p : ℕ) → IsPending c at p → p ≡ asked
+-- Where of each two tree requests that were sent before the message the earlier one is answered before the later one is sent, it is the only
+-- one.
+pub serial_alone : (c : List Message) (at asked : ℕ) → AreSerialBefore c at → IsTreeRequestAt c asked → IsAnsweredBy c asked at → (p : ℕ) → IsPending c at p → p ≡ asked
 serial_alone c at asked serial tree by p is =
+    let asked_before = answered_behind c asked at by in
     elim (cases_lt p asked) [
       | inl before ↦
-          let answer = serial p asked is.tree_request tree before in
+          let answer = serial p asked is.tree_request tree before asked_before in
           let early = answer.2 in
-          let behind = answered_behind c asked at by in
-          absurd (is.waits (answer.0, answer.1, omega (arith, early, behind)))
+          absurd (is.waits (answer.0, answer.1, omega (arith, early, asked_before)))
       | inr far ↦ elim (cases_lt asked p) [
         | inl behind ↦
-            let answer = serial asked p tree is.tree_request behind in
+            let sent = is.sent in
+            let answer = serial asked p tree is.tree_request behind sent in
             let same : answer.0 ≡ at = answered_at c asked answer.0 at answer.1 by in
             let early = answer.2 in
-            let sent = is.sent in
             absurd (omega (arith, same, early, sent))
         | inr near ↦ omega (arith, far, near)
       ]

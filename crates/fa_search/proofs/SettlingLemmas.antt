@@ -11,7 +11,7 @@ use Rattle.fa_search.specs.parts.Configurations.{PlainConfiguration, IsReached, 
 -- ---- one element more
 
 -- it is one of those before, or the new one
-one_of : (xs : List PlainConfiguration) (x y : PlainConfiguration) → Contains (xs ++ x ∷ []) y → Contains xs y ⊎ (x ≡ y)
+pub one_of : (xs : List PlainConfiguration) (x y : PlainConfiguration) → Contains (xs ++ x ∷ []) y → Contains xs y ⊎ (x ≡ y)
 one_of xs x y has =
     elim (Contains-append_cases xs (x ∷ []) y has) [
       | inl before ↦ inl before
@@ -19,11 +19,11 @@ one_of xs x y has =
     ]
 
 -- what each of these is
-each_of : (xs : List PlainConfiguration) (x : PlainConfiguration) (Such : PlainConfiguration → Type 0) → ((y : PlainConfiguration) → Contains xs y → Such y) → Such x
+pub each_of : (xs : List PlainConfiguration) (x : PlainConfiguration) (Such : PlainConfiguration → Type 0) → ((y : PlainConfiguration) → Contains xs y → Such y) → Such x
     → (y : PlainConfiguration) → Contains (xs ++ x ∷ []) y → Such y
 each_of xs x Such each such y has = elim (one_of xs x y has) [ inl before ↦ each y before | inr here ↦ subst Such here such ]
 
-still_there : (xs : List PlainConfiguration) (x y : PlainConfiguration) → Contains xs y → Contains (xs ++ x ∷ []) y
+pub still_there : (xs : List PlainConfiguration) (x y : PlainConfiguration) → Contains xs y → Contains (xs ++ x ∷ []) y
 still_there xs x y has = Contains-append_left xs (x ∷ []) y has
 
 -- ---- the lists grow

@@ -1,5 +1,5 @@
 -- What a search of all orders finds where none is legal: the message past which none goes, and why.
-use Rattle.std.specs.Prelude.{◌≡◌, ℕ, ◌+◌, ◌<◌, List, length, take, Contains, None}
+use Rattle.std.specs.Prelude.{◌≡◌, ℕ, ◌+◌, ◌<◌, ◌≤◌, List, length, take, Contains, None}
 use Rattle.std.specs.List.Sorted.{IsStrictlyIncreasing}
 use Rattle.fa_capture.specs.Message.{Message}
 use Rattle.fa_session.specs.Answers.{IsAnsweredBy}
@@ -10,6 +10,9 @@ use Rattle.fa_check.specs.Orders.{IsTreeRequestAt, numbers}
 use Rattle.fa_check.specs.Runs.{HasOrder}
 use Rattle.fa_check.specs.Faults.{StepFails}
 use Rattle.fa_check.specs.Cuts.{Explains}
+use Rattle.fa_check.specs.Verdicts.{IsLegalWith}
+use Rattle.fa_search.specs.declared.finding.Finding.{Finding}
+use Rattle.fa_search.specs.declared.finding.Finding.TheVariants.{Found}
 
 -- ---- no order
 
@@ -58,3 +61,35 @@ pub record AreCodesAt (c : List Message) (first : TreeState) (at : ℕ) (codes :
   pub rising : IsStrictlyIncreasing codes
   pub each : (code : ℕ) → Contains codes code → IsRefusedWith c first at code
   pub complete : (code : ℕ) → IsRefusedWith c first at code → Contains codes code
+
+-- It is refused with this code, and with none that is less.
+pub record IsLeastCode (c : List Message) (first : TreeState) (at code : ℕ) : Type 0 where
+  pub refused : IsRefusedWith c first at code
+  pub least : (other : ℕ) → IsRefusedWith c first at other → code ≤ other
+
+-- ---- how far a search has come
+
+-- The message answers a tree request, and some entries explain all replies before it. Whether any explain its own too is not said.
+pub record IsExplainedUpTo (c : List Message) (first : TreeState) (at : ℕ) : Type 0 where
+  pub asked : ℕ
+  pub tree_request : IsTreeRequestAt c asked
+  pub answered : IsAnsweredBy c asked at
+  pub entries : List Entry
+  pub explains : Explains c first at entries
+
+-- Of each two tree requests that were sent before this message the earlier one is answered before the later one is sent.
+abbrev pub AreSerialBefore : List Message → (at : ℕ) → Type 0
+AreSerialBefore c at =
+    (p later : ℕ) → IsTreeRequestAt c p → IsTreeRequestAt c later → p < later → later < at → (q : ℕ) × IsAnsweredBy c p q × (q < later)
+
+-- ---- an order
+
+-- the order that was found, if one was, is legal, with the numbers of its entries and of what it leaves out
+abbrev pub IfLegal : List Message → (first : TreeState) → Finding → Type 0
+IfLegal c first (Found order placed left) = IsLegalWith c first order.items (length c) placed left
+IfLegal c first other = Unit {0}
+
+-- what was found is this order
+abbrev pub IsFound : List Entry → Finding → Type 0
+IsFound es (Found order placed left) = order.items ≡ es
+IsFound es other = ⊥

@@ -1,4 +1,16 @@
-//! What a complete search of orders finds: an order, or the message past which none goes.
+//! Searches for an order of the tree requests of a capture: finds one wherever there is one, or the message past which none goes.
 #![tactic(auto)]
 
+mod budget;
+mod configuration;
+mod finding;
+mod flight;
 pub mod laws;
+mod listener;
+mod searching;
+mod settling;
+
+pub use budget::Budget;
+pub use finding::Finding;
+pub use listener::{Listener, Nobody, SoFar};
+pub use searching::search;

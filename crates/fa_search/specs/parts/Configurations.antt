@@ -17,10 +17,11 @@ use Rattle.fa_check.specs.Faults.{EachPlaced}
 use Rattle.fa_check.specs.Cuts.{IsAnsweredBefore, Explains}
 use Rattle.fa_search.specs.parts.Going.{OrThis, GoesOn}
 
--- Which requests in flight are placed, by the numbers of their messages, and the tree.
+-- Which requests in flight are placed, by the numbers of their messages, the tree, and entries that led to it.
 pub record PlainConfiguration : Type 0 where
   pub placed : List ℕ
   pub tree : TreeState
+  pub entries : List Entry
 
 -- the tree request at p was answered before this message
 abbrev pub IsAnsweredTree : List Message → (at p : ℕ) → Type 0

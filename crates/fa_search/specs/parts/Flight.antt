@@ -1,0 +1,59 @@
+-- Which requests are in flight at a message, as a search keeps them.
+use Rattle.std.specs.Prelude.{◌≡◌, ◌⊎◌, ℕ, ◌<◌, ◌≤◌, true, false, List, Contains, All, slice_get, Option, None, Some, IsTrue}
+use Rattle.fa_ledger.specs.Kinds.{OnlyReads}
+use Rattle.fa_ledger.specs.Calls.{PlainAnswer, PlainCall}
+use Rattle.fa_search.specs.declared.flight.Due.{Due}
+use Rattle.fa_search.specs.declared.flight.Pending.{Pending}
+use Rattle.fa_search.specs.declared.flight.InFlight.{InFlight}
+use Rattle.fa_search.specs.parts.Configurations.{IsCallPending, KeepsTrees, most_written}
+
+-- when a call with this answer is answered
+abbrev pub due_by : Option PlainAnswer → (asked : ℕ) → Due
+due_by None asked = record { never = true; position = asked }
+due_by (Some answer) asked = record { never = false; position = answer.at }
+
+abbrev pub IsDue : Due → PlainCall → Type 0
+IsDue due call = due ≡ due_by call.answer call.asked
+
+-- what is kept of the call at this place
+pub record IsPendingOf (place : ℕ) (call : PlainCall) (pending : Pending) : Type 0 where
+  pub there : pending.place ≡ place
+  pub number : pending.asked ≡ call.asked
+  pub unanswered : IsTrue pending.unanswered → call.answer ≡ None
+  pub most : pending.most ≡ most_written call.answer call.operation
+  pub keeps : IsTrue pending.keeps_trees → KeepsTrees call
+
+-- it is a call in flight at this message that an order may name
+pub record IsInFlight (calls : List PlainCall) (at : ℕ) (pending : Pending) : Type 0 where
+  pub call : PlainCall
+  pub listed : slice_get calls pending.place ≡ Some call
+  pub kept : IsPendingOf pending.place call pending
+  pub waits : IsCallPending at call
+
+-- These are all of them, each by when it is answered. So many calls were sent.
+pub record IsFlight (calls : List PlainCall) (flight : InFlight) : Type 0 where
+  pub each : All (λ e. (is : IsInFlight calls flight.at e.1) × IsDue e.0 is.call) flight.requests.entries
+  pub all : (place : ℕ) (call : PlainCall) → slice_get calls place ≡ Some call → IsCallPending flight.at call
+      → (e : Due × Pending) × Contains flight.requests.entries e × (e.1.place ≡ place)
+  pub sent : (place : ℕ) (call : PlainCall) → slice_get calls place ≡ Some call → place < flight.seen → call.asked < flight.at
+  pub unsent : (place : ℕ) (call : PlainCall) → slice_get calls place ≡ Some call → flight.seen ≤ place → flight.at ≤ call.asked
+
+-- no request is in flight but that of the call at this place
+abbrev pub IsAlone : InFlight → (place : ℕ) → Type 0
+IsAlone flight place = All (λ e. e.1.place ≡ place) flight.requests.entries
+
+-- the call was sent, by when it is answered: it is among them, with the others of before
+pub record IsAmongNow (place : ℕ) (call : PlainCall) (old new : List (Due × Pending)) : Type 0 where
+  pub due : Due
+  pub pending : Pending
+  pub is_due : IsDue due call
+  pub of_call : IsPendingOf place call pending
+  pub added : Contains new (due, pending)
+  pub kept : (e : Due × Pending) → Contains old e → (e.0 ≡ due → ⊥) → Contains new e
+  pub each : (e : Due × Pending) → Contains new e → Contains old e ⊎ (e ≡ (due, pending))
+
+-- The call at this place was sent; where an order may not name it, those in flight are as they were.
+abbrev pub IsSent : (place : ℕ) → PlainCall → (old new : List (Due × Pending)) → Type 0
+IsSent place call old new =
+    ((call.answer ≡ None) × OnlyReads call.operation × (new ≡ old))
+    ⊎ ((call.answer ≡ None → OnlyReads call.operation → ⊥) × IsAmongNow place call old new)

@@ -1,0 +1,178 @@
+//! What a search finds of small captures.
+
+use fa_bodies::ROOT_ID as ROOT;
+use fa_capture::codes::{ATTRIBUTES, BYTES_READ};
+use fa_order::Entry;
+use fa_search::{Budget, Finding, Nobody, search};
+use fa_tests::messages::begun;
+use fa_tests::paired::calls_in;
+use fa_tests::sent::Sent::{self, *};
+use fa_tests::sent::{CREAT, with_all};
+use fa_tree::Tree;
+use std::alloc::Global;
+use std::process::Abort;
+
+/// `FATTR_SIZE` of `fuse.h`; the size of each SETATTR here is 0.
+const SIZE: u32 = 8;
+
+/// A new file, the messages 2 and 3; a WRITE of one byte and a SETATTR that cuts the file off, the messages 4 and 5, whose answers are 6
+/// and 7; a READ, the message 8, and what it read.
+static ONE_BYTE: &[Sent] = &[
+    Create(2, ROOT, CREAT),
+    Created(2, 2, 1),
+    Write(4, 2, 1, 0),
+    Setattr(5, 2, SIZE, 0),
+    Written(4),
+    Attr(5),
+    Read(6, 2, 1),
+    Success(6, b"x"),
+];
+
+static NO_BYTE: &[Sent] = &[
+    Create(2, ROOT, CREAT),
+    Created(2, 2, 1),
+    Write(4, 2, 1, 0),
+    Setattr(5, 2, SIZE, 0),
+    Written(4),
+    Attr(5),
+    Read(6, 2, 1),
+    Success(6, b""),
+];
+
+static ANOTHER_BYTE: &[Sent] = &[
+    Create(2, ROOT, CREAT),
+    Created(2, 2, 1),
+    Write(4, 2, 1, 0),
+    Setattr(5, 2, SIZE, 0),
+    Written(4),
+    Attr(5),
+    Read(6, 2, 1),
+    Success(6, b"y"),
+];
+
+/// A new file and a WRITE that is never answered; a READ of nothing, and one of its byte.
+static UNANSWERED: &[Sent] = &[
+    Create(2, ROOT, CREAT),
+    Created(2, 2, 1),
+    Write(4, 2, 1, 0),
+    Read(6, 2, 1),
+    Success(6, b""),
+    Read(8, 2, 1),
+    Success(8, b"x"),
+];
+
+/// The same READs the other way round.
+static UNDONE: &[Sent] = &[
+    Create(2, ROOT, CREAT),
+    Created(2, 2, 1),
+    Write(4, 2, 1, 0),
+    Read(6, 2, 1),
+    Success(6, b"x"),
+    Read(8, 2, 1),
+    Success(8, b""),
+];
+
+/// One request after the other: the bytes of a file that has none, and its attributes after a WRITE.
+static SERIAL_BYTES: &[Sent] = &[
+    Create(2, ROOT, CREAT),
+    Created(2, 2, 1),
+    Read(4, 2, 1),
+    Success(4, b"x"),
+];
+
+static SERIAL_SIZE: &[Sent] = &[
+    Create(2, ROOT, CREAT),
+    Created(2, 2, 1),
+    Write(4, 2, 1, 0),
+    Written(4),
+    Getattr(6, 2, 0, 0),
+    Attr(6),
+];
+
+const fn entry(at: u32) -> Entry {
+    Entry { at, wrote: None }
+}
+
+const fn wrote(at: u32, count: u32) -> Entry {
+    Entry {
+        at,
+        wrote: Some(count),
+    }
+}
+
+/// What is found of the messages behind a negotiation, from a tree of its root alone.
+fn found(rt: &impl Abort, alloc: Global, messages: &[Sent], budget: Budget) -> Finding {
+    let bytes = with_all(begun(alloc, (0, 0)), messages)
+        .capture()
+        .expect(rt, "memory");
+    let calls = calls_in(alloc, &bytes).expect(rt, "calls");
+    let tree = Tree::empty(alloc, 0o755).expect(rt, "memory");
+    let finding = search(alloc, &calls, tree, budget, &mut Nobody).expect(rt, "memory");
+    drop(calls);
+    finding
+}
+
+/// Whether this order is found.
+fn is_order(finding: &Finding, order: &[Entry]) -> bool {
+    match finding {
+        Finding::Found {
+            order: found,
+            placed,
+            left: 0,
+        } => { found.as_slice() == order && *placed as usize == order.len() }
+        _ => false,
+    }
+}
+
+/// Whether no order goes past this message, and this is the code.
+fn is_none(finding: &Finding, message: u32, refusal: u16) -> bool {
+    matches!(finding, Finding::NoOrder { at, code } if *at == message && *code == refusal)
+}
+
+/// Whether the search gave up at this message.
+fn is_given_up(finding: &Finding, message: u32) -> bool {
+    matches!(finding, Finding::GaveUp { at } if *at == message)
+}
+
+#[test]
+fn orders_that_are_proposed(rt: HostRuntime) {
+    let finding = found(&rt, rt.alloc(), NO_BYTE, Budget::default());
+    assert!(rt; is_order(&finding, &[entry(2), entry(4), entry(5), entry(8)]));
+    let finding = found(&rt, rt.alloc(), UNANSWERED, Budget::default());
+    assert!(rt; is_order(&finding, &[entry(2), entry(5), wrote(4, 1), entry(7)]));
+}
+
+#[test]
+fn an_order_that_is_not_proposed(rt: HostRuntime) {
+    let finding = found(&rt, rt.alloc(), ONE_BYTE, Budget::default());
+    assert!(rt; is_order(&finding, &[entry(2), entry(5), entry(4), entry(8)]));
+}
+
+#[test]
+fn no_order(rt: HostRuntime) {
+    for (messages, at, code) in [
+        (ANOTHER_BYTE, 9, BYTES_READ),
+        (UNDONE, 8, BYTES_READ),
+        (SERIAL_BYTES, 5, BYTES_READ),
+        (SERIAL_SIZE, 7, ATTRIBUTES),
+    ] {
+        let finding = found(&rt, rt.alloc(), messages, Budget::default());
+        assert!(rt; is_none(&finding, at, code), "stop at {at}");
+    }
+}
+
+#[test]
+fn budgets_that_are_spent(rt: HostRuntime) {
+    let ample = Budget::default();
+    let spent = [
+        Budget { steps: 0, ..ample },
+        Budget { trees: 1, ..ample },
+        Budget { bytes: 1, ..ample },
+    ];
+    for budget in spent {
+        let finding = found(&rt, rt.alloc(), ONE_BYTE, budget);
+        assert!(rt; is_given_up(&finding, 6));
+        let finding = found(&rt, rt.alloc(), SERIAL_SIZE, budget);
+        assert!(rt; is_none(&finding, 7, ATTRIBUTES));
+    }
+}
