@@ -29,7 +29,7 @@ use Rattle.fa_tree.specs.State.{TreeState}
 use Rattle.fa_tree.specs.Resolved.{Resolved, resolved}
 use Rattle.fa_tree.specs.Operations.{count_written}
 use Rattle.fa_tree.specs.Steps.{step_checks, checks_of_files}
-use Rattle.fa_check.specs.Faults.{order_checks, EntryFails, IsOrderAtFault}
+use Rattle.fa_check.specs.Faults.{order_checks, StepFails, EntryFails, IsOrderAtFault}
 use Rattle.fa_order.specs.declared.entry.Entry.{Entry}
 use Rattle.fa_audit.specs.declared.verdict.StartError.{StartError}
 use Rattle.fa_audit.specs.declared.verdict.StartError.TheVariants as starts
@@ -91,12 +91,17 @@ files_coded : (tree : TreeState) (call : PlainCall) (o : PlainOperation) (count 
 files_coded tree call o count so_far None = (refl, tt)
 files_coded tree call o count so_far (Some files) = (refl, (refl, (refl, (refl, (refl, (refl, (refl, tt)))))))
 
+-- the code with which an entry's step is refused
+pub step_coded : (tree : TreeState) (c : List Message) (e : Entry) (code : ℕ) → StepFails tree c e code → IsSome (text_of code)
+step_coded tree c e code step =
+    coded_failure (step_checks tree step.call e.wrote step.so_far) code
+    (files_coded tree step.call step.call.operation (count_written step.call.operation e.wrote) step.so_far (resolved tree step.call)) step.fails
+
 entry_coded : (tree : TreeState) (c : List Message) (earlier : List Entry) (e : Entry) (code : ℕ) → EntryFails tree c earlier e code → IsSome (text_of code)
 entry_coded tree c earlier e code fails =
     elim fails [
       | inl here ↦ coded_failure (order_checks c earlier e) code (refl, (refl, (refl, (refl, tt)))) here
-      | inr step ↦ coded_failure (step_checks tree step.1.call e.wrote step.1.so_far) code
-          (files_coded tree step.1.call step.1.call.operation (count_written step.1.call.operation e.wrote) step.1.so_far (resolved tree step.1.call)) step.1.fails
+      | inr step ↦ step_coded tree c e code step.1
     ]
 
 order_coded : (c : List Message) (first : TreeState) (es : List Entry) (entry at code : ℕ) → IsOrderAtFault c first es entry at code → IsSome (text_of code)

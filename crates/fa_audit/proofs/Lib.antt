@@ -9,6 +9,8 @@ pub mod StoredLemmas
 pub mod RunLemmas
 pub mod OneProposal
 pub mod ProposalLemmas
+pub mod SearchLemmas
+pub mod SearchRunLemmas
 pub mod CutOrderLemmas
 pub mod TimeLemmas
 pub mod SeenLemmas

@@ -8,6 +8,8 @@ pub mod Status
 pub mod Run
 -- what each answer of a proposal says, and what a run of it writes
 pub mod Proposed
+-- what each answer of a search says, and what is judged by it; what a run of either writes
+pub mod Searched
 -- what each answer of a call says that cuts an order, and what a run of it writes
 pub mod CutOrders
 -- what a run writes that cuts a capture, and one that migrates it

@@ -4,6 +4,10 @@ use Rattle.fa_capture.specs.declared.codes.TheConstants.{NOT_AN_ORDER_TEXT, NOT_
 use Rattle.fa_capture.specs.Codes.{text_of}
 use Rattle.fa_check.specs.declared.verdict.Verdict.{Verdict}
 use Rattle.fa_check.specs.declared.verdict.Verdict.TheVariants.{Legal, Fault, NotShown}
+use Rattle.fa_audit.specs.declared.found.Searched.{Searched}
+use Rattle.fa_audit.specs.declared.found.Searched.TheVariants as found
+use Rattle.fa_audit.specs.declared.found.Judgement.{Judgement}
+use Rattle.fa_audit.specs.declared.found.Judgement.TheVariants as judged
 use Rattle.fa_audit.specs.declared.verdict.AuditError.{AuditError}
 use Rattle.fa_audit.specs.declared.verdict.AuditError.TheVariants.{OrderText, TreeText, Memory}
 use Rattle.fa_audit.specs.declared.status.Status.TheVariants as status
@@ -57,3 +61,29 @@ answer_status (Ok (NotShown entry at code)) = status_number status.NotShown
 answer_status (Err (TreeText line)) = status_number status.Text
 answer_status (Err (OrderText line)) = status_number status.Text
 answer_status (Err Memory) = status_number status.Failed
+
+-- ---- what a search answers, and what is judged by it
+
+-- the code that a search tells, if any, has a text
+abbrev pub IsCodedSearch : Searched → Type 0
+IsCodedSearch (found.Order text) = Unit {0}
+IsCodedSearch (found.NoOrder at code) = IsSome (text_of code)
+IsCodedSearch (found.GaveUp at) = Unit {0}
+
+-- so has that of what is judged
+abbrev pub IsCodedJudgement : Judgement → Type 0
+IsCodedJudgement (judged.Legal messages placed left) = Unit {0}
+IsCodedJudgement (judged.NoOrder at code) = IsSome (text_of code)
+IsCodedJudgement (judged.GaveUp at) = Unit {0}
+
+-- The line of what is judged: of a legal order that of its verdict.
+abbrev pub judgement_line : Judgement → List ℕ
+judgement_line (judged.Legal messages placed left) = verdict_line (Legal messages placed left)
+judgement_line (judged.NoOrder at code) = codes "no order" ++ message_part at code
+judgement_line (judged.GaveUp at) = codes "gave up: message " ++ decimal at
+
+-- Its status.
+abbrev pub judgement_status : Judgement → ℕ
+judgement_status (judged.Legal messages placed left) = status_number status.Legal
+judgement_status (judged.NoOrder at code) = status_number status.NoOrder
+judgement_status (judged.GaveUp at) = status_number status.GaveUp

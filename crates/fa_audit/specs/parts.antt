@@ -6,3 +6,5 @@ pub mod Protocol
 pub mod Answers
 -- what was seen of a stream
 pub mod Seeing
+-- what a search finds from a tree, and what is judged by it
+pub mod Searching

@@ -1,12 +1,15 @@
 //! The audit of recorded /dev/fuse traffic.
 //!
 //! [`audit`] judges a capture and an order of its requests from the tree that the server began with, [`audit_capture`] a capture that
-//! was read, as one that came in pieces, and [`verdict_text`] is the line that tells it. [`run`], [`run_propose`], [`run_cut`],
-//! [`run_front`], [`run_migrate`] and [`run_watch`] go from inputs to an output: they are the commands `check`, `propose`, `cut`,
-//! `front`, `migrate` and `watch` of the program `fa_audit`.
+//! was read, as one that came in pieces, and [`verdict_text`] is the line that tells it. [`judge_capture`] searches all orders for one
+//! that explains a capture, so that none has to be handed in, and [`search_order`] is the text of the one that is found. [`run`],
+//! [`run_propose`], [`run_search`], [`run_judge`], [`run_cut`], [`run_front`], [`run_migrate`] and [`run_watch`] go from inputs to an
+//! output: they are the commands `check`, `propose`, `search`, `judge`, `cut`, `front`, `migrate` and `watch` of the program `fa_audit`.
 #![tactic(auto)]
 
 mod cutting;
+mod deciding;
+mod found;
 mod fronts;
 mod judge;
 pub mod laws;
@@ -15,17 +18,24 @@ mod migrating;
 mod proposing;
 mod protocol;
 mod running;
+mod searching;
 mod status;
 mod verdict;
 mod watching;
 
 pub use cutting::{cut_order, run_cut};
+pub use deciding::{judge_capture, judged_line_and_status, run_judge};
+pub use found::{Judgement, Searched};
 pub use fronts::run_front;
 pub use judge::{ROOT_BITS, audit, audit_capture};
-pub use line::{order_fault_text, tree_fault_text, verdict_text};
+pub use line::{judgement_text, order_fault_text, tree_fault_text, verdict_text};
 pub use migrating::run_migrate;
 pub use proposing::{proposal, run_propose};
 pub use running::{MAX_CAPTURE_INPUT_BYTES, MAX_TEXT_INPUT_BYTES, RunFault, line_and_status, run};
+pub use searching::{run_search, search_order};
 pub use status::Status;
 pub use verdict::{AuditError, CutError, StartError};
 pub use watching::run_watch;
+
+/// How much a search may take.
+pub use fa_search::{Budget, Listener, Nobody, SoFar};

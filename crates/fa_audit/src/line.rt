@@ -2,8 +2,9 @@
 
 ghost use Rattle.std.specs.Prelude.{◌≡◌, IsSome, IfOk, string_bytes};
 ghost use Rattle.fa_capture.specs.Codes.{text_of};
-ghost use Rattle.fa_audit.specs.Line.{IsCoded, verdict_line, order_line, tree_line, code_text};
+ghost use Rattle.fa_audit.specs.Line.{IsCoded, IsCodedJudgement, verdict_line, judgement_line, order_line, tree_line, code_text};
 
+use crate::found::Judgement;
 use fa_capture::codes;
 use fa_check::Verdict;
 use std::alloc::{AllocError, Global};
@@ -39,6 +40,44 @@ pub fn verdict_text(alloc: Global, verdict: &Verdict) -> Result<String, AllocErr
             let text = text_of_code(code);
             format!(in alloc; "not shown: entry {entry}: message {at}: code {code}: {text}")
         }
+    }
+}
+
+/// The line of what is judged by a search, without a line feed. The code that it tells, if any, is one of [`codes`].
+///
+/// - `legal: M messages, P placed, L left out`
+/// - `no order: message N: code C: TEXT`
+/// - `gave up: message N`
+///
+/// # Errors
+///
+/// `AllocError` where memory for the line was refused.
+///
+/// # Cost
+///
+/// Constant time and memory.
+pub fn judgement_text(alloc: Global, judgement: &Judgement) -> Result<String, AllocError>
+    requires { IsCodedJudgement judgement.now }
+    ensures { IfOk result (λ line. string_bytes line ≡ judgement_line judgement.now) }
+{
+    match *judgement {
+        Judgement::Legal {
+            messages,
+            placed,
+            left,
+        } => verdict_text(
+            alloc,
+            &Verdict::Legal {
+                messages,
+                placed,
+                left,
+            },
+        ),
+        Judgement::NoOrder { at, code } => {
+            let text = text_of_code(code);
+            format!(in alloc; "no order: message {at}: code {code}: {text}")
+        }
+        Judgement::GaveUp { at } => format!(in alloc; "gave up: message {at}"),
     }
 }
 

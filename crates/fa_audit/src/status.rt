@@ -18,6 +18,10 @@ pub enum Status {
     CommandLine = 4,
     /// Reading, writing or memory failed.
     Failed = 5,
+    /// No order explains the capture.
+    NoOrder = 6,
+    /// The search gave up before it had an answer.
+    GaveUp = 7,
 }
 
 impl Status {

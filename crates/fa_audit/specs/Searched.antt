@@ -1,0 +1,139 @@
+-- The answers of a search of all orders, and of the judgement that rests on it, each by what it says of the capture and of the tree
+-- text if one is handed in; and what a run of either writes. The capture, the given tree and their faults are those of the audit.
+use Rattle.std.specs.Prelude.{ℕ, List, ◌++◌, Option, Result, Ok, Err}
+use Rattle.fa_capture.specs.Message.{Message}
+use Rattle.fa_ledger.specs.Passing.{IsGoodCapture, IsFirstFault}
+use Rattle.fa_tree.specs.State.{TreeState}
+use Rattle.fa_order.specs.declared.entry.Entry.{Entry}
+use Rattle.fa_order.specs.Order.{IsOrderText}
+use Rattle.fa_check.specs.Runs.{IsLegalRun}
+use Rattle.fa_check.specs.Verdicts.{IsLegalWith}
+use Rattle.fa_propose.specs.Proposals.{IsProposal}
+use Rattle.fa_search.specs.Searches.{IsStop, IsLeastCode, IsExplainedUpTo, AreSerialBefore}
+use Rattle.fa_audit.specs.declared.found.Searched.{Searched}
+use Rattle.fa_audit.specs.declared.found.Searched.TheVariants as found
+use Rattle.fa_audit.specs.declared.found.Judgement.{Judgement}
+use Rattle.fa_audit.specs.declared.found.Judgement.TheVariants as judged
+use Rattle.fa_audit.specs.declared.verdict.StartError.{StartError}
+use Rattle.fa_audit.specs.declared.verdict.StartError.TheVariants.{Fault, TreeText, Memory}
+use Rattle.fa_audit.specs.declared.status.Status.TheVariants as status
+use Rattle.fa_audit.specs.Status.{status_number}
+use Rattle.fa_audit.specs.Verdict.{IsGivenTree, IsTreeTextAtFault}
+use Rattle.fa_audit.specs.Line.{answer_line, answer_status, judgement_line, judgement_status}
+use Rattle.fa_audit.specs.Proposed.{answer_of}
+use Rattle.fa_audit.specs.Run.{line_feed, IsWritten, AreBytesOf}
+
+-- ---- answers
+
+-- The capture is good, a tree text that is handed in is in its grammar, and this is the text of an order that is legal for the messages
+-- from the given tree.
+pub record IsOrderFound (capture : List ℕ) (tree : Option (List ℕ)) (text : List ℕ) : Type 0 where
+  pub messages : List Message
+  pub first : TreeState
+  pub entries : List Entry
+  pub good : IsGoodCapture capture messages
+  pub given : IsGivenTree tree first
+  pub legal : IsLegalRun messages first entries
+  pub spelled : IsOrderText text entries
+
+-- The capture is good, a tree text that is handed in is in its grammar, and some order is legal: with the numbers of the messages, of its
+-- entries, and of the unanswered tree requests that are in no entry.
+pub record IsJudgedLegal (capture : List ℕ) (tree : Option (List ℕ)) (count placed left : ℕ) : Type 0 where
+  pub messages : List Message
+  pub first : TreeState
+  pub entries : List Entry
+  pub good : IsGoodCapture capture messages
+  pub given : IsGivenTree tree first
+  pub legal : IsLegalWith messages first entries count placed left
+
+-- The capture is good, a tree text that is handed in is in its grammar, and no order is legal: none goes past the reply at this message,
+-- and this is the least code with which its request is refused after entries that come to it.
+pub record IsWithoutOrder (capture : List ℕ) (tree : Option (List ℕ)) (at code : ℕ) : Type 0 where
+  pub messages : List Message
+  pub first : TreeState
+  pub good : IsGoodCapture capture messages
+  pub given : IsGivenTree tree first
+  pub stop : IsStop messages first at
+  pub least : IsLeastCode messages first at code
+
+-- The capture is good, a tree text that is handed in is in its grammar, and some entries explain all replies before this message, which
+-- answers a tree request. Of the tree requests before it not each was answered before the next one was sent, and the order that is
+-- proposed is not legal: else there would be an answer.
+pub record IsGivenUp (capture : List ℕ) (tree : Option (List ℕ)) (at : ℕ) : Type 0 where
+  pub messages : List Message
+  pub first : TreeState
+  pub good : IsGoodCapture capture messages
+  pub given : IsGivenTree tree first
+  pub explained : IsExplainedUpTo messages first at
+  pub overlaps : AreSerialBefore messages at → ⊥
+  pub unproposed : (es : List Entry) → IsProposal messages first es → IsLegalRun messages first es → ⊥
+
+-- What each answer of a search says where there is a start,
+abbrev pub IsSearched : (capture : List ℕ) → (tree : Option (List ℕ)) → Searched → Type 0
+IsSearched capture tree (found.Order text) = IsOrderFound capture tree text.items
+IsSearched capture tree (found.NoOrder at code) = IsWithoutOrder capture tree at code
+IsSearched capture tree (found.GaveUp at) = IsGivenUp capture tree at
+
+-- and what is judged there.
+abbrev pub IsJudged : (capture : List ℕ) → (tree : Option (List ℕ)) → Judgement → Type 0
+IsJudged capture tree (judged.Legal messages placed left) = IsJudgedLegal capture tree messages placed left
+IsJudged capture tree (judged.NoOrder at code) = IsWithoutOrder capture tree at code
+IsJudged capture tree (judged.GaveUp at) = IsGivenUp capture tree at
+
+-- What each answer says: what a search comes to, the first fault of the capture, or that of the tree text. That memory was refused is no
+-- answer.
+abbrev pub IsSearchAnswer : (capture : List ℕ) → (tree : Option (List ℕ)) → Result Searched StartError → Type 0
+IsSearchAnswer capture tree (Ok searched) = IsSearched capture tree searched
+IsSearchAnswer capture tree (Err (Fault at code)) = IsFirstFault capture at code
+IsSearchAnswer capture tree (Err (TreeText line)) = IsTreeTextAtFault capture tree line
+IsSearchAnswer capture tree (Err Memory) = ⊥
+
+-- The same of what is judged.
+abbrev pub IsJudgeAnswer : (capture : List ℕ) → (tree : Option (List ℕ)) → Result Judgement StartError → Type 0
+IsJudgeAnswer capture tree (Ok judgement) = IsJudged capture tree judgement
+IsJudgeAnswer capture tree (Err (Fault at code)) = IsFirstFault capture at code
+IsJudgeAnswer capture tree (Err (TreeText line)) = IsTreeTextAtFault capture tree line
+IsJudgeAnswer capture tree (Err Memory) = ⊥
+
+-- ---- what is written
+
+-- the line of what is judged, or that by which an audit tells the fault
+abbrev pub judged_line : Result Judgement StartError → List ℕ
+judged_line (Ok judgement) = judgement_line judgement
+judged_line (Err error) = answer_line (answer_of error)
+
+-- The status of each.
+abbrev pub judged_status : Result Judgement StartError → ℕ
+judged_status (Ok judgement) = judgement_status judgement
+judged_status (Err error) = answer_status (answer_of error)
+
+-- the line of what is judged and a line feed were written, and the status is that of the answer
+abbrev pub IsJudgementTold : Result Judgement StartError → (old new : Option (List ℕ)) → (ended : ℕ) → Type 0
+IsJudgementTold answer old new ended = IsWritten (judged_line answer ++ line_feed) (judged_status answer) old new ended
+
+-- What is written of each answer of a search, with the status: the order text with 0, and else what is written where that is judged.
+abbrev pub IsSearchTold : Result Searched StartError → (old new : Option (List ℕ)) → (ended : ℕ) → Type 0
+IsSearchTold (Ok (found.Order text)) old new ended = IsWritten text.items (status_number status.Legal) old new ended
+IsSearchTold (Ok (found.NoOrder at code)) old new ended = IsJudgementTold (Ok (judged.NoOrder at code)) old new ended
+IsSearchTold (Ok (found.GaveUp at)) old new ended = IsJudgementTold (Ok (judged.GaveUp at)) old new ended
+IsSearchTold (Err error) old new ended = IsJudgementTold (Err error) old new ended
+
+-- These are the bytes of the capture, and of the tree what `Tree` says; a search answers this of them, and the answer was told.
+pub record IsSearchedFrom (capture : Option (List ℕ)) (Tree : Option (List ℕ) → Type 0) (old new : Option (List ℕ)) (ended : ℕ) : Type 0 where
+  pub capture_bytes : List ℕ
+  pub tree_bytes : Option (List ℕ)
+  pub answer : Result Searched StartError
+  pub capture_read : AreBytesOf capture capture_bytes
+  pub tree_read : Tree tree_bytes
+  pub is_answer : IsSearchAnswer capture_bytes tree_bytes answer
+  pub told : IsSearchTold answer old new ended
+
+-- These are the bytes of the capture, and of the tree what `Tree` says; this is judged of them, and it was told.
+pub record IsJudgedFrom (capture : Option (List ℕ)) (Tree : Option (List ℕ) → Type 0) (old new : Option (List ℕ)) (ended : ℕ) : Type 0 where
+  pub capture_bytes : List ℕ
+  pub tree_bytes : Option (List ℕ)
+  pub answer : Result Judgement StartError
+  pub capture_read : AreBytesOf capture capture_bytes
+  pub tree_read : Tree tree_bytes
+  pub is_answer : IsJudgeAnswer capture_bytes tree_bytes answer
+  pub told : IsJudgementTold answer old new ended

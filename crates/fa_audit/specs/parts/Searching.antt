@@ -1,0 +1,46 @@
+-- What a search finds of good messages from a first tree, and what is judged by it.
+use Rattle.std.specs.Prelude.{ℕ, List, length}
+use Rattle.fa_capture.specs.Message.{Message}
+use Rattle.fa_tree.specs.State.{TreeState}
+use Rattle.fa_order.specs.declared.entry.Entry.{Entry}
+use Rattle.fa_order.specs.Order.{IsOrderText}
+use Rattle.fa_check.specs.Runs.{IsLegalRun}
+use Rattle.fa_check.specs.Verdicts.{IsLegalWith}
+use Rattle.fa_propose.specs.Proposals.{IsProposal}
+use Rattle.fa_search.specs.Searches.{IsStop, IsLeastCode, IsExplainedUpTo, AreSerialBefore}
+use Rattle.fa_search.specs.declared.finding.Finding.{Finding}
+use Rattle.fa_search.specs.declared.finding.Finding.TheVariants as finding
+use Rattle.fa_audit.specs.declared.found.Searched.{Searched}
+use Rattle.fa_audit.specs.declared.found.Searched.TheVariants as found
+use Rattle.fa_audit.specs.declared.found.Judgement.{Judgement}
+use Rattle.fa_audit.specs.declared.found.Judgement.TheVariants as judged
+
+-- no order goes past the reply at this message, and this is the least code with which its request is refused
+pub record IsStopWith (c : List Message) (first : TreeState) (at code : ℕ) : Type 0 where
+  pub stop : IsStop c first at
+  pub least : IsLeastCode c first at code
+
+-- Some entries explain all replies before this message, which answers a tree request; requests overlap before it, and the order that is
+-- proposed is not legal.
+pub record IsGivenUpIn (c : List Message) (first : TreeState) (at : ℕ) : Type 0 where
+  pub explained : IsExplainedUpTo c first at
+  pub overlaps : AreSerialBefore c at → ⊥
+  pub unproposed : (es : List Entry) → IsProposal c first es → IsLegalRun c first es → ⊥
+
+-- what is found,
+abbrev pub IsFindingIn : List Message → TreeState → Finding → Type 0
+IsFindingIn c first (finding.Found order placed left) = IsLegalWith c first order.items (length c) placed left
+IsFindingIn c first (finding.NoOrder at code) = IsStopWith c first at code
+IsFindingIn c first (finding.GaveUp at) = IsGivenUpIn c first at
+
+-- with an order as its text,
+abbrev pub IsSearchedIn : List Message → TreeState → Searched → Type 0
+IsSearchedIn c first (found.Order text) = (es : List Entry) × IsLegalRun c first es × IsOrderText text.items es
+IsSearchedIn c first (found.NoOrder at code) = IsStopWith c first at code
+IsSearchedIn c first (found.GaveUp at) = IsGivenUpIn c first at
+
+-- and with the numbers of the order in its place.
+abbrev pub IsJudgedIn : List Message → TreeState → Judgement → Type 0
+IsJudgedIn c first (judged.Legal messages placed left) = (es : List Entry) × IsLegalWith c first es messages placed left
+IsJudgedIn c first (judged.NoOrder at code) = IsStopWith c first at code
+IsJudgedIn c first (judged.GaveUp at) = IsGivenUpIn c first at

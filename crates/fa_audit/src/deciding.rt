@@ -1,0 +1,305 @@
+//! What is judged of a capture by a search of all its orders.
+
+ghost use Rattle.std.specs.Prelude.{◌≡◌, ◌≢◌, ◌≤◌, ◌↔◌, ◌⊎◌, ℕ, false, true, List, None, Err, length, IfOk, IfErr, IfSome, IsOk, OnOk, IsErrOf, string_bytes};
+ghost use Rattle.std.specs.Option.{option_copied};
+ghost use Rattle.std.specs.Io.KnownBytes.{IsAtEnd, Keeps};
+ghost use Rattle.fa_capture.specs.Message.{Message};
+ghost use Rattle.fa_capture.specs.Captures.{IsCaptureOf};
+ghost use Rattle.fa_ledger.specs.Passing.{IsFirstFault};
+ghost use Rattle.fa_order.specs.declared.lines.TheConstants.{MAX_TEXT_BYTES};
+ghost use Rattle.fa_check.specs.Verdicts.{AreMessagesOf};
+ghost use Rattle.fa_audit.specs.Verdict.{IsTreeTextAtFault, ExactlyRefused};
+ghost use Rattle.fa_audit.specs.Line.{IsCoded, IsCodedJudgement, judgement_status};
+ghost use Rattle.fa_audit.specs.Run.{IfHandedIn, IsHandedIn, IsSomeRead, IsReadIfAny, IsUnread, FailedOrInterrupted, IsAtEndOrFault};
+ghost use Rattle.fa_audit.specs.declared.running.TheConstants.{MAX_TEXT_INPUT_BYTES};
+ghost use Rattle.fa_audit.specs.Proposed.{IsStart, answer_of};
+ghost use Rattle.fa_audit.specs.Status.{status_number};
+ghost use Rattle.fa_audit.specs.Searched.{IsJudged, IsJudgementTold, IsJudgedFrom, judged_line, judged_status};
+ghost use Rattle.fa_audit.specs.parts.Answers.{IsNoStart};
+ghost use Rattle.fa_audit.specs.parts.Searching.{IsFindingIn, IsJudgedIn};
+
+use crate::found::Judgement;
+use crate::judge::start;
+use crate::line::judgement_text;
+use crate::running::{
+    MAX_TEXT_INPUT_BYTES, RunFault, input_bytes, line_and_status, stored_capture,
+};
+use crate::searching::found_from;
+use crate::status::Status;
+use crate::verdict::StartError;
+use fa_capture::{Capture, Input, Output, read_capture};
+use fa_ledger::Calls;
+use fa_search::{Budget, Finding, Listener, Nobody};
+use fa_tree::Tree;
+use std::alloc::{AllocError, Global};
+
+/// Whether some order is legal for a capture, from the tree that the server began with: with the numbers of one that is, or the message
+/// past which none goes.
+///
+/// The capture is judged and the tree text is read as [`audit`](crate::audit) does it. All orders are searched, as
+/// [`search`](fa_search::search) does it within the budget, and what is told of one that is found is what [`check`](fa_check::check) tells. It gives up only where
+/// requests overlap and the order of [`proposal`](crate::proposal) is not legal. The tree text has at most 268,435,456 bytes.
+///
+/// # Errors
+///
+/// - [`StartError::Fault`] exactly where the capture is not good: at the least number of a message that does not pass or of the
+///   framing fault, with the first check that it fails, as one of [`codes`](fa_capture::codes).
+/// - [`StartError::TreeText`] exactly where the capture is good and the tree text that is handed in is not in its grammar.
+/// - [`StartError::Memory`] where memory was refused.
+///
+/// # Cost
+///
+/// That of [`audit`](crate::audit) up to the order text, and of [`search`](fa_search::search).
+pub fn judge_capture(
+    alloc: Global,
+    capture: &[u8],
+    tree: Option<&[u8]>,
+    budget: Budget,
+) -> Result<Judgement, StartError>
+    requires { IfSome (option_copied tree) (λ text. length text ≤ MAX_TEXT_BYTES) }
+
+    // It is answered exactly where the capture is good and a tree text that is handed in is in its grammar.
+    ensures answer { IfOk result (IsJudged capture.now (option_copied tree.entry)) }
+    ensures start { IsStart capture.now (option_copied tree.entry) → IsOk result ⊎ IsErrOf result StartError.Memory }
+
+    ensures fault { (at code : ℕ) → ExactlyRefused result StartError.Memory
+        (StartError.Fault at code) (IsFirstFault capture.now at code) }
+    ensures tree_text { (line : ℕ) → ExactlyRefused result StartError.Memory
+        (StartError.TreeText line) (IsTreeTextAtFault capture.now (option_copied tree.entry) line) }
+
+    // A code that is told has a text.
+    ensures codes { IfOk result IsCodedJudgement }
+    ensures fault_codes { IfErr result (λ error. IfOk (answer_of error) IsCoded) }
+{
+    judged(alloc, &read_capture(capture), tree, budget, &mut Nobody)
+}
+
+/// What is judged of a capture that was read.
+fn judged<L: Listener>(
+    alloc: Global,
+    capture: &Capture<'_>,
+    tree: Option<&[u8]>,
+    budget: Budget,
+    listener: &mut L,
+) -> Result<Judgement, StartError>
+    requires { IfSome (option_copied tree) (λ text. length text ≤ MAX_TEXT_BYTES) }
+    ensures answer { IfOk result (λ judgement. (bytes : List ℕ) → IsCaptureOf bytes capture.now → IsJudged bytes (option_copied tree.entry) judgement) }
+    ensures none { IfErr result (λ error. (bytes : List ℕ) → IsCaptureOf bytes capture.now → IsNoStart bytes (option_copied tree.entry) error) }
+{
+    let (calls, first) = start(alloc, capture, tree)?;
+    Ok(decide(alloc, &calls, first, budget, listener)?)
+}
+
+/// What is judged from a tree.
+fn decide<L: Listener>(
+    alloc: Global,
+    calls: &Calls<'_>,
+    first: Tree,
+    budget: Budget,
+    listener: &mut L,
+) -> Result<Judgement, AllocError>
+    ensures { IfOk result (λ judgement. (c : List Message) → AreMessagesOf calls.now c → IsJudgedIn c first judgement) }
+{
+    match found_from(alloc, calls, first, budget, listener)? {
+        Finding::Found { placed, left, .. } => Ok(Judgement::Legal {
+            messages: calls.messages,
+            placed,
+            left,
+        }),
+        Finding::NoOrder { at, code } => Ok(Judgement::NoOrder { at, code }),
+        Finding::GaveUp { at } => Ok(Judgement::GaveUp { at }),
+    }
+}
+
+/// The status of what is judged.
+fn status_of(judgement: Judgement) -> Status
+    ensures { status_number result ≡ judgement_status judgement }
+{
+    match judgement {
+        Judgement::Legal { .. } => Status::Legal,
+        Judgement::NoOrder { .. } => Status::NoOrder,
+        Judgement::GaveUp { .. } => Status::GaveUp,
+    }
+}
+
+/// The line that tells an answer of [`judge_capture`], without a line feed, and its status. A code that it tells is one that has a text,
+/// as in each answer of [`judge_capture`].
+///
+/// # Errors
+///
+/// [`RunFault::Memory`] where memory was refused: to the answer, or to its line.
+///
+/// # Cost
+///
+/// Time and memory for the line.
+pub fn judged_line_and_status(
+    alloc: Global,
+    answer: Result<Judgement, StartError>,
+) -> Result<(String, Status), RunFault>
+    requires coded { IfOk answer IsCodedJudgement }
+    requires coded_fault { IfErr answer (λ error. IfOk (answer_of error) IsCoded) }
+    ensures line { IfOk result (λ told. string_bytes told.0 ≡ judged_line answer) }
+    ensures status { IfOk result (λ told. status_number told.1 ≡ judged_status answer) }
+    ensures answered { OnOk result (answer ≢ Err StartError.Memory) }
+    ensures memory { IfErr result (λ fault. fault ≡ RunFault.Memory) }
+{
+    match answer {
+        Ok(judgement) => Ok((judgement_text(alloc, &judgement)?, status_of(judgement))),
+        Err(error) => line_and_status(alloc, error.answer()),
+    }
+}
+
+/// Writes the line of what is judged and a line feed: the status of the answer.
+pub(crate) fn tell_judgement<W: Output>(
+    alloc: Global,
+    answer: Result<Judgement, StartError>,
+    out: &mut W,
+) -> Result<u8, RunFault>
+    requires coded { IfOk answer IsCodedJudgement }
+    requires coded_fault { IfErr answer (λ error. IfOk (answer_of error) IsCoded) }
+    requires unbroken { W.is_broken out.old ≡ false }
+    ensures told { IfOk result (IsJudgementTold answer (W.written out.old) (W.written out.new)) }
+    ensures answered { OnOk result (answer ≢ Err StartError.Memory) }
+    ensures memory { IsErrOf result RunFault.Memory →
+        Keeps (W.written out.old) (W.written out.new) }
+    ensures read { IsErrOf result RunFault.Read → ⊥ }
+    ensures write { IsErrOf result RunFault.Write ↔ (W.is_broken out.new ≡ true) }
+{
+    let (mut line, status) = judged_line_and_status(alloc, answer)?;
+    line.push('\n')?;
+    out.put(line.as_bytes())?;
+    Ok(status.number())
+}
+
+/// Reads the capture, and tells what is judged on an empty root.
+fn judge_on_empty_root<R: Input, L: Listener, W: Output>(
+    alloc: Global,
+    capture: &mut R,
+    budget: Budget,
+    listener: &mut L,
+    out: &mut W,
+) -> Result<u8, RunFault>
+    requires capture_unfailed { R.has_failed capture.old ≡ false }
+    requires capture_uninterrupted { R.was_interrupted capture.old ≡ false }
+    requires unbroken { W.is_broken out.old ≡ false }
+    ensures told { IfOk result (IsJudgedFrom (R.remaining capture.old) (λ read. read ≡ None)
+        (W.written out.old) (W.written out.new)) }
+    ensures end { OnOk result (IsAtEndOrFault (R.remaining capture.old) (R.remaining capture.new)) }
+    ensures read { IsErrOf result RunFault.Read →
+        FailedOrInterrupted (R.has_failed capture.new) (R.was_interrupted capture.new) }
+    ensures failed { R.has_failed capture.new ≡ true → IsErrOf result RunFault.Read }
+    ensures write { IsErrOf result RunFault.Write ↔ (W.is_broken out.new ≡ true) }
+    ensures unread { IsErrOf result RunFault.Read → Keeps (W.written out.old) (W.written out.new) }
+    ensures refused { IsErrOf result RunFault.Memory → Keeps (W.written out.old) (W.written out.new) }
+{
+    let stored = stored_capture(alloc, capture)?;
+    tell_judgement(
+        alloc,
+        judged(alloc, &stored.capture(), None, budget, listener),
+        out,
+    )
+}
+
+/// Reads the capture and then the tree, and tells what is judged on that tree.
+fn judge_on_tree<R: Input, L: Listener, W: Output>(
+    alloc: Global,
+    capture: &mut R,
+    tree: &mut R,
+    budget: Budget,
+    listener: &mut L,
+    out: &mut W,
+) -> Result<u8, RunFault>
+    requires capture_unfailed { R.has_failed capture.old ≡ false }
+    requires capture_uninterrupted { R.was_interrupted capture.old ≡ false }
+    requires tree_unfailed { R.has_failed tree.old ≡ false }
+    requires tree_uninterrupted { R.was_interrupted tree.old ≡ false }
+    requires unbroken { W.is_broken out.old ≡ false }
+    ensures told { IfOk result (IsJudgedFrom (R.remaining capture.old) (IsSomeRead (R.remaining tree.old))
+        (W.written out.old) (W.written out.new)) }
+    ensures end { OnOk result (IsAtEndOrFault (R.remaining capture.old) (R.remaining capture.new) × IsAtEnd (R.remaining tree.new)) }
+    ensures capture_first { R.has_failed capture.new ≡ true → tree.new ≡ tree.old }
+    ensures read { IsErrOf result RunFault.Read →
+        FailedOrInterrupted (R.has_failed capture.new) (R.was_interrupted capture.new)
+        ⊎ IsUnread MAX_TEXT_INPUT_BYTES (R.remaining tree.old) (R.has_failed tree.new) (R.was_interrupted tree.new) }
+    ensures failed { (R.has_failed capture.new ≡ true) ⊎ (R.has_failed tree.new ≡ true) →
+        IsErrOf result RunFault.Read }
+    ensures write { IsErrOf result RunFault.Write ↔ (W.is_broken out.new ≡ true) }
+    ensures unread { IsErrOf result RunFault.Read → Keeps (W.written out.old) (W.written out.new) }
+    ensures refused { IsErrOf result RunFault.Memory → Keeps (W.written out.old) (W.written out.new) }
+{
+    let stored = stored_capture(alloc, capture)?;
+    let tree = input_bytes(alloc, tree, MAX_TEXT_INPUT_BYTES)?;
+    tell_judgement(
+        alloc,
+        judged(alloc, &stored.capture(), Some(&tree), budget, listener),
+        out,
+    )
+}
+
+/// Judges a capture by a search of all its orders: reads the capture, and then the tree if one is handed in, writes the line of what is
+/// judged and a line feed by one put, and answers the status.
+///
+/// The line is `legal: M messages, P placed, L left out` with the status 0, `no order: message N: code C: TEXT` with 6, or
+/// `gave up: message N` with 7; and where there is no start for an order the line of the fault, as [`run`](crate::run) writes it, with the
+/// status 1 at a fault of the capture, and 3 where the tree text is not in its grammar. The inputs are read before anything is judged, as
+/// [`run`](crate::run) reads them. No mark of an input or of the output is set at the call.
+///
+/// Which bytes were read and written is said where the inputs and the output tell their bytes, as those over memory do. Files and
+/// standard output do not: of a call on them it is said alone that the status is that of an answer on some bytes.
+///
+/// # Errors
+///
+/// - [`RunFault::Read`] where an input failed or did not come to its end, or where a text has more than [`MAX_TEXT_INPUT_BYTES`]
+///   bytes.
+/// - [`RunFault::Write`] where the output did not take the whole text.
+/// - [`RunFault::Memory`] where memory was refused.
+///
+/// Nothing was written at `Read` and `Memory`, where the output tells its bytes. At `Write` nothing is said of what went out.
+///
+/// # Cost
+///
+/// That of [`run`](crate::run) for the inputs, and of [`judge_capture`].
+pub fn run_judge<R: Input, L: Listener, W: Output>(
+    alloc: Global,
+    capture: &mut R,
+    tree: Option<&mut R>,
+    budget: Budget,
+    listener: &mut L,
+    out: &mut W,
+) -> Result<u8, RunFault>
+    requires capture_unfailed { R.has_failed capture.old ≡ false }
+    requires capture_uninterrupted { R.was_interrupted capture.old ≡ false }
+    requires tree_unfailed { IfSome tree (λ r. R.has_failed r.now ≡ false) }
+    requires tree_uninterrupted { IfSome tree (λ r. R.was_interrupted r.now ≡ false) }
+    requires unbroken { W.is_broken out.old ≡ false }
+
+    // What is told of the bytes that were read, or the line of their fault.
+    ensures told { IfOk result (IsJudgedFrom (R.remaining capture.old) (IsReadIfAny R.remaining tree.entry)
+        (W.written out.old) (W.written out.new)) }
+
+    // The capture is read to its end, or as far as it has a framing fault whatever follows; the tree to its end.
+    ensures end { OnOk result (IsAtEndOrFault (R.remaining capture.old) (R.remaining capture.new)
+        × IfHandedIn tree.entry tree.exit (λ old new. IsAtEnd (R.remaining new))) }
+
+    // The tree is read after the capture.
+    ensures capture_first { R.has_failed capture.new ≡ true → IfHandedIn tree.entry tree.exit (λ old new. new ≡ old) }
+
+    // When each fault comes.
+    ensures read { IsErrOf result RunFault.Read →
+        FailedOrInterrupted (R.has_failed capture.new) (R.was_interrupted capture.new)
+        ⊎ IsHandedIn tree.entry tree.exit (λ old new. IsUnread MAX_TEXT_INPUT_BYTES (R.remaining old) (R.has_failed new) (R.was_interrupted new)) }
+    ensures failed { (R.has_failed capture.new ≡ true) ⊎ IsHandedIn tree.entry tree.exit (λ old new. R.has_failed new ≡ true)
+        → IsErrOf result RunFault.Read }
+    ensures write { IsErrOf result RunFault.Write ↔ (W.is_broken out.new ≡ true) }
+
+    // Nothing was written.
+    ensures unread { IsErrOf result RunFault.Read →
+        Keeps (W.written out.old) (W.written out.new) }
+    ensures refused { IsErrOf result RunFault.Memory →
+        Keeps (W.written out.old) (W.written out.new) }
+{
+    match tree {
+        None => judge_on_empty_root(alloc, capture, budget, listener, out),
+        Some(tree) => judge_on_tree(alloc, capture, tree, budget, listener, out),
+    }
+}

@@ -1,0 +1,49 @@
+//! What a search of all orders answers, and what is judged by it.
+
+/// What a search answers of a capture that is good and a tree that is given.
+#[derive(Debug, Drop)]
+pub enum Searched {
+    /// The text of an order that explains each recorded reply.
+    Order(Vec<u8>),
+    /// No order does.
+    NoOrder {
+        /// The number of the message past which none goes: some entries explain all replies before it, and none explain its own
+        /// too.
+        at: u32,
+        /// The code with which its request is refused after entries that do, one of [`codes`](fa_capture::codes); the least
+        /// where there are several.
+        code: u16,
+    },
+    /// The budget was spent before an answer was found.
+    GaveUp {
+        /// The number of the message at which the search ended: all replies before it are explained, and nothing is known from it
+        /// on.
+        at: u32,
+    },
+}
+
+/// What is judged of a capture that is good and a tree that is given, by a search of all orders.
+#[derive(Clone, Copy, Debug, PartialEq, Eq, Hash)]
+pub enum Judgement {
+    /// An order explains each recorded reply.
+    Legal {
+        /// The messages in the capture.
+        messages: u32,
+        /// The entries of the order that was found.
+        placed: u32,
+        /// The unanswered tree requests that it leaves out.
+        left: u32,
+    },
+    /// No order does, as in [`Searched::NoOrder`].
+    NoOrder {
+        /// The number of the message past which none goes.
+        at: u32,
+        /// The least code with which its request is refused.
+        code: u16,
+    },
+    /// The budget was spent before an answer was found, as in [`Searched::GaveUp`].
+    GaveUp {
+        /// The number of the message at which the search ended.
+        at: u32,
+    },
+}
