@@ -11,7 +11,7 @@ use Rattle.fa_session.proofs.CallerLemmas.{answers_one, answered_once, answer_af
 use Rattle.fa_order.specs.declared.entry.Entry.{Entry}
 use Rattle.fa_check.specs.Orders.{IsTreeRequestAt, IsChoice}
 use Rattle.fa_check.specs.Cuts.{IsAnsweredBefore}
-use Rattle.fa_search.specs.Searches.{AreSerialBefore}
+use Rattle.fa_search.specs.Searches.{MayBeNamed, AreSerialBefore}
 use Rattle.fa_search.specs.parts.Going.{MayCome}
 use Rattle.fa_search.specs.parts.Configurations.{IsDoneAt, IsPending, ArePending, MayBeTried, IsOneLess, AnswersNone}
 
@@ -151,20 +151,21 @@ answered_pending c at asked tree by = record {
   named = (None, record { answered = λ q answered. refl; unanswered = λ o waits. absurd (waits.0 at by) });
 }
 
--- Where of each two tree requests that were sent before the message the earlier one is answered before the later one is sent, it is the only
--- one.
-pub serial_alone : (c : List Message) (at asked : ℕ) → AreSerialBefore c at → IsTreeRequestAt c asked → IsAnsweredBy c asked at → (p : ℕ) → IsPending c at p → p ≡ asked
-serial_alone c at asked serial tree by p is =
+-- Where of each two tree requests that were sent before the message, and that an order may name, the earlier one is answered before the
+-- later one is sent, it is the only one.
+pub serial_alone : (c : List Message) (at asked : ℕ) → AreSerialBefore c at → MayBeNamed c asked → IsAnsweredBy c asked at → (p : ℕ) → IsPending c at p → p ≡ asked
+serial_alone c at asked serial named by p is =
     let asked_before = answered_behind c asked at by in
+    let other : MayBeNamed c p = (is.tree_request, is.named) in
     elim (cases_lt p asked) [
       | inl before ↦
-          let answer = serial p asked is.tree_request tree before asked_before in
+          let answer = serial p asked other named before asked_before in
           let early = answer.2 in
           absurd (is.waits (answer.0, answer.1, omega (arith, early, asked_before)))
       | inr far ↦ elim (cases_lt asked p) [
         | inl behind ↦
             let sent = is.sent in
-            let answer = serial asked p tree is.tree_request behind sent in
+            let answer = serial asked p named other behind sent in
             let same : answer.0 ≡ at = answered_at c asked answer.0 at answer.1 by in
             let early = answer.2 in
             absurd (omega (arith, same, early, sent))

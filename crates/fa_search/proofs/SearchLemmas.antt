@@ -237,7 +237,7 @@ alone_by_serial c calls are flight pending serial all is answer =
     let other = one.0 in
     let by = asked_answered c calls are flight.at pending is answer in
     let waits : IsPending c flight.at other.call.asked = (pending_by_call c calls are flight.at e.1.place other.call other.listed).1 other.waits in
-    let same : other.call.asked ≡ pending.asked = serial_alone c flight.at pending.asked serial by.0 by.1 other.call.asked waits in
+    let same : other.call.asked ≡ pending.asked = serial_alone c flight.at pending.asked serial (by.0, (None, (answer_tried c flight.at pending.asked by.0 by.1).choice)) by.1 other.call.asked waits in
     one_place c calls are e.1.place pending.place other.call is.call other.listed is.listed (same ∙ is.kept.number))
     flight.requests.entries
     all.each

@@ -1,12 +1,12 @@
--- What a search of all orders finds where none is legal: the message past which none goes, and why.
-use Rattle.std.specs.Prelude.{◌≡◌, ℕ, ◌+◌, ◌<◌, ◌≤◌, List, length, take, Contains, None}
+-- What a search of all orders finds: the message past which none goes where none is legal, and why; how far it came; and an order.
+use Rattle.std.specs.Prelude.{◌≡◌, ℕ, ◌+◌, ◌<◌, ◌≤◌, List, length, take, Contains, Option, None}
 use Rattle.std.specs.List.Sorted.{IsStrictlyIncreasing}
 use Rattle.fa_capture.specs.Message.{Message}
 use Rattle.fa_session.specs.Answers.{IsAnsweredBy}
 use Rattle.fa_ledger.specs.Passing.{AreGood}
 use Rattle.fa_tree.specs.State.{TreeState}
 use Rattle.fa_order.specs.declared.entry.Entry.{Entry}
-use Rattle.fa_check.specs.Orders.{IsTreeRequestAt, numbers}
+use Rattle.fa_check.specs.Orders.{IsTreeRequestAt, IsChoice, numbers}
 use Rattle.fa_check.specs.Runs.{HasOrder}
 use Rattle.fa_check.specs.Faults.{StepFails}
 use Rattle.fa_check.specs.Cuts.{Explains}
@@ -56,7 +56,7 @@ abbrev pub IsRefusedWith : List Message → TreeState → (at code : ℕ) → Ty
 IsRefusedWith c first at code =
     (es : List Entry) × (tree : TreeState) × (asked : ℕ) × ComesTo c first at es tree asked × IsRefusedFrom tree c asked code
 
--- These are all codes with which it is refused, after whatever entries come to it, each once. What one code alone says stands in the laws.
+-- These are all codes with which it is refused, after whatever entries come to it, each once.
 pub record AreCodesAt (c : List Message) (first : TreeState) (at : ℕ) (codes : List ℕ) : Type 0 where
   pub rising : IsStrictlyIncreasing codes
   pub each : (code : ℕ) → Contains codes code → IsRefusedWith c first at code
@@ -77,10 +77,14 @@ pub record IsExplainedUpTo (c : List Message) (first : TreeState) (at : ℕ) : T
   pub entries : List Entry
   pub explains : Explains c first at entries
 
--- Of each two tree requests that were sent before this message the earlier one is answered before the later one is sent.
+-- the tree request at p may be named by an order: it does not only read, or it is answered
+abbrev pub MayBeNamed : List Message → (p : ℕ) → Type 0
+MayBeNamed c p = IsTreeRequestAt c p × ((wrote : Option ℕ) × IsChoice c (record { at = p; wrote = wrote }))
+
+-- Of each two tree requests that were sent before this message, and that an order may name, the earlier one is answered before the later
+-- one is sent.
 abbrev pub AreSerialBefore : List Message → (at : ℕ) → Type 0
-AreSerialBefore c at =
-    (p later : ℕ) → IsTreeRequestAt c p → IsTreeRequestAt c later → p < later → later < at → (q : ℕ) × IsAnsweredBy c p q × (q < later)
+AreSerialBefore c at = (p later : ℕ) → MayBeNamed c p → MayBeNamed c later → p < later → later < at → (q : ℕ) × IsAnsweredBy c p q × (q < later)
 
 -- ---- an order
 

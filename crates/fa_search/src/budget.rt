@@ -9,11 +9,13 @@ use std::alloc::AllocError;
 #[derive(Clone, Copy, Debug, PartialEq, Eq)]
 pub struct Budget {
     /// How many steps may be spent where there is a choice: more than one request in flight, or more than one tree. A step is a request
-    /// in flight that is looked at from a tree, a count with which an unanswered WRITE is tried, or 4,096 bytes of a tree that is copied.
+    /// in flight that is looked at from a tree, one that is tried, each count of an unanswered WRITE, or 4,096 bytes of a tree that is
+    /// copied or looked through. A request that may change something and is never answered stays in flight to the end.
     pub steps: u64,
     /// How many trees may be held at once.
     pub trees: usize,
-    /// How many bytes these may hold, as [`Tree::weight`](fa_tree::Tree::weight) reckons, with the orders that led to them.
+    /// How many bytes these may hold, as [`Tree::weight`](fa_tree::Tree::weight) reckons, with the orders that led to them. Where one request
+    /// alone is in flight that is looked at behind some of the replies.
     pub bytes: u64,
 }
 
@@ -76,7 +78,7 @@ impl Spending {
         Ok(())
     }
 
-    /// Looks whether so many trees may be held in two lists, with so many bytes.
+    /// Whether so many trees may be held in two lists, with so many bytes. Holds nothing.
     pub fn hold(&self, work: usize, settled: usize, bytes: u64) -> Result<(), Halt>
         ensures { IfErr result (λ halt. halt ≡ Spent) }
     {

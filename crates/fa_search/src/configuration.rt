@@ -175,8 +175,9 @@ impl Configuration {
 /// Configurations by their numbers, for those that are the same to be found.
 #[derive(Drop)]
 pub(crate) struct Known {
-    /// Where in the list the last one with a number stands.
-    places: BTreeMap<u64, usize>,
+    /// Where in the list those with a number stand.
+    places: BTreeMap<u64, Vec<usize>>,
+    alloc: Global,
 }
 
 impl Known {
@@ -184,12 +185,13 @@ impl Known {
     pub fn new(alloc: Global) -> Self {
         Known {
             places: BTreeMap::new(alloc),
+            alloc,
         }
     }
 
     /// Pushes a configuration, unless the same one is known: how many bytes were added. Its number was reckoned, and so were theirs.
     ///
-    /// Time in the logarithm of the list, and that of one comparison.
+    /// Time in the logarithm of the list, and that of a comparison with each that has its number.
     pub fn push_new(
         &mut self,
         list: &mut Vec<Configuration>,
@@ -201,20 +203,42 @@ impl Known {
             return Ok(0);
         }
         let weight = one.weight();
-        self.places.insert(one.digest, list.len())?;
+        self.note(one.digest, list.len())?;
         push(list, one)?;
         Ok(weight)
     }
 
-    /// Whether the one that is known by this number is the same.
+    /// Takes note of the place of one with this number.
+    fn note(&mut self, digest: u64, place: usize) -> Result<(), AllocError> {
+        if let Some(places) = self.places.get_mut(&digest) {
+            places.push(place)?;
+            return Ok(());
+        }
+        self.places.insert(digest, vec![in self.alloc; place]?)?;
+        Ok(())
+    }
+
+    /// Whether one that is known by this number is the same.
     fn has(&self, list: &[Configuration], other: &Configuration) -> bool
         ensures { IsTrue result → (one : PlainConfiguration) × Contains list.now one × IsSameAs other.now one }
     {
         match self.places.get(&other.digest) {
-            Some(place) => is_there(list, *place, other),
+            Some(places) => is_among(list, places, other),
             None => false,
         }
     }
+}
+
+/// Whether one at these places is the same.
+fn is_among(list: &[Configuration], places: &[usize], other: &Configuration) -> bool
+    ensures { IsTrue result → (one : PlainConfiguration) × Contains list.now one × IsSameAs other.now one }
+{
+    for place in places {
+        if is_there(list, *place, other) {
+            return true;
+        }
+    }
+    false
 }
 
 /// Whether the one at this place is the same.

@@ -5,7 +5,7 @@ use fa_order::Entry;
 /// What a search finds.
 #[derive(Debug, Drop)]
 pub enum Finding {
-    /// This order is legal: what [`check`](fa_check::check) tells of it.
+    /// This order is legal, with the numbers that [`check`](fa_check::check) tells of it.
     Found {
         /// The entries.
         order: Vec<Entry>,
@@ -22,7 +22,7 @@ pub enum Finding {
         /// [`codes`](fa_capture::codes); the least where it is refused with several.
         code: u16,
     },
-    /// The budget was spent at message `at`: some entries explain the replies before it, and nothing is known from it on.
+    /// The search gave up at message `at`, where its budget was spent: some entries explain the replies before it, and nothing is known from it on.
     GaveUp {
         /// The number of that message, which answers a tree request.
         at: u32,

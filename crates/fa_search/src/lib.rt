@@ -1,4 +1,5 @@
-//! Searches for an order of the tree requests of a capture: finds one wherever there is one, or the message past which none goes.
+//! Searches for an order of the tree requests of a capture: finds one, or the message past which none goes, or gives up where a
+//! budget is spent.
 #![tactic(auto)]
 
 mod budget;

@@ -40,7 +40,7 @@ const STEPS_BETWEEN: u64 = 100_000;
 /// are searched, message by message. What is held are configurations: a tree, and which of the requests in flight are placed in the
 /// entries that lead to it. Where a reply comes, its request has to be placed: from each configuration that lacks it the requests in flight
 /// are tried in every order, an unanswered WRITE with each count, until it is. Configurations with the same tree and the same
-/// requests placed fall together. Where none is left, no order explains that reply and those before it. The listener is told how far the
+/// requests placed fall together, where one request alone is in flight behind some of the replies. Where none is left, no order explains that reply and those before it. The listener is told how far the
 /// search has come behind a message, where 100,000 steps or more were spent since it was told last.
 ///
 /// # Errors
@@ -49,9 +49,11 @@ const STEPS_BETWEEN: u64 = 100_000;
 ///
 /// # Cost
 ///
-/// That of a proposal and of a check, and of two copies of the tree. Where the proposal is not legal also that of a search: a step for each request where
-/// one alone is in flight; elsewhere up to as many trees as the requests in flight have subsets, for each a copy of the tree, and a
-/// step for each request in flight. The budget ends it.
+/// That of a proposal and of a check, and of two copies of the tree. Where the proposal is not legal, that of a search, of two copies of the
+/// tree more, and of a check of the order that is found. A search takes a step for each tree that is held where one request alone is in
+/// flight. Elsewhere it holds a tree for each set of the requests in flight that may have come first, and more where their order or the
+/// count of an unanswered WRITE tells; for each it looks through the requests in flight, copies the tree where one of them steps, and looks
+/// through the tree once more. The budget ends it. The listener is told of it between two messages alone.
 pub fn search<L: Listener>(
     alloc: Global,
     calls: &Calls<'_>,
@@ -213,18 +215,19 @@ struct Progress<'c> {
 /// become the same stay apart until they are compared: behind one reply, two, four and so on that may change trees.
 #[derive(Clone, Copy, Debug, Default)]
 struct Lull {
-    /// How many such replies there were.
+    /// How many such replies there were that may change trees.
     replies: u32,
 }
 
 impl Lull {
-    /// Takes note of a reply: whether trees are to be compared behind it. Any answer is right, it costs time alone.
-    fn is_due(&mut self, alone: bool, keeps_trees: bool) -> bool {
+    /// Takes note of a reply to this request, which alone was in flight or not: whether trees are to be compared behind it. Any answer is
+    /// right, it costs time alone.
+    fn goes_on(&mut self, asked: &Pending, alone: bool) -> bool {
         if !alone {
             self.replies = 0;
             return false;
         }
-        if keeps_trees {
+        if asked.keeps_trees {
             return false;
         }
         self.replies = self.replies.saturating_add(1);
@@ -345,9 +348,7 @@ impl<'c> Progress<'c> {
             IsExplainedUpTo c first self.old.flight.at × (AreSerialBefore c self.old.flight.at → ⊥) }
         ensures same { IfOk result (λ code. IsNone code → self.new.tries.replay ≡ self.old.tries.replay) }
     {
-        let due = self
-            .lull
-            .is_due(self.flight.is_alone(&asked), asked.keeps_trees);
+        let due = self.lull.goes_on(&asked, self.flight.is_alone(&asked));
         let held = mem::replace(&mut self.held, Vec::new(alloc));
         let settling = settle(alloc, &mut self.tries, held, &self.flight, asked)?;
         if settling.settled.is_empty() {

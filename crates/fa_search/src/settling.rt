@@ -54,7 +54,8 @@ struct Origin {
 /// Settles the request that the next message answers: from each of these configurations the requests in flight are tried, in all orders, until
 /// it is placed.
 ///
-/// A step is spent for each that is tried, but where the request alone is in flight and one configuration alone is held.
+/// Steps are spent for those that are looked at and tried and for copies, but where the request alone is in flight and one configuration
+/// alone is held.
 pub(crate) fn settle(
     alloc: Global,
     tries: &mut Tries<'_>,
@@ -392,7 +393,8 @@ fn copied(spending: &mut Spending, one: &Configuration) -> Result<Configuration,
     Ok(one.copy()?)
 }
 
-/// Places the requests in flight that leave each tree as it is, where they have a step, unless this one is placed already.
+/// Places the requests in flight that leave each tree as it is, where they have a step, unless this one is placed already. The steps that
+/// are spent are for them, and for its number, which is reckoned next.
 fn place_keeping(
     tries: &mut Tries<'_>,
     one: &mut Configuration,
@@ -403,10 +405,13 @@ fn place_keeping(
     ensures further { OnOk result ((c : List Message) → AreMessagesOf tries.old.replay c → IsFurther c flight.now.at one.old one.new) }
     ensures same { tries.new.replay ≡ tries.old.replay }
 {
+    let looked_at = flight.requests.len() as u64;
+    tries
+        .spending
+        .spend(looked_at.saturating_add(one.copy_steps()))?;
     if one.has(asked) {
         return Ok(());
     }
-    tries.spending.spend(flight.requests.len() as u64)?;
     for pending in flight.requests.values() {
         place_if_keeping(&mut tries.replay, one, *pending)?;
     }
