@@ -242,7 +242,8 @@ fn judge_on_tree<R: Input, L: Listener, W: Output>(
 /// The line is `legal: M messages, P placed, L left out` with the status 0, `no order: message N: code C: TEXT` with 6, or
 /// `gave up: message N` with 7; and where there is no start for an order the line of the fault, as [`run`](crate::run) writes it, with the
 /// status 1 at a fault of the capture, and 3 where the tree text is not in its grammar. The inputs are read before anything is judged, as
-/// [`run`](crate::run) reads them. No mark of an input or of the output is set at the call.
+/// [`run`](crate::run) reads them. The listener is told how far the search has come, as [`search`](fa_search::search) tells it. No mark of an
+/// input or of the output is set at the call.
 ///
 /// Which bytes were read and written is said where the inputs and the output tell their bytes, as those over memory do. Files and
 /// standard output do not: of a call on them it is said alone that the status is that of an answer on some bytes.

@@ -6,7 +6,7 @@ use Rattle.std.specs.Str.Parse.{ParsesUnsigned}
 use Rattle.clap.specs.Words.{Row, Text, first_of, first_value, found_of, rows_of, subcommand_rows_of}
 use Rattle.clap.specs.declared.parser.matches.ArgMatches.{ArgMatches}
 use Rattle.clap.proofs.WalkLemmas.{first_value-rows}
-use Rattle.fa_audit_program.specs.CommandLine.{value_of, IsNumberText, IsNumberOf}
+use Rattle.fa_audit_program.specs.CommandLine.{value_of, IsNumberText, IsNumberOf, IsStepsText, IsStepsIfAny, IsNoSteps}
 
 -- the rows of the command that the words call are those of its matches
 first_of-rows : (option : Text) (command : Option (Text × List Row)) (rows : List Row)
@@ -41,3 +41,20 @@ pub none_read : (matches : ArgMatches) (option text : Text) (number : ℕ) → v
 none_read matches option text number given none is =
     let same : is.0 ≡ text = same_Some is.0 text (sym is.1 ∙ given) in
     none number (subst (λ (t : Text). IsNumberText t number) same is.2)
+
+-- a text that is read is that number of steps,
+pub steps_found : {E : Type 0} (text : List ℕ) (r : Result ℕ E) → ParsesUnsigned 64 10 text r → IfSome (result_ok r) (IsStepsText text)
+steps_found text (Ok n) p = (p.0.0, sym p.1, subst (λ (k : ℕ). k < 2 ^ 64) (sym p.1) p.0.1)
+steps_found text (Err e) p = tt
+
+-- and one that is not is none
+pub steps_none : {E : Type 0} (text : List ℕ) (r : Result ℕ E) → ParsesUnsigned 64 10 text r → IsNone (result_ok r) → (steps : ℕ) → IsStepsText text steps → ⊥
+steps_none text (Ok n) p none steps is = absurd cc
+steps_none text (Err e) p none steps is = p (is.0, subst (λ (k : ℕ). k < 2 ^ 64) (sym is.1) is.2)
+
+-- the same of an option, by what the matches of the command give for it
+pub steps_of_value : (value text : Option (List ℕ)) (steps : Option ℕ) → value ≡ text → IsStepsIfAny text steps → IsStepsIfAny value steps
+steps_of_value value text steps same is = subst (λ (t : Option (List ℕ)). IsStepsIfAny t steps) (sym same) is
+
+pub no_steps_of_value : (value text : Option (List ℕ)) → value ≡ text → IsNoSteps text → IsNoSteps value
+no_steps_of_value value text same is = subst IsNoSteps (sym same) is

@@ -6,12 +6,13 @@ use Rattle.clap.specs.Words.{first_of, subcommand_name_of, subcommand_rows_of}
 use Rattle.clap.specs.declared.parser.matches.ArgMatches.{ArgMatches}
 use Rattle.fa_audit_program.specs.declared.command_line.CheckPaths.{CheckPaths}
 use Rattle.fa_audit_program.specs.declared.command_line.ProposePaths.{ProposePaths}
+use Rattle.fa_audit_program.specs.declared.command_line.SearchPaths.{SearchPaths}
 use Rattle.fa_audit_program.specs.declared.command_line.CutPaths.{CutPaths}
 use Rattle.fa_audit_program.specs.declared.command_line.FrontPaths.{FrontPaths}
 use Rattle.fa_audit_program.specs.declared.command_line.MigratePaths.{MigratePaths}
 use Rattle.fa_audit_program.specs.declared.command_line.WatchPaths.{WatchPaths}
 use Rattle.fa_audit_program.specs.declared.command_line.Call.{Call}
-use Rattle.fa_audit_program.specs.declared.command_line.Call.TheVariants.{Check, Propose, Cut, Front, Migrate, Watch}
+use Rattle.fa_audit_program.specs.declared.command_line.Call.TheVariants.{Check, Propose, Search, Judge, Cut, Front, Migrate, Watch}
 
 -- the value of an option of the command that the words call
 abbrev pub value_of : ArgMatches → List ℕ → Option (List ℕ)
@@ -29,6 +30,26 @@ pub record IsProposeOf (matches : ArgMatches) (paths : ProposePaths) : Type 0 wh
   pub command : subcommand_name_of matches ≡ Some (codes "propose")
   pub capture_is : value_of matches (codes "capture") ≡ Some paths.capture.now
   pub tree_is : value_of matches (codes "tree") ≡ option_copied paths.tree
+
+-- the text is this number of steps in decimal digits, with a plus before them or none
+abbrev pub IsStepsText : List ℕ → ℕ → Type 0
+IsStepsText text steps = IsNumeral 10 (without_leading_plus text) × (digits_value 10 (without_leading_plus text) ≡ steps) × (steps < 2 ^ 64)
+
+-- it is, where there is a text; else there is no number
+abbrev pub IsStepsIfAny : (text : Option (List ℕ)) → (steps : Option ℕ) → Type 0
+IsStepsIfAny None steps = steps ≡ None
+IsStepsIfAny (Some text) steps = (number : ℕ) × (steps ≡ Some number) × IsStepsText text number
+
+-- there is a text, and it is no number of steps
+abbrev pub IsNoSteps : (text : Option (List ℕ)) → Type 0
+IsNoSteps text = (there : List ℕ) × (text ≡ Some there) × ((number : ℕ) → IsStepsText there number → ⊥)
+
+-- the words call this one of `search` and `judge` with these files and so many steps
+pub record IsSearchCallOf (name : List ℕ) (matches : ArgMatches) (paths : SearchPaths) : Type 0 where
+  pub command : subcommand_name_of matches ≡ Some name
+  pub capture_is : value_of matches (codes "capture") ≡ Some paths.capture.now
+  pub tree_is : value_of matches (codes "tree") ≡ option_copied paths.tree
+  pub steps_are : IsStepsIfAny (value_of matches (codes "steps")) paths.steps
 
 -- the text is this number in decimal digits, with a plus before them or none
 abbrev pub IsNumberText : List ℕ → ℕ → Type 0
@@ -65,6 +86,8 @@ pub record IsWatchOf (matches : ArgMatches) (paths : WatchPaths) : Type 0 where
 abbrev pub IsCallOf : ArgMatches → Call → Type 0
 IsCallOf matches (Check paths) = IsCheckOf matches paths
 IsCallOf matches (Propose paths) = IsProposeOf matches paths
+IsCallOf matches (Search paths) = IsSearchCallOf (codes "search") matches paths
+IsCallOf matches (Judge paths) = IsSearchCallOf (codes "judge") matches paths
 IsCallOf matches (Cut paths) = IsCutOf matches paths
 IsCallOf matches (Front paths) = IsFrontCallOf matches paths
 IsCallOf matches (Migrate paths) = IsMigrateCallOf matches paths
@@ -78,6 +101,11 @@ IsNoCheck matches =
 -- the words do not call `propose` with all that it needs
 abbrev pub IsNoPropose : ArgMatches → Type 0
 IsNoPropose matches = (subcommand_name_of matches ≢ Some (codes "propose")) ⊎ (value_of matches (codes "capture") ≡ None)
+
+-- the words do not call this one of `search` and `judge` with all that it needs, or what they give for its steps is no number
+abbrev pub IsNoSearchCall : (name : List ℕ) → ArgMatches → Type 0
+IsNoSearchCall name matches =
+    (subcommand_name_of matches ≢ Some name) ⊎ (value_of matches (codes "capture") ≡ None) ⊎ IsNoSteps (value_of matches (codes "steps"))
 
 -- the words do not call `cut` with all that it needs
 abbrev pub IsNoCutCall : ArgMatches → Type 0

@@ -1,7 +1,8 @@
 //! The words of the command line.
 
-ghost use Rattle.std.specs.Prelude.{ℕ, IfSome, IsNone};
-ghost use Rattle.fa_audit_program.specs.CommandLine.{IsCheckOf, IsProposeOf, IsCutOf, IsFrontCallOf, IsMigrateCallOf, IsWatchOf, IsCallOf, IsNumberText, IsNoCheck, IsNoPropose, IsNoCutCall, IsNoFrontCall, IsNoMigrateCall, IsNoWatch};
+ghost use Rattle.std.specs.Prelude.{ℕ, codes, IfSome, IsNone};
+ghost use Rattle.std.specs.Option.{option_copied};
+ghost use Rattle.fa_audit_program.specs.CommandLine.{IsCheckOf, IsProposeOf, IsSearchCallOf, IsStepsIfAny, IsStepsText, IsNoSteps, IsNoSearchCall, IsCutOf, IsFrontCallOf, IsMigrateCallOf, IsWatchOf, IsCallOf, IsNumberText, IsNoCheck, IsNoPropose, IsNoCutCall, IsNoFrontCall, IsNoMigrateCall, IsNoWatch};
 
 use clap::{Arg, ArgAction, ArgMatches, Command, value_parser};
 use fa_capture::limits::MAX_MESSAGES;
@@ -11,6 +12,10 @@ use std::alloc::{AllocError, Global};
 const CHECK: &str = "check";
 /// The command that guesses one.
 const PROPOSE: &str = "propose";
+/// The command that searches one.
+const SEARCH: &str = "search";
+/// The command that judges a capture by such a search.
+const JUDGE: &str = "judge";
 /// The command that cuts an order.
 const CUT: &str = "cut";
 /// The command that cuts a capture.
@@ -27,6 +32,10 @@ const TREE: &str = "tree";
 const ORDER: &str = "order";
 /// The option that gives the message at which is cut.
 const AT: &str = "at";
+/// The option that gives how many steps a search may spend.
+const STEPS: &str = "steps";
+/// The option by which a search says how far it has come.
+const PROGRESS: &str = "progress";
 
 /// The files of a call of `check`.
 #[derive(Clone, Copy, Debug)]
@@ -70,6 +79,38 @@ impl<'a> ProposePaths<'a> {
         let capture = options.get_str(CAPTURE)?;
         let tree = options.get_str(TREE);
         Some(ProposePaths { capture, tree })
+    }
+}
+
+/// The files of a call of `search` or of `judge`, and how many steps it may spend.
+#[derive(Clone, Copy, Debug)]
+pub struct SearchPaths<'a> {
+    pub capture: &'a str,
+    /// None where the tree begins as an empty root.
+    pub tree: Option<&'a str>,
+    /// None where the words do not say it.
+    pub steps: Option<u64>,
+    /// Whether standard error is to say how far the search has come.
+    pub progress: bool,
+}
+
+impl<'a> SearchPaths<'a> {
+    /// What a parse by [`command`] found for this one of both commands; there is nothing only where the words were no call of it.
+    pub fn new(matches: &ArgMatches<'a>, name: &str) -> Option<Self>
+        ensures found { IfSome result (IsSearchCallOf name.now matches.now) }
+        ensures none { IsNone result → IsNoSearchCall name.now matches.now }
+    {
+        let options = matches.subcommand_matches(name)?;
+        let path = options.get_str(CAPTURE)?;
+        let tree = options.get_str(TREE);
+        let steps = steps_if_any(options.get_str(STEPS))?;
+        let progress = options.get_flag(PROGRESS);
+        Some(SearchPaths {
+            capture: path,
+            tree,
+            steps,
+            progress,
+        })
     }
 }
 
@@ -165,6 +206,25 @@ fn number(text: &str) -> Option<u32>
     text.parse().ok()
 }
 
+/// The number of steps that a text is in decimal digits.
+fn steps(text: &str) -> Option<u64>
+    ensures found { IfSome result (IsStepsText text.now) }
+    ensures none { IsNone result → (steps : ℕ) → IsStepsText text.now steps → ⊥ }
+{
+    text.parse().ok()
+}
+
+/// The number of steps that a text is, where there is one.
+fn steps_if_any(text: Option<&str>) -> Option<Option<u64>>
+    ensures found { IfSome result (IsStepsIfAny (option_copied text.entry)) }
+    ensures none { IsNone result → IsNoSteps (option_copied text.entry) }
+{
+    match text {
+        Some(text) => Some(Some(steps(text)?)),
+        None => Some(None),
+    }
+}
+
 /// A call of the program, with its files.
 #[derive(Clone, Copy, Debug)]
 pub enum Call<'a> {
@@ -172,7 +232,11 @@ pub enum Call<'a> {
     Check(CheckPaths<'a>),
     /// One is guessed.
     Propose(ProposePaths<'a>),
-    /// One is cut at a message.
+    /// One is searched.
+    Search(SearchPaths<'a>),
+    /// A capture is judged by such a search.
+    Judge(SearchPaths<'a>),
+    /// An order is cut at a message.
     Cut(CutPaths<'a>),
     /// A capture is cut at a message.
     Front(FrontPaths<'a>),
@@ -187,13 +251,20 @@ impl<'a> Call<'a> {
     pub fn new(matches: &ArgMatches<'a>) -> Option<Self>
         ensures found { IfSome result (IsCallOf matches.now) }
         ensures none { IsNone result →
-            IsNoCheck matches.now × IsNoPropose matches.now × IsNoCutCall matches.now × IsNoFrontCall matches.now × IsNoMigrateCall matches.now × IsNoWatch matches.now }
+            IsNoCheck matches.now × IsNoPropose matches.now × IsNoSearchCall (codes "search") matches.now
+            × IsNoSearchCall (codes "judge") matches.now × IsNoCutCall matches.now × IsNoFrontCall matches.now × IsNoMigrateCall matches.now × IsNoWatch matches.now }
     {
         if let Some(paths) = CheckPaths::new(matches) {
             return Some(Call::Check(paths));
         }
         if let Some(paths) = ProposePaths::new(matches) {
             return Some(Call::Propose(paths));
+        }
+        if let Some(paths) = SearchPaths::new(matches, SEARCH) {
+            return Some(Call::Search(paths));
+        }
+        if let Some(paths) = SearchPaths::new(matches, JUDGE) {
+            return Some(Call::Judge(paths));
         }
         if let Some(paths) = CutPaths::new(matches) {
             return Some(Call::Cut(paths));
@@ -209,25 +280,23 @@ impl<'a> Call<'a> {
 }
 
 /// The command line: `fa_audit check --capture FILE [--tree FILE] --order FILE`, `fa_audit propose --capture FILE [--tree FILE]`,
+/// `fa_audit search --capture FILE [--tree FILE] [--steps N] [--progress]`, `fa_audit judge` with the same options,
 /// `fa_audit cut --capture FILE --order FILE --at N`, `fa_audit front --capture FILE --at N`, `fa_audit migrate --capture FILE` or
 /// `fa_audit watch --capture FILE`.
 pub fn command<'a>(alloc: Global) -> Result<Command<'a>, AllocError> {
-    let order = path_option(alloc, ORDER).help("The order text that is to explain it");
-    let check = Command::new(alloc, CHECK)
-        .about("Tells in one line whether an order explains a capture")
-        .arg(capture_option(alloc))?
-        .arg(tree_option(alloc))?
-        .arg(order)?;
-    let propose = Command::new(alloc, PROPOSE)
-        .about("Guesses an order that may explain a capture, and prints its text")
-        .arg(capture_option(alloc))?
-        .arg(tree_option(alloc))?;
-    let order = path_option(alloc, ORDER).help("The order text that is cut");
-    let cut = Command::new(alloc, CUT)
-        .about("Prints what is left of an order that is cut at a message")
-        .arg(capture_option(alloc))?
-        .arg(order)?
-        .arg(at_option(alloc))?;
+    let check = check_command(alloc)?;
+    let propose = propose_command(alloc)?;
+    let search = search_command(
+        alloc,
+        SEARCH,
+        "Searches all orders for one that explains a capture, and prints its text or that there is none",
+    )?;
+    let judge = search_command(
+        alloc,
+        JUDGE,
+        "Tells in one line whether some order explains a capture",
+    )?;
+    let cut = cut_command(alloc)?;
     let front = Command::new(alloc, FRONT)
         .about("Writes the capture of the messages before a message")
         .arg(capture_option(alloc))?
@@ -244,10 +313,54 @@ pub fn command<'a>(alloc: Global) -> Result<Command<'a>, AllocError> {
         .subcommand_required(true)
         .subcommand(check)?
         .subcommand(propose)?
+        .subcommand(search)?
+        .subcommand(judge)?
         .subcommand(cut)?
         .subcommand(front)?
         .subcommand(migrate)?
         .subcommand(watch)
+}
+
+/// The command `check`.
+fn check_command<'a>(alloc: Global) -> Result<Command<'a>, AllocError> {
+    let order = path_option(alloc, ORDER).help("The order text that is to explain it");
+    Command::new(alloc, CHECK)
+        .about("Tells in one line whether an order explains a capture")
+        .arg(capture_option(alloc))?
+        .arg(tree_option(alloc))?
+        .arg(order)
+}
+
+/// The command `propose`.
+fn propose_command<'a>(alloc: Global) -> Result<Command<'a>, AllocError> {
+    Command::new(alloc, PROPOSE)
+        .about("Guesses an order that may explain a capture, and prints its text")
+        .arg(capture_option(alloc))?
+        .arg(tree_option(alloc))
+}
+
+/// The command of this name, which searches.
+fn search_command<'a>(
+    alloc: Global,
+    name: &'a str,
+    about: &'a str,
+) -> Result<Command<'a>, AllocError> {
+    Command::new(alloc, name)
+        .about(about)
+        .arg(capture_option(alloc))?
+        .arg(tree_option(alloc))?
+        .arg(steps_option(alloc))?
+        .arg(progress_option(alloc))
+}
+
+/// The command `cut`.
+fn cut_command<'a>(alloc: Global) -> Result<Command<'a>, AllocError> {
+    let order = path_option(alloc, ORDER).help("The order text that is cut");
+    Command::new(alloc, CUT)
+        .about("Prints what is left of an order that is cut at a message")
+        .arg(capture_option(alloc))?
+        .arg(order)?
+        .arg(at_option(alloc))
 }
 
 /// The option that names the capture.
@@ -271,6 +384,26 @@ fn at_option<'a>(alloc: Global) -> Arg<'a> {
         .required(true)
         .value_parser(value_parser!(u32).range(..=MAX_MESSAGES as i64))
         .help("The number of that message, counted from 0; as many messages are before it")
+}
+
+/// The option by which a search says how far it has come.
+fn progress_option<'a>(alloc: Global) -> Arg<'a> {
+    Arg::new(alloc, PROGRESS)
+        .long(PROGRESS)
+        .action(ArgAction::SetTrue)
+        .help(
+            "Say on standard error how far the search has come, behind messages, each 100,000 steps or more",
+        )
+}
+
+/// The option that gives how many steps a search may spend.
+fn steps_option<'a>(alloc: Global) -> Arg<'a> {
+    Arg::new(alloc, STEPS)
+        .long(STEPS)
+        .value_name("N")
+        .action(ArgAction::Set)
+        .value_parser(value_parser!(u64))
+        .help("How many steps may be spent where there is a choice; without it, ten million")
 }
 
 /// An option that is needed once. The word behind it is its path, whatever that word begins with.
