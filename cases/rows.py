@@ -1,6 +1,7 @@
 """Short cases, many in a file: reads the text of a NAME.rows. README.md beside this says what such a text has."""
 
-STATUS = {"good": 0, "proposed": 0, "legal": 0, "fault": 1, "not shown": 2, "tree": 3, "order": 3}
+STATUS = {"good": 0, "proposed": 0, "legal": 0, "judged legal": 0, "fault": 1, "not shown": 2, "tree": 3, "order": 3, "no order": 6,
+          "gave up": 7}
 
 
 def order_text(entries):
@@ -43,7 +44,7 @@ class Row:
             return order_text("")
         if self.word() == "proposed":
             return order_text(self.expected.removeprefix("proposed").strip())
-        return f"{self.expected}\n"
+        return f"{self.expected.removeprefix('judged ')}\n"
 
     def status(self):
         """The status of that call."""

@@ -8,7 +8,7 @@ as FOLDER/NAME or FOLDER/NAME row N, hold TEXT are run. README.md beside this sc
 finds nothing wrong is one case more. Each failure is printed; the last line is 'N passed, M failed', and the status is 1 where a case
 failed or none was run.
 
-With --migrated, the cases of `check`, `propose` and `cut` alone, each on its capture as `migrate` of the program writes it, where there
+With --migrated, the cases of `check`, `propose`, `search`, `judge` and `cut` alone, each on its capture as `migrate` of the program writes it, where there
 is no framing fault. With --piped, these cases, each with its capture from a pipe: a byte at a time, and then some at a time. What is
 expected stays the same.
 
@@ -126,7 +126,9 @@ class RowCase:
         self.path, self.row, self.shown = path, row, row.own
         capture, order = ["--capture", "cap"], ["--order", "order"]
         tree = ["--tree", "tree"] if row.tree() else []
-        calls = {"good": ["cut", *capture, *order, "--at", "0"], "proposed": ["propose", *capture, *tree]}
+        judge = ["judge", *capture, *tree]
+        calls = {"good": ["cut", *capture, *order, "--at", "0"], "proposed": ["propose", *capture, *tree], "judged legal": judge,
+                 "no order": judge, "gave up": [*judge, "--steps", "0"]}
         self.words = calls.get(row.word(), ["check", *capture, *order, *tree])
 
     def own(self, _):
@@ -178,7 +180,7 @@ class Call:
 
     def capture(self, folder):
         """The path of the capture that it judges, if there is one in this folder."""
-        if self.words[:1] not in (["check"], ["propose"], ["cut"]) or "--capture" not in self.words[:-1]:
+        if self.words[:1] not in (["check"], ["propose"], ["cut"], ["judge"], ["search"]) or "--capture" not in self.words[:-1]:
             return None
         path = os.path.join(folder, self.words[self.words.index("--capture") + 1])
         return path if os.path.isfile(path) else None
@@ -257,7 +259,7 @@ def watched(shim, seed, case):
 
     def change(program, call, folder):
         expected, status = case.expected()
-        if not piped(shim, seed)(program, call, folder) or status > 3:
+        if not piped(shim, seed)(program, call, folder) or status in (4, 5):
             return None
         call.words = ["watch", "--capture", "-"]
         good = b"good: %d messages\n" % records(call.input), 0
