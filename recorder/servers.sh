@@ -82,10 +82,10 @@ tried() {
     lines="$(TMPDIR="$work" timeout -k 5 200 "$here/fuse-try" --audit "$program" --seconds 10 "${options[@]}" -- "${words[@]}" 2>&1)" || status=$?
     if [ "$status" -eq 0 ]; then
         echo "legal, $(wc -l <<< "$lines") rounds"
-    elif tail -n 1 <<< "$lines" | grep -q "not tried\|fault:\|there is no order$"; then
-        tail -n 1 <<< "$lines"
+    elif [ "$status" -eq 7 ]; then
+        echo "$(grep -c ": legal: " <<< "$lines") rounds legal, $(grep -c ": gave up: " <<< "$lines") given up"
     else
-        echo "$(grep -c ": legal: " <<< "$lines") rounds legal, $(grep -c "another order$" <<< "$lines") not shown, in which requests overlapped"
+        tail -n 1 <<< "$lines"
     fi
 }
 
@@ -111,11 +111,7 @@ row() {
     for text in "$work/tree" "$capture.tree"; do
         [ ! -e "$text" ] || tree=(--tree "$text")
     done
-    if "$program" propose --capture "$capture" "${tree[@]}" > "$work/order" 2>&1; then
-        found="$("$program" check --capture "$capture" "${tree[@]}" --order "$work/order")"
-    else
-        found="$(cat "$work/order")"
-    fi
+    found="$("$program" judge --steps 10000 --capture "$capture" "${tree[@]}" 2>&1)"
     [ "$status" -eq 0 ] || found="$found; fuse-record: status $status"
     shown="$*"
     shown="${shown//$work\//}"

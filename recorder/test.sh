@@ -77,7 +77,7 @@ is_mounted() { grep -qs " $mnt " /proc/self/mounts; }
 # Starts a server under fuse-record and waits for its mount: record_on [OPTIONS] -- SERVER WORDS..
 # It is to stay in the foreground; its process is the last of servers.
 record_on() {
-    rm -f "$work/a.order" "$work/errors"
+    rm -f "$work/errors"
     "${under[@]}" "$work/recorder/fuse-record" -o "$capture" "${how[@]}" "$@" > /dev/null 2> "$work/errors" &
     servers+=($!)
     for _ in $(seq 100); do
@@ -115,16 +115,15 @@ ends() {
 }
 unanswered="[0-9]* requests were never answered, [0-9]* of them of operations that no order names"
 
-# Prints the verdict on the capture and the order that is proposed for it.
+# Prints the verdict on the capture, of all orders. The steps are a minute's work at most.
 verdict() {
     local tree=()
     [ ! -e "$capture.tree" ] || tree=(--tree "$capture.tree")
-    if "$program" propose --capture "$capture" "${tree[@]}" > "$work/a.order"; then
-        "$program" check --capture "$capture" "${tree[@]}" --order "$work/a.order"
-    else
-        cat "$work/a.order"
-    fi
+    "$program" judge --steps 10000 --capture "$capture" "${tree[@]}"
 }
+
+# The same by an order in a file, which this command makes: verdict_by COMMAND.
+verdict_by() { "$program" "$1" --capture "$capture" > "$work/a.order" && "$program" check --capture "$capture" --order "$work/a.order"; }
 
 # A capture is watched as this verdict says: the fault, or as many messages as are legal.
 watched_as() {
@@ -716,6 +715,8 @@ work_on_sparse() {
 of_own_server() {
     own memory --
     whole_session memory
+    check "memory: the order that is proposed is legal" [ "$(verdict_by propose)" = "$(verdict)" ]
+    check "memory: and the one that is found" [ "$(verdict_by search)" = "$(verdict)" ]
     own "memory, names exchanged" --
     renaming_session "memory, names exchanged"
     check "memory, splicing: mounts" record -- "$work/memory-splicing" "$mnt" && whole_session "memory, splicing"
@@ -774,8 +775,8 @@ of_own_server() {
     stop
     denied="$("$work/recorder/fuse-messages" "$capture" | awk '
         / LOOKUP.* name name$/ { asked[$5 $6] = $1 } / CREATE.* name name$/ { made = 1 }
-        made && / ENOENT/ { for (key in asked) if (key == $5 $6) { print asked[key]; exit } }')"
-    check "denied: is not shown at that LOOKUP" judged "memory with a denied name" "not shown: entry * message $denied: code 73: *"
+        made && / ENOENT/ { for (key in asked) if (key == $5 $6) { print $1; exit } }')"
+    check "denied: has no order at that answer" judged "memory with a denied name" "no order: message $denied: code 82: *"
 
     # What the kernel refuses is taken out of the capture, unless it is to be kept.
     own twice -- --answer-twice name
@@ -1061,20 +1062,30 @@ tried_checks() {
     trying --rounds 1 --calls 200 -- "$work/memory"
     check "tried: is legal" tries 0 "^seed 1: [0-9]* calls, [0-9]* messages, [0-9]* in flight: legal: "
     trying --rounds 20 --calls 200 --keep "$work/kept" --shrink 5 -- "$work/memory" --bug lost-mode
-    check "tried, a bug: is found" tries 2 "code 83: attributes); no request overlapped another: there is no order$"
-    check "tried, a bug: the shortest capture shows it" grep -q "^not shown: .*code 83: attributes)$" "$work/kept/verdict"
+    check "tried, a bug: is found" tries 6 ": no order: message [0-9]*: code 83: attributes$"
+    check "tried, a bug: the shortest capture shows it" grep -q "^no order: message [0-9]*: code 83: attributes$" "$work/kept/verdict"
     check "tried, a bug: has few messages" [ "$("$work/recorder/fuse-messages" "$work/kept/shortest.cap" | wc -l)" -lt 60 ]
     trying --rounds 5 --script "$work/kept/script" -- "$work/memory" --bug lost-mode
-    check "tried, a bug: its script shows it" tries 2 "^script: .*code 83: attributes)"
+    check "tried, a bug: its script shows it" tries 6 "^script: .*: no order: .*code 83: attributes$"
     mkdir "$work/plain"
     trying --script "$work/kept/script" --in "$work/plain"
     check "tried, a bug: its script's calls are told" tries 0 "^0 [a-z]* .*: ok$"
     trying --rounds 5 --script "$work/kept/script" -- "$work/memory"
     check "tried, a bug: and nothing without it" tries 0 "^script: .*: legal: "
-    trying --rounds 5 -- "$work/memory" --threads 4
+    trying --rounds 5 --seconds 40 -- "$work/memory" --threads 4
     check "tried, threads: are legal" tries 0 "^seed 5: .*: legal: "
     trying --rounds 1 -- "$work/memory" --bug answered-twice
     check "tried, a fault: is found" tries 1 "fault: message [0-9]*: code 31: "
+    # An auditor that ends as it is told, by a line and a status.
+    printf '%s\n' '#!/bin/sh' "echo 'gave up: message 9'" "exit 7" > "$work/gives-up"
+    printf '%s\n' '#!/bin/sh' "echo 'audit failed: memory' >&2" "exit 5" > "$work/fails"
+    chmod +x "$work/gives-up" "$work/fails"
+    trying --audit "$work/gives-up" --rounds 2 --calls 50 --keep "$work/given" -- "$work/memory"
+    check "tried, given up: is no finding" tries 7 "^seed 2: .*: gave up: message 9$"
+    check "tried, given up: one client finds none" [ "$(wc -l < "$work/seen")" -eq 2 ]
+    check "tried, given up: the capture is kept" [ "$(ls "$work/given")" = gave-up.cap ]
+    trying --audit "$work/fails" --rounds 2 --calls 50 -- "$work/memory"
+    check "tried, no verdict: is told" tries 125 "not tried: fails judge ended with status 5: audit failed: memory$"
     trying -- "$work/memory" --die-after 100
     check "tried, killed: is told" tries 125 "not tried: the server was ended by signal 9 (Killed) with requests unanswered"
     trying --patience 1 -- "$work/memory" --hang-after 100
@@ -1093,10 +1104,53 @@ tried_checks() {
     check "tried, by a signal: is told" [ "$status" -eq 143 ]
     check "tried, by a signal: nothing is left" leaves_nothing
 }
+
+# The example for a server's own repository: its status, its last line, and that nothing is left mounted.
+in_ci() {
+    status=0
+    (cd "$work" && FA_AUDIT="${auditor:-$program}" KIGZELT="$work" timeout 60 "$here/../examples/ci/record-and-judge.sh" "$@") \
+        > "$work/seen" 2> "$work/errors" || status=$?
+}
+says() { [ "$status" -eq "$1" ] && tail -n 1 "$work/seen" | grep -q -- "$2" && ! is_mounted; }
+calls="$here/../examples/ci/calls.sh"
+ci_checks() {
+    in_ci "$mnt" "$calls" -- "$work/memory" "$mnt"
+    check "in ci: is legal" says 0 "^legal: "
+    in_ci "$mnt" "$calls" -- "$work/memory" --bug link-count "$mnt"
+    check "in ci, a bug: has no order" says 6 "^no order: message [0-9]*: code 83: attributes$"
+    in_ci "$mnt" "$calls" -- "$work/memory" --answer-short name "$mnt"
+    check "in ci, a fault: is told" says 1 "^fault: message [0-9]*: code 16: "
+    in_ci "$mnt" "$calls" -- "$work/memory" --die-after 100 "$mnt"
+    check "in ci, killed: is told" says 125 "^legal: "
+    in_ci --seconds 1 "$mnt" "$calls" -- "$work/memory" --hang-after 100 "$mnt"
+    check "in ci, hanging: is told" says 125 "^legal: "
+    in_ci "$mnt" false -- "$work/memory" "$mnt"
+    check "in ci, a suite that fails: is told" says 8 "^legal: "
+    in_ci "$mnt" true -- false
+    check "in ci, no mount: is told" [ "$status" -eq 125 ]
+    in_ci "$mnt" true
+    check "in ci, no server: is a fault of the command line" [ "$status" -eq 4 ]
+    auditor="$work/gives-up"
+    in_ci "$mnt" true -- "$work/memory" "$mnt"
+    check "in ci, given up: passes" says 0 "^gave up: message 9$"
+    in_ci --strict "$mnt" true -- "$work/memory" "$mnt"
+    check "in ci, given up: does not where it is not to" says 7 "^gave up: message 9$"
+    auditor="$work/fails"
+    in_ci "$mnt" true -- "$work/memory" "$mnt"
+    check "in ci, no verdict: is told" [ "$status" -eq 5 ]
+    auditor=''
+    if command -v bindfs > /dev/null; then
+        fill_plain
+        in_ci --lower "$lower" "$mnt" "$calls" -- bindfs -f --no-allow-other \
+            -o hard_remove,attr_timeout=0,entry_timeout=0 "$lower" "$mnt"
+        check "in ci, bindfs: is legal" says 0 "^legal: "
+    fi
+}
 if [ ${#sanitizer[@]} -gt 0 ]; then
     echo "recorder: skipped: servers that are tried, by a recorder with ThreadSanitizer"
 else
     tried_checks
+    ci_checks
 fi
 
 # By their system calls, where these may be stopped.
@@ -1162,14 +1216,14 @@ servers_in_go() {
             check "gocryptfs, with all: serves" work_without_links
             check "gocryptfs, with all: is unmounted" stop
             # All messages keep the protocol. The first name that is looked up is one that no tree has.
-            check "gocryptfs, with all: is not shown" judged "gocryptfs, with all" "not shown: entry 0: message 2: code 73: *"
+            check "gocryptfs, with all: has no order" judged "gocryptfs, with all" "no order: message 3: code 81: *"
             check "gocryptfs, with all: at go-fuse's own name" [ "$(names_of_go_fuse)" -eq 1 ]
         }
         # What it tells of a file that got a second name is the size of the encrypted one.
         check "gocryptfs, LINK: mounts" record "${refused[@]}" -- "${gocryptfs_words[@]}" && {
             check "gocryptfs, LINK: serves" timeout 20 sh -ec "cd '$mnt'; echo text > text; ln text linked"
             check "gocryptfs, LINK: is unmounted" stop
-            check "gocryptfs, LINK: is not shown there" judged "gocryptfs, LINK" "not shown: entry * message $(first_link): code 73: *"
+            check "gocryptfs, LINK: has no order there" judged "gocryptfs, LINK" "no order: message $(first_link): code 83: *"
         }
     else
         echo "recorder: skipped: gocryptfs is not installed"
@@ -1195,7 +1249,12 @@ servers_in_go() {
 refused=(--refuse "FALLOCATE,COPY_FILE_RANGE,IOCTL")
 gocryptfs_words=(gocryptfs -fg -nosyslog -sharedstorage -passfile "$work/password" "$work/secret" "$mnt")
 names_of_go_fuse() { "$work/recorder/fuse-messages" "$capture" | grep -c "to server: LOOKUP, .*, name \.go-fuse-epoll-hack$"; }
-first_link() { "$work/recorder/fuse-messages" "$capture" | sed -n 's/^\([0-9]*\) to server: LINK, .*/\1/p' | head -n 1; }
+# The answer to the first LINK.
+first_link() {
+    "$work/recorder/fuse-messages" "$capture" | awk '
+        / to server: LINK, / && !asked { match($0, /unique [0-9]+/); asked = substr($0, RSTART, RLENGTH) }
+        / from server: / && asked && index($0, asked ",") { print $1; exit }'
+}
 work_without_links() {
     is_mounted && timeout 60 sh -ec "cd '$mnt'; rm -rf *
         for i in 1 2 3 4; do mkdir new\$i; echo \$i > new\$i/file; echo more >> new\$i/file; ln -s file new\$i/symbolic; done

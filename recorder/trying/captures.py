@@ -105,23 +105,16 @@ def acts_on_tree(message):
     return opcode_of(message) in TREE_OPERATIONS
 
 
-Flight = collections.namedtuple("Flight", "most overlapped")
-
-
-def flight_of(capture):
-    """How many requests waited for their answers at most, and whether two waited that act on the tree."""
-    waiting, acting, most, overlapped = {}, 0, 0, False
+def most_in_flight(capture):
+    """How many requests waited for their answers at most."""
+    waiting, most = set(), 0
     for message in capture.messages:
-        unique = unique_of(message)
         if message.direction == REPLY:
-            acting -= waiting.pop(unique, False)
+            waiting.discard(unique_of(message))
         elif opcode_of(message) not in WITHOUT_ANSWER:
-            acts = acts_on_tree(message)
-            acting += acts - waiting.get(unique, False)
-            waiting[unique] = acts
+            waiting.add(unique_of(message))
             most = max(most, len(waiting))
-            overlapped |= acts and acting > 1
-    return Flight(most, overlapped)
+    return most
 
 
 def answers(capture):

@@ -6,14 +6,12 @@ import re
 import shutil
 import subprocess
 
-LEGAL, FAULT, NOT_SHOWN = 0, 1, 2
-LEFT_OUT = 73  # the code of an answered request that no entry of the order names
+LEGAL, FAULT, NO_ORDER, GAVE_UP = 0, 1, 6, 7
+# How many steps the auditor may spend. They are some seconds' work, and where they are not enough one client tells more than more steps.
+STEPS = 1_000
 
-# The status and the line of the auditor, and the message and the code that the line tells. The cause is what the auditor says where
-# the request at fault is put behind the proposed order: its code and text, or nothing.
-class Verdict(collections.namedtuple("Verdict", "status line message code cause")):
-    def whole_line(self):
-        return f"{self.line} ({self.cause})" if self.cause else self.line
+# The status and the line of the auditor, and the message and the code that the line tells.
+Verdict = collections.namedtuple("Verdict", "status line message code")
 
 
 class AuditFailed(Exception):
@@ -29,43 +27,17 @@ def find_program(named):
     return os.path.realpath(program)
 
 
-def run(program, *words):
-    ended = subprocess.run([program, *words], stdout=subprocess.PIPE, stderr=subprocess.PIPE, check=False)
-    if ended.returncode not in (LEGAL, FAULT, NOT_SHOWN):
-        said = (ended.stdout + ended.stderr).decode(errors="replace").strip().splitlines()
-        how = f"{os.path.basename(program)} {words[0]} ended with status {ended.returncode}"
-        raise AuditFailed(f"{how}: {said[0] if said else 'it said nothing'}")
-    return ended.returncode, ended.stdout.decode()
-
-
-def read_line(status, line, cause=""):
-    message, code = re.search(r"message (\d+)", line), re.search(r"code (\d+)", line)
-    return Verdict(status, line, int(message[1]) if message else None, int(code[1]) if code else None, cause)
-
-
 def judge(program, capture, tree=None):
-    """The verdict on a capture. The order is the one that the auditor proposes, which stands beside the capture from then on."""
-    order = capture + ".order"
-    files = ["--capture", capture, *(["--tree", tree] if tree else [])]
-    status, text = run(program, "propose", *files)
-    if status != LEGAL:
-        return read_line(status, text.strip())
-    write(order, text)
-    status, line = run(program, "check", *files, "--order", order)
-    verdict = read_line(status, line.strip())
-    if verdict.code != LEFT_OUT:
-        return verdict
-    write(order, text.replace("end\n", f"{verdict.message}\nend\n"))
-    cause = run(program, "check", *files, "--order", order)[1]
-    write(order, text)
-    return verdict._replace(cause=cause_in(cause, verdict.message))
+    """The verdict on a capture, of all orders."""
+    words = [program, "judge", "--steps", str(STEPS), "--capture", capture, *(["--tree", tree] if tree else [])]
+    ended = subprocess.run(words, stdout=subprocess.PIPE, stderr=subprocess.PIPE, check=False)
+    if ended.returncode not in (LEGAL, FAULT, NO_ORDER, GAVE_UP):
+        said = (ended.stdout + ended.stderr).decode(errors="replace").strip().splitlines()
+        how = f"{os.path.basename(program)} judge ended with status {ended.returncode}"
+        raise AuditFailed(f"{how}: {said[0] if said else 'it said nothing'}")
+    return read_line(ended.returncode, ended.stdout.decode().strip())
 
 
-def write(path, text):
-    with open(path, "w", encoding="ascii") as file:
-        file.write(text)
-
-
-def cause_in(line, message):
-    found = re.search(rf": message {message}: (code \d+: .*)", line)
-    return found[1] if found else ""
+def read_line(status, line):
+    message, code = re.search(r"message (\d+)", line), re.search(r"code (\d+)", line)
+    return Verdict(status, line, int(message[1]) if message else None, int(code[1]) if code else None)

@@ -12,18 +12,17 @@ NOT_TRIED = 125
 
 
 class Round:
-    """What came of one: the calls that were made, with their times, the capture with its flight, and its verdict."""
+    """What came of one: the calls that were made, with their times, the capture, and its verdict."""
 
     def __init__(self, server, clients, verdict):
         self.verdict = verdict
         self.made = clients.made()
         self.capture = captures.Capture.read(server.capture)
-        self.flight = captures.flight_of(self.capture)
         self.tree = read(server.tree) if server.tree else None
 
     def is_finding(self):
-        """A fault is one. Where no request waited beside another there is one order alone, and what it does not show is one too."""
-        return self.verdict.status == judging.FAULT or self.verdict.status == judging.NOT_SHOWN and not self.flight.overlapped
+        """A fault is one, and that no order explains the replies. Where the auditor gave up nothing is known."""
+        return self.verdict.status in (judging.FAULT, judging.NO_ORDER)
 
     def calls_before_finding(self, by_end=False):
         """Those that were begun before the reply at fault, in the order in which they were begun, or ended."""
@@ -36,13 +35,6 @@ class Round:
         """The same calls made by one client."""
         for by_end in (False, True):
             yield [call._replace(client=0) for call in self.calls_before_finding(by_end)]
-
-    def told(self):
-        if self.verdict.status != judging.NOT_SHOWN:
-            return self.verdict.line
-        if self.flight.overlapped:
-            return f"{self.verdict.whole_line()}; requests overlapped, so there may be another order"
-        return f"{self.verdict.whole_line()}; no request overlapped another: there is no order"
 
 
 class Rounds:
@@ -80,14 +72,14 @@ class Rounds:
         self.progress(f"{name}: {len(lists)} clients")
         found = self.try_lists(lists)
         tell(name, found)
-        if found.verdict.status != judging.NOT_SHOWN or found.is_finding():
+        if found.verdict.status != judging.GAVE_UP:
             return found
-        self.keep_overlapping(found)
+        self.keep_given_up(found)
         return self.by_one_client(name, found) or found
 
     def by_one_client(self, name, found):
         """
-        Where requests overlapped an order may have been missed. So one client makes the calls, in the order in which they were begun,
+        Where the auditor gave up, too many requests overlapped. So one client makes the calls, in the order in which they were begun,
         or ended: what came of it, where that is a finding.
         """
         for calls in found.orders_for_one():
@@ -125,13 +117,13 @@ class Rounds:
             unanswered = f"requests were never answered: no client got on for {words.patience} seconds"
         found = Round(server, clients, judging.judge(self.program, server.capture, server.tree))
         if unanswered and not found.is_finding():
-            raise serving.NotTried(f"{unanswered} ({found.told()})")
+            raise serving.NotTried(f"{unanswered} ({found.verdict.line})")
         return found
 
-    def keep_overlapping(self, found):
-        """Keeps the first capture in which requests overlapped and that is not shown: another order may explain it."""
-        if self.words.keep and not os.path.exists(self.path_kept("overlapping.cap")):
-            self.keep_capture("overlapping.cap", found)
+    def keep_given_up(self, found):
+        """Keeps the first capture on which the auditor gave up: with more steps it may say more."""
+        if self.words.keep and not os.path.exists(self.path_kept("gave-up.cap")):
+            self.keep_capture("gave-up.cap", found)
 
     def keep_finding(self, found):
         """Keeps the capture of a finding, and the smallest calls and the shortest capture that show it."""
@@ -144,10 +136,10 @@ class Rounds:
         tree = path + ".tree" if found.tree else None
         judge = functools.partial(judging.judge, self.program, path, tree)
         verdict = shrinking.shrink_capture(shrinker.found, judge, path, self.words.shrink)
-        write(self.path_kept("verdict"), verdict.whole_line() + "\n")
+        write(self.path_kept("verdict"), verdict.line + "\n")
         acting = sum(map(captures.acts_on_tree, captures.Capture.read(path).messages))
         told_on_error(f"kept in {self.words.keep}: {len(calls)} calls, which showed it in {shown} of {tries} tries, "
-                      f"and a capture of {acting} requests that act on the tree: {verdict.whole_line()}")
+                      f"and a capture of {acting} requests that act on the tree: {verdict.line}")
 
     def path_kept(self, name):
         return os.path.join(self.words.keep, name)
@@ -162,8 +154,8 @@ class Rounds:
 
 def tell(name, found):
     """The line of a round."""
-    print(f"{name}: {len(found.made)} calls, {len(found.capture.messages)} messages, {found.flight.most} in flight: {found.told()}",
-          flush=True)
+    most = captures.most_in_flight(found.capture)
+    print(f"{name}: {len(found.made)} calls, {len(found.capture.messages)} messages, {most} in flight: {found.verdict.line}", flush=True)
 
 
 def told_on_error(said):

@@ -34,7 +34,7 @@ def without_parts(items, still):
 def what_is_shown(found):
     """The same finding has the same code, and it is at the same operation."""
     verdict = found.verdict
-    return verdict.status, verdict.code, verdict.cause, captures.operation_at(found.capture, verdict.message)
+    return verdict.status, verdict.code, captures.operation_at(found.capture, verdict.message)
 
 
 class Shrinker:
@@ -112,28 +112,38 @@ class Shrinker:
         return fewer if len(fewer) < len(calls) and self.still(fewer) else calls
 
 
-def place_at_fault(capture, verdict):
-    """The places of the request at fault and of its answer, and the last message that has to be there."""
-    request, answer = captures.pair_at(capture, verdict.message)
-    return request, max(place for place in (request, answer, verdict.message) if place is not None)
+def fronts(capture, place):
+    """
+    The captures up to the reply at a place, up to the last answer of what was in flight there, and whole. What is said of a reply rests
+    on the answers of such requests too, whenever they came, and on nothing behind them.
+    """
+    answered = captures.answers(capture)
+    late = [answer for request, answer in answered.items() if request < place < answer]
+    for last in (place, max(late, default=place), len(capture.messages) - 1):
+        yield captures.Capture(capture.magic, capture.messages[: last + 1])
 
 
 def shrink_capture(found, judge, path, seconds):
     """
-    Writes the shortest capture that the auditor still says the same of: it ends with the reply at fault, and lacks requests that touch
-    nothing of it, and those that changed nothing. `judge` has the capture at the path judged. Answers the verdict.
+    Writes the shortest capture that the auditor still says the same of: it ends with the reply at fault, or with what was in flight
+    there, and lacks requests that touch nothing of it, and those that changed nothing. `judge` has the capture at the path judged.
+    Answers the verdict.
     """
     until, verdict = time.monotonic() + seconds, found.verdict
-    request, last = place_at_fault(found.capture, verdict)
-    whole = captures.Capture(found.capture.magic, found.capture.messages[: last + 1])
-    others = captures.may_go(whole, request) if request is not None else []
 
-    def verdict_with(kept):
-        fewer, places = captures.without(whole, set(others) - set(kept))
+    def verdict_without(whole, gone):
+        fewer, places = captures.without(whole, gone)
         fewer.write(path)
         now = judge()
         same = verdict._replace(line=now.line, message=places.get(verdict.message))
         return now if now == same else None
+
+    whole = next((front for front in fronts(found.capture, verdict.message) if verdict_without(front, [])), found.capture)
+    request, _ = captures.pair_at(whole, verdict.message)
+    others = captures.may_go(whole, request) if request is not None else []
+
+    def verdict_with(kept):
+        return verdict_without(whole, set(others) - set(kept))
 
     def still(kept):
         return None if time.monotonic() > until else verdict_with(kept) is not None
