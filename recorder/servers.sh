@@ -111,7 +111,7 @@ row() {
     for text in "$work/tree" "$capture.tree"; do
         [ ! -e "$text" ] || tree=(--tree "$text")
     done
-    found="$("$program" judge --steps 10000 --capture "$capture" "${tree[@]}" 2>&1)"
+    found="$("$program" judge --steps 1000000 --capture "$capture" "${tree[@]}" 2>&1)"
     [ "$status" -eq 0 ] || found="$found; fuse-record: status $status"
     shown="$*"
     shown="${shown//$work\//}"

@@ -119,7 +119,7 @@ unanswered="[0-9]* requests were never answered, [0-9]* of them of operations th
 verdict() {
     local tree=()
     [ ! -e "$capture.tree" ] || tree=(--tree "$capture.tree")
-    "$program" judge --steps 10000 --capture "$capture" "${tree[@]}"
+    "$program" judge --steps 1000000 --capture "$capture" "${tree[@]}"
 }
 
 # The same by an order in a file, which this command makes: verdict_by COMMAND.

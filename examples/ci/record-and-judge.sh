@@ -13,7 +13,7 @@
 #   0    some order explains each reply
 #   1    a message breaks the protocol
 #   6    no order explains the replies
-#   7    its budget was spent, of N steps, 100000: it is told, and the status is 0 without --strict
+#   7    its budget was spent, of N steps, 10000000: it is told, and the status is 0 without --strict
 #   3, 5 the tree text is none, or a file was not read or memory refused: no verdict
 # or, where that is 0
 #   125  the recording is none of the whole session: a line says why
@@ -28,7 +28,7 @@ usage() {
     exit 4
 }
 
-strict='' steps=100000 lower='' out=recorded seconds=600
+strict='' steps=10000000 lower='' out=recorded seconds=600
 while [ $# -gt 0 ]; do
     case "$1" in
         --strict) strict=yes && shift && continue ;;
