@@ -18,6 +18,8 @@ enum {
     FA_AUDIT_TEXT = 3, /* the tree text or the order text is not in its grammar */
     FA_AUDIT_FAILED = 5, /* memory was refused, or the capture has more than 402,653,184 bytes,
                            or a text more than 268,435,456 */
+    FA_AUDIT_NO_ORDER = 6, /* no order explains the capture */
+    FA_AUDIT_GAVE_UP = 7, /* the search ended before it had an answer */
 };
 
 /* So many bytes have room for each line. */
@@ -37,6 +39,15 @@ enum {
  * that divides its size. It is not to be called from a signal handler, or from the forked child of a process with threads. */
 uint8_t fa_audit_check(const uint8_t *capture, size_t capture_length, const uint8_t *tree, size_t tree_length, bool has_tree,
                        const uint8_t *order, size_t order_length, uint8_t *line, size_t line_length, size_t *size);
+
+/* As many steps as the program's search may spend where it is told no number. */
+#define FA_AUDIT_STEPS 10000000
+
+/* Judges a capture by a search of all its orders, so that none is handed over: the status. FA_AUDIT_NO_ORDER says that no order explains
+ * the capture, and FA_AUDIT_GAVE_UP that the search spent so many steps, or as many trees or bytes as the program may take, without an
+ * answer; FA_AUDIT_NOT_SHOWN is never told. All else is as with fa_audit_check. */
+uint8_t fa_audit_judge(const uint8_t *capture, size_t capture_length, const uint8_t *tree, size_t tree_length, bool has_tree,
+                       uint64_t steps, uint8_t *line, size_t line_length, size_t *size);
 
 #ifdef __cplusplus
 }

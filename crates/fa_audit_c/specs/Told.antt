@@ -2,7 +2,10 @@
 use Rattle.std.specs.Prelude.{◌≡◌, ℕ, List, ◌++◌, length, take, drop, Option, None, Some, Result, Bool, true, false}
 use Rattle.fa_check.specs.declared.verdict.Verdict.{Verdict}
 use Rattle.fa_audit.specs.declared.verdict.AuditError.{AuditError}
+use Rattle.fa_audit.specs.declared.found.Judgement.{Judgement}
+use Rattle.fa_audit.specs.declared.verdict.StartError.{StartError}
 use Rattle.fa_audit.specs.Verdict.{IsAnswer}
+use Rattle.fa_audit.specs.Searched.{IsJudgeAnswer, judged_line, judged_status}
 use Rattle.fa_audit.specs.Line.{answer_line, answer_status}
 
 -- the tree text, where one is handed in
@@ -22,5 +25,19 @@ pub record IsAnswered (capture : List ℕ) (tree : Option (List ℕ)) (order : L
 pub record IsToldInto (capture : List ℕ) (tree : Option (List ℕ)) (order : List ℕ) (status size : ℕ) (old new : List ℕ) : Type 0 where
   pub line : List ℕ
   pub answered : IsAnswered capture tree order line status
+  pub size_is : size ≡ length line
+  pub written : new ≡ take (length old) line ++ drop (length line) old
+
+-- the judgement of these bytes has an answer with this line and this status
+pub record IsJudgementOf (capture : List ℕ) (tree : Option (List ℕ)) (line : List ℕ) (status : ℕ) : Type 0 where
+  pub answer : Result Judgement StartError
+  pub is : IsJudgeAnswer capture tree answer
+  pub line_is : line ≡ judged_line answer
+  pub status_is : status ≡ judged_status answer
+
+-- and that line stands at the front of a place, as that of the audit does
+pub record IsJudgementToldInto (capture : List ℕ) (tree : Option (List ℕ)) (status size : ℕ) (old new : List ℕ) : Type 0 where
+  pub line : List ℕ
+  pub judged : IsJudgementOf capture tree line status
   pub size_is : size ≡ length line
   pub written : new ≡ take (length old) line ++ drop (length line) old
