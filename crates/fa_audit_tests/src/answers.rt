@@ -3,8 +3,9 @@
 ghost use Rattle.std.specs.Prelude.{◌<◌};
 
 use fa_audit::{
-    AuditError, CutError, StartError, audit, audit_capture, cut_order, order_fault_text, proposal,
-    tree_fault_text, verdict_text,
+    AuditError, Budget, CutError, Judgement, Searched, StartError, audit, audit_capture, cut_order,
+    judge_capture, judgement_text, order_fault_text, proposal, search_order, tree_fault_text,
+    verdict_text,
 };
 use fa_bodies::ROOT_ID;
 use fa_bodies::errno::ENOENT;
@@ -127,4 +128,38 @@ fn orders_that_are_proposed_or_cut(rt: HostRuntime) {
             Err(CutError::OrderText { line: 3 })
         )
     );
+}
+
+/// Whether this is the text of the order that was found.
+fn is_order(searched: &Result<Searched, StartError>, text: &[u8]) -> bool {
+    match searched {
+        Ok(Searched::Order(order)) => order.as_slice() == text,
+        _ => false,
+    }
+}
+
+#[test]
+fn what_is_judged_by_a_search(rt: HostRuntime) {
+    let alloc = rt.alloc();
+    let capture = not_found(alloc).capture().expect(&rt, "memory");
+    let legal = Judgement::Legal {
+        messages: 4,
+        placed: 1,
+        left: 0,
+    };
+    let judgement = judge_capture(alloc, &capture, None, Budget::default());
+    assert_eq!(rt; judgement, Ok(legal));
+    let searched = search_order(alloc, &capture, Some(ROOT), Budget::default());
+    assert!(rt; is_order(&searched, SECOND));
+    for (judgement, text) in [
+        (legal, "legal: 4 messages, 1 placed, 0 left out"),
+        (
+            Judgement::NoOrder { at: 9, code: 85 },
+            "no order: message 9: code 85: bytes read",
+        ),
+        (Judgement::GaveUp { at: 7 }, "gave up: message 7"),
+    ] {
+        let line = judgement_text(alloc, &judgement).expect(&rt, "memory");
+        assert_eq!(rt; line.as_str(), text);
+    }
 }

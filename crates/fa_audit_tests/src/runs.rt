@@ -4,7 +4,10 @@ ghost use Rattle.std.specs.Prelude.{◌≡◌, false, IfSome};
 ghost use Rattle.fa_capture.specs.Device.{device_failed, device_interrupted};
 
 use crate::answers::{NO_ORDER, NO_TREE, NONE, ROOT, SECOND, not_found};
-use fa_audit::{RunFault, run, run_cut, run_front, run_migrate, run_propose, run_watch};
+use fa_audit::{
+    Budget, Nobody, RunFault, run, run_cut, run_front, run_judge, run_migrate, run_propose,
+    run_search, run_watch,
+};
 use fa_capture::{Device, Output};
 use std::alloc::Global;
 
@@ -13,6 +16,8 @@ use std::alloc::Global;
 enum Call {
     Check,
     Propose,
+    Search,
+    Judge,
     Cut(u32),
     Front(u32),
     Watch,
@@ -27,7 +32,7 @@ type Row = (
     &'static [u8],
 );
 
-static ROWS: [Row; 10] = [
+static ROWS: [Row; 13] = [
     (
         Call::Check,
         None,
@@ -58,6 +63,21 @@ static ROWS: [Row; 10] = [
     ),
     (Call::Propose, Some(ROOT), NONE, 0, SECOND),
     (Call::Propose, None, NONE, 0, SECOND),
+    (Call::Search, Some(ROOT), NONE, 0, SECOND),
+    (
+        Call::Judge,
+        None,
+        NONE,
+        0,
+        b"legal: 4 messages, 1 placed, 0 left out\n",
+    ),
+    (
+        Call::Judge,
+        Some(NO_TREE),
+        NONE,
+        3,
+        b"tree: line 3: code 61: not a tree text\n",
+    ),
     (Call::Cut(3), None, SECOND, 0, NONE),
     (Call::Cut(4), None, SECOND, 0, SECOND),
     (Call::Front(0), None, NONE, 0, b"FUSECAP1"),
@@ -91,6 +111,14 @@ fn made<'x, W: Output>(
     match call {
         Call::Check => run(alloc, &mut capture, tree.as_mut(), &mut order, out),
         Call::Propose => run_propose(alloc, &mut capture, tree.as_mut(), out),
+        Call::Search => {
+            let budget = Budget::default();
+            run_search(alloc, &mut capture, tree.as_mut(), budget, &mut Nobody, out)
+        }
+        Call::Judge => {
+            let budget = Budget::default();
+            run_judge(alloc, &mut capture, tree.as_mut(), budget, &mut Nobody, out)
+        }
         Call::Cut(at) => run_cut(alloc, &mut capture, &mut order, at, out),
         Call::Front(at) => run_front(alloc, &mut capture, at, out),
         Call::Watch => run_watch(alloc, &mut capture, out),
