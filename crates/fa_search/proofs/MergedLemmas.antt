@@ -6,12 +6,13 @@ use Rattle.std.proofs.lemmas.List.Elements.{Contains-push}
 use Rattle.fa_capture.specs.Message.{Message}
 use Rattle.fa_tree.specs.State.{TreeState}
 use Rattle.fa_order.specs.declared.entry.Entry.{Entry}
-use Rattle.fa_search.specs.parts.Configurations.{PlainConfiguration, IsAhead}
+use Rattle.fa_search.specs.parts.Configurations.{PlainConfiguration}
 use Rattle.fa_search.specs.parts.Placed.{IsSameAs}
 use Rattle.fa_search.specs.parts.Settling.{AreHeldBy, AreMerged, IsPushedNew}
 use Rattle.fa_search.proofs.HeldLemmas.{held_ahead}
 use Rattle.fa_search.proofs.SettlingLemmas.{one_of, still_there}
 use Rattle.fa_search.proofs.LoopLemmas.{some_there}
+use Rattle.fa_search.proofs.TakenLemmas.{same_is_ahead}
 
 -- of none none are left
 pub merged_none : AreMerged [] []
@@ -56,14 +57,6 @@ merged_some old new are some =
     let one = some_there old some in
     let has = (are.all one.0 one.1).1 in
     omega (arith, has.1)
-
--- one that is the same is ahead
-pub same_is_ahead : (c : List Message) (x y : PlainConfiguration) → IsSameAs x y → IsAhead c (Contains x.placed) x.tree y
-same_is_ahead c x y (placed, trees) = record {
-  same = sym trees;
-  all = λ p q by has. subst (λ (ps : List ℕ). Contains ps p) placed has;
-  others = λ p has. inl (subst (λ (ps : List ℕ). Contains ps p) (sym placed) has);
-}
 
 -- So what is left is held, where all were.
 pub held_by_merged : (c : List Message) (first : TreeState) (common : List Entry) (at : ℕ) (held new : List PlainConfiguration) → AreMerged held new → AreHeldBy c first common at held

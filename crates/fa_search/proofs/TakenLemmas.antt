@@ -91,7 +91,7 @@ further_further c at x y z to further = record {
 }
 
 -- what is the same is ahead
-same_is_ahead : (c : List Message) (x y : PlainConfiguration) → IsSameAs x y → IsAhead c (Contains x.placed) x.tree y
+pub same_is_ahead : (c : List Message) (x y : PlainConfiguration) → IsSameAs x y → IsAhead c (Contains x.placed) x.tree y
 same_is_ahead c x y is = record {
   same = sym is.1;
   all = λ p q by has. subst (λ (placed : List ℕ). Contains placed p) is.0 has;

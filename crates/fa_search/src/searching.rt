@@ -40,8 +40,9 @@ const STEPS_BETWEEN: u64 = 100_000;
 /// are searched, message by message. What is held are configurations: a tree, and which of the requests in flight are placed in the
 /// entries that lead to it. Where a reply comes, its request has to be placed: from each configuration that lacks it the requests in flight
 /// are tried in every order, an unanswered WRITE with each count, until it is. Configurations with the same tree and the same
-/// requests placed fall together, where one request alone is in flight behind some of the replies. Where none is left, no order explains that reply and those before it. The listener is told how far the
-/// search has come behind a message, where 100,000 steps or more were spent since it was told last.
+/// requests placed fall together, where one request alone is in flight behind some of the replies. Where none is left, no order explains
+/// that reply and those before it. The listener is told how far the search has come behind a message, where 100,000 steps or more were
+/// spent since it was told last.
 ///
 /// # Errors
 ///
