@@ -7,7 +7,8 @@ import shutil
 import subprocess
 
 LEGAL, FAULT, NO_ORDER, GAVE_UP = 0, 1, 6, 7
-# How many steps the auditor may spend. They are a second's work or some seconds', and where they are not enough one client tells more than more steps.
+# How many steps the auditor may spend. They are a second's work or some seconds', and where they are not enough one client tells more
+# than more steps.
 STEPS = 1_000_000
 
 # The status and the line of the auditor, and the message and the code that the line tells.
