@@ -28,11 +28,12 @@ def demand(holds):
         raise ValueError
 
 
-def each_line(data, take):
-    """Hands each line before the last one, `end`, to `take` with its index, which raises ValueError where it does not fit."""
+def each_line(data, take, opening):
+    """Hands each line before the last one, `end`, which stands behind so many that open the text, to `take` with its index, which
+    raises ValueError where it does not fit."""
     *lines, rest = data.split(b"\n")
     for index, line in enumerate(lines):
-        if line == b"end" and index:
+        if line == b"end" and index >= opening:
             if index + 1 < len(lines) or rest:
                 raise NoText(index + 2)
             return
@@ -56,7 +57,7 @@ def order_of(data):
         demand(number <= MOST_OF_A_NUMBER and (count or 0) <= MOST_OF_A_NUMBER)
         return entries.append((number, count))
 
-    each_line(data, take)
+    each_line(data, take, 1)
     return entries
 
 
@@ -126,5 +127,5 @@ def tree_of(data):
             tree = with_new_name(tree.with_file(made, file_of(kind, bits, digits)), path, made)
         return None
 
-    each_line(data, take)
+    each_line(data, take, 2)
     return tree
