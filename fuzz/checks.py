@@ -1,0 +1,260 @@
+"""What is looked for in the answers to an input, each by a check with a name. A check that fails raises a `Finding`."""
+import collections
+import functools
+import random
+import re
+import traceback
+
+import captures
+import drivers
+
+import codes  # noqa: E402
+import judge  # noqa: E402
+import orders  # noqa: E402
+
+# What an input of so many bytes may take, but for a search with its usual budget.
+INPUT_BYTES, SECONDS, MEMORY = 100_000, 1.0, 100 << 20
+FAULTS = 1, 2, 3, 4, 5, 10, 11, 12, 13, 14, 15, 16, 17, 20, 21, 22, 23, 24, 25, 30, 31, 32, 33, 34, 40, 41, 42, 50
+ENTRY_FAULTS = 70, 71, 72, 73, 74, 81, 82, 83, 84, 85, 86
+STEP_FAULTS = ENTRY_FAULTS[5:]
+LEGAL, FAULT, NOT_SHOWN, TEXT, NO_ORDER, GAVE_UP = 0, 1, 2, 3, 6, 7
+# The forms of what is written: a status, a pattern, and the codes that it may tell. N is a number.
+FORMS = {
+    "legal": (LEGAL, "legal: N messages, N placed, N left out", ()),
+    "good": (LEGAL, "good: N messages", ()),
+    "order": (LEGAL, r"fuse-order 1\n(?:N(?: w N)?\n)*end", ()),
+    "capture": (LEGAL, None, ()),
+    "fault": (FAULT, "fault: message N: code C: TEXT", FAULTS),
+    "no capture": (FAULT, "fault: message 0: code C: TEXT", (1,)),
+    "framing fault": (FAULT, "fault: message N: code C: TEXT", FAULTS[:5]),
+    "not shown": (NOT_SHOWN, "not shown: entry N: message N: code C: TEXT", ENTRY_FAULTS),
+    "tree text": (TEXT, "tree: line N: code C: TEXT", (61,)),
+    "order text": (TEXT, "order: line N: code C: TEXT", (60,)),
+    "no order": (NO_ORDER, "no order: message N: code C: TEXT", STEP_FAULTS),
+    "gave up": (GAVE_UP, "gave up: message N", ())}
+TOLD = {
+    "check": ("legal", "fault", "not shown", "tree text", "order text"), "watch": ("good", "fault"),
+    "judge": ("legal", "fault", "tree text", "no order", "gave up"), "search": ("order", "fault", "tree text", "no order", "gave up"),
+    "propose": ("order", "fault", "tree text"), "cut": ("order", "fault", "order text"), "front": ("capture", "no capture"),
+    "migrate": ("capture", "framing fault")}
+FILES = {"check": ("capture", "tree", "order"), "cut": ("capture", "order"), "judge": ("capture", "tree"),
+         "search": ("capture", "tree"), "propose": ("capture", "tree")}
+CODE = re.compile(rb": code (\d+): ")
+MESSAGE = re.compile(rb"message (\d+)")
+# How many bytes a piece of a small capture has, and a seed for up to a hundred times as many; of a larger one as many as make so many pieces.
+PIECES = (1, 0), (1, 1), (7, 0), (40, 3)
+MOST_PIECES = 2000
+# What the plain judge is asked: captures of so many bytes, with so many requests and places.
+PLAIN_BYTES, PLAIN = 4000, orders.Limits(requests=6, bytes=64, places=1500)
+
+
+class Finding(Exception):
+    """A check that fails, by its name, and what it found."""
+
+    def __init__(self, check, text):
+        super().__init__(check, text)
+        self.check, self.text = check, text
+
+
+@functools.cache
+def form(kind):
+    """The status of a kind of answer, and the pattern of its bytes."""
+    status, pattern, told = FORMS[kind]
+    if pattern is None:
+        return status, re.compile(rb"(?:FUSECAP1|FUSECAP2).*", re.DOTALL)
+    texts = "|".join(f"{code}: {re.escape(codes.TEXTS[code])}" for code in told)
+    pattern = pattern.replace("N", r"(?:0|[1-9]\d*)").replace("C: TEXT", f"(?:{texts})")
+    return status, re.compile(pattern.encode() + rb"\n")
+
+
+def kind_of(command, answer):
+    """Which of its documented answers a command gave, if it is one of them."""
+    fits = (kind for kind in TOLD[command] if form(kind)[0] == answer.status and form(kind)[1].fullmatch(answer.output))
+    return next(fits, None)
+
+
+class Trial:
+    """An input that is tried: what answers, and how often each command told each status and code."""
+
+    def __init__(self, driver, given, seed, counts=None):
+        self.driver, self.given, self.chance = driver, given, random.Random(seed)
+        self.counts = collections.Counter() if counts is None else counts
+
+    @functools.cached_property
+    def records(self):
+        return captures.read(self.given.capture).records
+
+    def ask(self, command, *words, driver=None, **files):
+        """The answer to a command on the input, or on other files, which has to be one of those that are documented."""
+        names = FILES.get(command, ("capture",))
+        files = {name: files.get(name, getattr(self.given, name)) for name in names}
+        return self.judged(command, (driver or self.driver).call(command, files, *words), files)
+
+    def ask_in_pieces(self, command, *words):
+        """The same, of a capture through a pipe."""
+        files = {name: getattr(self.given, name) for name in FILES.get(command, ("capture",))}
+        unit, seed = self.chance.choice(PIECES)
+        unit = max(unit, len(self.given.capture) // MOST_PIECES)
+        return self.judged(command, self.driver.program.call_in_pieces(command, files, unit, seed, *words), files)
+
+    def judged(self, command, answer, files):
+        """The answer, where its form and what it took are as they have to be."""
+        told = f"{command} ended with {answer.status}: {answer.output[:200]!r}, {answer.error[:200]!r}"
+        if answer.status < 0:
+            raise Finding("signal", told)
+        statuses = {form(kind)[0] for kind in TOLD[command]}
+        if answer.status not in statuses:
+            raise Finding("status", told)
+        if kind_of(command, answer) is None or answer.error:
+            raise Finding("line", told)
+        if sum(len(data or b"") for data in files.values()) <= INPUT_BYTES and (answer.seconds > SECONDS or answer.memory > MEMORY):
+            raise Finding("resources", f"{command} took {answer.seconds:.2f} s and {answer.memory >> 20} MiB")
+        self.counts[command, "status", answer.status] += 1
+        code = CODE.search(answer.output) if answer.status else None
+        if code:
+            self.counts[command, "code", int(code[1])] += 1
+        return answer
+
+    def same(self, check, one, other, what):
+        """Nothing, where two answers are the same."""
+        if one.told() != other.told():
+            raise Finding(check, f"{what}: {one.told()} and {other.told()}"[:1000])
+
+    def holds(self, check, holds, what, *answers):
+        """Nothing, where this holds."""
+        if not holds:
+            raise Finding(check, f"{what}: {[answer.told() for answer in answers]}"[:1000])
+
+
+def at_message(answer):
+    return int(MESSAGE.search(answer.output)[1])
+
+
+# The checks. Each is handed the trial and what `check` told.
+
+
+def counted(trial, told):
+    """numbers: a line tells as many messages as there are, and none of another number."""
+    whole, line = len(trial.records), told.output
+    if told.status == LEGAL:
+        trial.holds("numbers", line.startswith(b"legal: %d messages, " % whole), f"{whole} records", told)
+    elif told.status in (FAULT, NOT_SHOWN):
+        trial.holds("numbers", at_message(told) <= whole, f"{whole} records", told)
+
+
+def compiled(trial, told):
+    """compilers: the program as the other compiler built it tells the same."""
+    trial.same("compilers", told, trial.ask("check", driver=trial.driver.by_rattle), "check by LLVM and by Rattle")
+
+
+def in_process(trial, told):
+    """library: the program tells what the library tells."""
+    trial.same("library", told, trial.ask("check", driver=trial.driver.program), "check in process and by the program")
+
+
+def cut(trial, told):
+    """cuts: what is left of a legal order and its capture at a message is legal."""
+    at = trial.chance.randrange(len(trial.records) + 2)
+    front = trial.ask("front", "--at", str(at)).output
+    left = trial.ask("cut", "--at", str(at)).output
+    line = trial.ask("check", capture=front, order=left)
+    count = min(at, len(trial.records))
+    trial.holds("cuts", line.output.startswith(b"legal: %d messages, " % count), f"cut at {at}", line)
+
+
+def migrated(trial, told):
+    """migrated: a capture with times, those of `migrate` or any, has the same answer."""
+    written = trial.ask("migrate")
+    framing = told.status == FAULT and int(CODE.search(told.output)[1]) in FAULTS[:5]
+    if written.status == FAULT:
+        same = written.told() == told.told() if framing else told.status == FAULT and at_message(told) < at_message(written)
+        trial.holds("migrated", same, "migrate and check", written, told)
+        return
+    trial.holds("migrated", not framing, "migrate and check", told)
+    trial.same("migrated", told, trial.ask("check", capture=written.output), "check and check of migrate")
+    whole = captures.read(written.output)
+    timed = [record._replace(time=trial.chance.getrandbits(64)) for record in whole.records]
+    trial.same("migrated", told, trial.ask("check", capture=whole._replace(records=timed).bytes()), "check and check with times")
+
+
+def searched(trial, told):
+    """search: `judge`, `search`, `propose` and `check` agree."""
+    steps = "--steps", str(trial.chance.choice((0, 100, 2000)))
+    judged, found, proposed = trial.ask("judge", *steps), trial.ask("search", *steps), trial.ask("propose")
+    if proposed.status != LEGAL or told.status == FAULT:
+        for answer in (told, judged, found):
+            trial.same("search", proposed, answer, "propose, and check, judge or search")
+        return
+    guess = trial.ask("check", order=proposed.output)
+    trial.holds("search", guess.status == LEGAL or b": code 73: " in guess.output, "the proposal", guess)
+    trial.holds("search", guess.status != LEGAL or judged.status == LEGAL, "a legal proposal, and judge", judged)
+    trial.holds("search", told.status != LEGAL or judged.status in (LEGAL, GAVE_UP), "a legal order, and judge", judged)
+    if judged.status == LEGAL:
+        trial.holds("search", found.status == LEGAL, "judge and search", judged, found)
+        trial.same("search", judged, trial.ask("check", order=found.output), "judge, and check of search")
+        return
+    trial.same("search", judged, found, "judge and search")
+    front = trial.ask("front", "--at", str(at_message(judged))).output
+    before = trial.ask("judge", *steps, capture=front)
+    trial.holds("search", before.status in (LEGAL, GAVE_UP), "what comes before", judged, before)
+    trial.holds("search", judged.status != GAVE_UP or not captures.is_serial(trial.records), "one request after the other", judged)
+
+
+def in_pieces(trial, told):
+    """pieces: a capture that comes through a pipe in pieces has the same answer."""
+    command, *words = trial.chance.choice((("check",), ("check",), ("judge", "--steps", "1000"), ("propose",), ("migrate",)))
+    whole = trial.ask(command, *words, driver=trial.driver.program)
+    trial.same("pieces", whole, trial.ask_in_pieces(command, *words), f"{command} of a file and of a pipe")
+
+
+def watched(trial, told):
+    """watch: a capture that is watched has the fault that `check` tells, or none."""
+    seen = trial.ask_in_pieces("watch") if trial.chance.random() < 0.5 else trial.ask("watch")
+    good = drivers.Answer(LEGAL, b"good: %d messages\n" % len(trial.records))
+    trial.same("watch", told if told.status == FAULT else good, seen, "check and watch")
+
+
+def plainly(trial, told):
+    """plain: the plain judge tells the same, and of a search too."""
+    try:
+        plain = judge.Judged(trial.given.capture, trial.given.tree)
+        line, status = plain.check(trial.given.order)
+        searched, decided = plain.judge(PLAIN)
+    except Exception:
+        raise Finding("plain", traceback.format_exc()) from None
+    trial.same("plain", drivers.Answer(status, line.encode() + b"\n"), told, "plain and check")
+    if decided != judge.TOO_LARGE:
+        answer = trial.ask("judge", "--steps", "5000")
+        same = answer.status == decided and (decided == LEGAL or answer.output == searched.encode() + b"\n")
+        trial.holds("plain", same or answer.status == GAVE_UP, f"{searched!r} and judge", answer)
+
+
+def checks_of(trial, told):
+    """The checks that an input may be put to, and how often each of them is."""
+    found = {migrated: 2, searched: 6, watched: 2}
+    if len(trial.given.capture) < drivers.PIPE_BYTES:
+        found[in_pieces] = 2
+    if len(trial.given.capture) <= PLAIN_BYTES:
+        found[plainly] = 2
+    if told.status == LEGAL:
+        found[cut] = 6
+    if trial.driver.by_rattle:
+        found[compiled] = 2
+    if trial.driver is not trial.driver.program:
+        found[in_process] = 2
+    return found
+
+
+def try_input(driver, given, seed, check=None, counts=None):
+    """Puts an input to `check` and to one check more, this one or one that the seed picks: which one, and the finding or None."""
+    trial = Trial(driver, given, seed, counts)
+    try:
+        told = trial.ask("check")
+        counted(trial, told)
+        found = checks_of(trial, told)
+        check = check or trial.chance.choices(list(found), list(found.values()))[0]
+        trial.chance.seed(seed)
+        check(trial, told)
+    except Finding as finding:
+        return check, finding
+    return check, None
