@@ -110,9 +110,7 @@ class Trial:
         if sum(len(data or b"") for data in files.values()) <= INPUT_BYTES and (answer.seconds > SECONDS or answer.memory > MEMORY):
             raise Finding("resources", f"{command} took {answer.seconds:.2f} s and {answer.memory >> 20} MiB")
         self.counts[command, "status", answer.status] += 1
-        code = CODE.search(answer.output) if answer.status else None
-        if code:
-            self.counts[command, "code", int(code[1])] += 1
+        self.counts[command, "code", code_of(answer)] += 1
         return answer
 
     def same(self, check, one, other, what):
@@ -130,15 +128,21 @@ def at_message(answer):
     return int(MESSAGE.search(answer.output)[1])
 
 
+def code_of(answer):
+    """The code that a line tells, or none."""
+    code = CODE.search(answer.output) if answer.status else None
+    return code and int(code[1])
+
+
 # The checks. Each is handed the trial and what `check` told.
 
 
 def counted(trial, told):
     """numbers: a line tells as many messages as there are, and none of another number."""
-    whole, line = len(trial.records), told.output
+    whole = len(trial.records)
     if told.status == LEGAL:
-        trial.holds("numbers", line.startswith(b"legal: %d messages, " % whole), f"{whole} records", told)
-    elif told.status in (FAULT, NOT_SHOWN):
+        trial.holds("numbers", told.output.startswith(b"legal: %d messages, " % whole), f"{whole} records", told)
+    elif told.status in (FAULT, NOT_SHOWN) and code_of(told) != 70:
         trial.holds("numbers", at_message(told) <= whole, f"{whole} records", told)
 
 
@@ -165,7 +169,7 @@ def cut(trial, told):
 def migrated(trial, told):
     """migrated: a capture with times, those of `migrate` or any, has the same answer."""
     written = trial.ask("migrate")
-    framing = told.status == FAULT and int(CODE.search(told.output)[1]) in FAULTS[:5]
+    framing = code_of(told) in FAULTS[:5]
     if written.status == FAULT:
         same = written.told() == told.told() if framing else told.status == FAULT and at_message(told) < at_message(written)
         trial.holds("migrated", same, "migrate and check", written, told)
@@ -186,7 +190,7 @@ def searched(trial, told):
             trial.same("search", proposed, answer, "propose, and check, judge or search")
         return
     guess = trial.ask("check", order=proposed.output)
-    trial.holds("search", guess.status == LEGAL or b": code 73: " in guess.output, "the proposal", guess)
+    trial.holds("search", guess.status == LEGAL or code_of(guess) == 73, "the proposal", guess)
     trial.holds("search", guess.status != LEGAL or judged.status == LEGAL, "a legal proposal, and judge", judged)
     trial.holds("search", told.status != LEGAL or judged.status in (LEGAL, GAVE_UP), "a legal order, and judge", judged)
     if judged.status == LEGAL:

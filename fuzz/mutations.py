@@ -17,6 +17,8 @@ VALUES = {
 # Messages that are put in, each line a message, or a request and its answer. Words in braces are picked.
 with open(os.path.join(os.path.dirname(__file__), "said.txt"), encoding="ascii") as opened:
     SAID = opened.read().splitlines()
+# From here on are the origins of these.
+NEW = 100_000_000
 ERRORS = "ok ENOENT EEXIST ENOTDIR EISDIR ENOTEMPTY ENOSYS EIO EPERM".split()
 
 
@@ -47,6 +49,15 @@ class Draft:
         """The place of a record, of those in front seldom."""
         count = len(self.records)
         return self.chance.randrange(2 if count > 2 and self.chance.random() < 0.97 else 0, count) if count else None
+
+    def name(self, number, place):
+        """Names a request that was put in at this place, by this origin, behind those that the order names and that stand before it."""
+        places = {record.origin: place for place, record in enumerate(self.records)}
+        lines = self.order.split(b"\n")
+        entries = (captures.ENTRY.fullmatch(line) for line in lines)
+        before = [at for at, entry in enumerate(entries) if entry and places.get(int(entry[1]), place) < place]
+        lines.insert(max(before, default=0) + 1, b"%d" % number)
+        self.order = b"\n".join(lines)
 
     def other(self):
         return self.chance.choice(self.samples)
@@ -211,11 +222,16 @@ def say(draft):
     words = {"free": 1000 + 2 * draft.chance.randrange(1000), "used": pick([record.unique() for record in draft.records]),
              "opcode": pick((0, 7, 19, 41, 48, 50, 51, 4096, 17, 38)), "node": pick((1, 2, 3, *known)), "fh": pick((0, 1, 1, 2)),
              "number": pick((0, 1, 2, 3, 4, 5, 8)), "name": pick(('"a"', '"b"', '"c"', '"d"')), "error": pick(ERRORS)}
-    place = draft.chance.randint(min(2, len(draft.records)), len(draft.records))
-    for line in pick(SAID).format(**words).split("; "):
+    place, number = draft.chance.randint(min(2, len(draft.records)), len(draft.records)), NEW + draft.chance.randrange(1000)
+    lines = pick(SAID).format(**words).split("; ")
+    named = len(lines) > 1 and draft.chance.random() < 0.7
+    for line in lines:
         direction = int(line[0] == "<")
-        draft.records.insert(place, Record(direction, messages.message_bytes(direction, messages.Words(line[1:]))))
-        place = min(place + draft.chance.choice((1, 1, 1, 2, 4)), len(draft.records))
+        if direction == REQUEST and named:
+            draft.name(number, place)
+        message = messages.message_bytes(direction, messages.Words(line[1:]))
+        draft.records.insert(place, Record(direction, message, origin=number))
+        place, number = min(place + draft.chance.choice((1, 1, 1, 2, 4)), len(draft.records)), number + 1000
 
 
 def transplant(draft):
