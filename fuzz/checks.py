@@ -41,6 +41,8 @@ FILES = {"check": ("capture", "tree", "order"), "cut": ("capture", "order"), "ju
          "search": ("capture", "tree"), "propose": ("capture", "tree")}
 CODE = re.compile(rb": code (\d+): ")
 MESSAGE = re.compile(rb"message (\d+)")
+# How many steps a search is told.
+STEPS = 0, 100, 2000
 # How many bytes a piece of a small capture has, and a seed for up to a hundred times as many; of a larger one as many as make so many pieces.
 PIECES = (1, 0), (1, 1), (7, 0), (40, 3)
 MOST_PIECES = 2000
@@ -167,7 +169,7 @@ def cut(trial, told):
 
 
 def migrated(trial, told):
-    """migrated: a capture with times, those of `migrate` or any, has the same answer."""
+    """migrated: a capture as `migrate` writes it has the same answer."""
     written = trial.ask("migrate")
     framing = code_of(told) in FAULTS[:5]
     if written.status == FAULT:
@@ -176,32 +178,45 @@ def migrated(trial, told):
         return
     trial.holds("migrated", not framing, "migrate and check", told)
     trial.same("migrated", told, trial.ask("check", capture=written.output), "check and check of migrate")
-    whole = captures.read(written.output)
-    timed = [record._replace(time=trial.chance.getrandbits(64)) for record in whole.records]
-    trial.same("migrated", told, trial.ask("check", capture=whole._replace(records=timed).bytes()), "check and check with times")
+
+
+def timed(trial, told):
+    """times: a capture with any times has the same answer."""
+    whole = captures.read(trial.given.capture)
+    records = [record._replace(time=trial.chance.getrandbits(64)) for record in whole.records]
+    if whole.magic in captures.MAGICS and not whole.tail:
+        retimed = captures.Capture(captures.messages.TIMED_MAGIC, records).bytes()
+        trial.same("times", told, trial.ask("check", capture=retimed), "check and check with times")
+
+
+def judged(trial, told):
+    """judge: `judge` tells the same fault as `check`, and finds an order where there is one."""
+    answer = trial.ask("judge", "--steps", str(trial.chance.choice(STEPS)))
+    if told.status == FAULT or answer.status in (FAULT, TEXT):
+        trial.same("judge", told, answer, "check and judge")
+    trial.holds("judge", told.status != LEGAL or answer.status in (LEGAL, GAVE_UP), "a legal order, and judge", answer)
 
 
 def searched(trial, told):
     """search: `judge`, `search`, `propose` and `check` agree."""
-    steps = "--steps", str(trial.chance.choice((0, 100, 2000)))
-    judged, found, proposed = trial.ask("judge", *steps), trial.ask("search", *steps), trial.ask("propose")
+    steps = "--steps", str(trial.chance.choice(STEPS))
+    verdict, found, proposed = trial.ask("judge", *steps), trial.ask("search", *steps), trial.ask("propose")
     if proposed.status != LEGAL or told.status == FAULT:
-        for answer in (told, judged, found):
+        for answer in (told, verdict, found):
             trial.same("search", proposed, answer, "propose, and check, judge or search")
         return
     guess = trial.ask("check", order=proposed.output)
     trial.holds("search", guess.status == LEGAL or code_of(guess) == 73, "the proposal", guess)
-    trial.holds("search", guess.status != LEGAL or judged.status == LEGAL, "a legal proposal, and judge", judged)
-    trial.holds("search", told.status != LEGAL or judged.status in (LEGAL, GAVE_UP), "a legal order, and judge", judged)
-    if judged.status == LEGAL:
-        trial.holds("search", found.status == LEGAL, "judge and search", judged, found)
-        trial.same("search", judged, trial.ask("check", order=found.output), "judge, and check of search")
+    trial.holds("search", guess.status != LEGAL or verdict.status == LEGAL, "a legal proposal, and judge", verdict)
+    if verdict.status == LEGAL:
+        trial.holds("search", found.status == LEGAL, "judge and search", verdict, found)
+        trial.same("search", verdict, trial.ask("check", order=found.output), "judge, and check of search")
         return
-    trial.same("search", judged, found, "judge and search")
-    front = trial.ask("front", "--at", str(at_message(judged))).output
+    trial.same("search", verdict, found, "judge and search")
+    front = trial.ask("front", "--at", str(at_message(verdict))).output
     before = trial.ask("judge", *steps, capture=front)
-    trial.holds("search", before.status in (LEGAL, GAVE_UP), "what comes before", judged, before)
-    trial.holds("search", judged.status != GAVE_UP or not captures.is_serial(trial.records), "one request after the other", judged)
+    trial.holds("search", before.status in (LEGAL, GAVE_UP), "what comes before", verdict, before)
+    trial.holds("search", verdict.status != GAVE_UP or not captures.is_serial(trial.records), "one request after the other", verdict)
 
 
 def in_pieces(trial, told):
@@ -235,7 +250,10 @@ def plainly(trial, told):
 
 def checks_of(trial, told):
     """The checks that an input may be put to, and how often each of them is."""
-    found = {migrated: 2, searched: 6, watched: 2}
+    in_library = trial.driver is not trial.driver.program
+    found = {timed: 20 if in_library else 1, judged: 20 if in_library else 1, migrated: 2, searched: 6, watched: 2}
+    if in_library:
+        found[in_process] = 1
     if len(trial.given.capture) < drivers.PIPE_BYTES:
         found[in_pieces] = 2
     if len(trial.given.capture) <= PLAIN_BYTES:
@@ -244,8 +262,6 @@ def checks_of(trial, told):
         found[cut] = 6
     if trial.driver.by_rattle:
         found[compiled] = 2
-    if trial.driver is not trial.driver.program:
-        found[in_process] = 2
     return found
 
 

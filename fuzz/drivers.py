@@ -8,6 +8,7 @@ import signal
 import struct
 import subprocess
 import time
+import traceback
 import typing
 
 import captures
@@ -140,8 +141,10 @@ class Library(Program):
                 os.close(ours)
                 os.close(theirs)
                 serve(self.library, open(asked, "rb"), open(answers, "wb", buffering=0))
+            except BaseException:
+                traceback.print_exc()
             finally:
-                os._exit(0)
+                os._exit(1)
         os.close(asked)
         os.close(answers)
         self.ours, self.theirs = open(ours, "wb"), open(theirs, "rb")

@@ -54,12 +54,12 @@ class Shrinking:
 
     def by_lines(self, name):
         """Leaves out lines of a text."""
-        text = getattr(self.given, name)
-        smaller((text or b"").split(b"\n"), lambda lines: self.takes(self.given._replace(**{name: b"\n".join(lines)})))
+        lines = getattr(self.given, name).split(b"\n")
+        smaller(lines, lambda left: self.takes(self.given._replace(**{name: b"\n".join(left)})))
 
     def by_bytes(self, name):
         """Leaves out bytes."""
-        data = getattr(self.given, name) or b""
+        data = getattr(self.given, name)
         if len(data) <= MOST_BYTES:
             smaller(data, lambda left: self.takes(self.given._replace(**{name: left})))
 
@@ -68,9 +68,10 @@ class Shrinking:
         try:
             self.takes(self.given._replace(tree=None))
             self.by_messages()
-            for name in ("order", "tree"):
+            texts = ("order",) if self.given.tree is None else ("order", "tree")
+            for name in texts:
                 self.by_lines(name)
-            for name in ("capture", "order", "tree"):
+            for name in ("capture", *texts):
                 self.by_bytes(name)
         except Spent:
             pass
