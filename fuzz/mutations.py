@@ -4,6 +4,8 @@ import os
 import captures
 from captures import ANSWER, REQUEST, Input, Record, messages
 
+from ledger import TREE_REQUESTS  # noqa: E402
+
 NAMES = b"a", b"b", b"c", b"a", b"b", b"", b".", b"..", b"a/b", b"\x01", b"x" * 1024, b"x" * 1025
 # Values that a field of this name may get, beside those that any number may.
 VALUES = {
@@ -19,6 +21,8 @@ with open(os.path.join(os.path.dirname(__file__), "said.txt"), encoding="ascii")
     SAID = opened.read().splitlines()
 # From here on are the origins of these.
 NEW = 100_000_000
+# So many bytes at most come of messages that are repeated.
+MOST_BYTES = 90_000
 ERRORS = "ok ENOENT EEXIST ENOTDIR EISDIR ENOTEMPTY ENOSYS EIO EPERM".split()
 
 
@@ -234,6 +238,20 @@ def say(draft):
         place, number = min(place + draft.chance.choice((1, 1, 1, 2, 4)), len(draft.records)), number + 1000
 
 
+def repeat(draft):
+    """Some messages one after the other, many times, each time with uniques of their own."""
+    begin, chance = draft.place(), draft.chance
+    once = draft.records[begin : begin + chance.choice((2, 2, 4, 8))]
+    most = max(1, MOST_BYTES // sum(13 + len(record.message) for record in once))
+    copies = []
+    for number in range(1, chance.choice((2, 4, 16, most))):
+        for record in once:
+            unique = (record.unique() + (number << 20)) % (1 << 64)
+            message = record.message[:8] + unique.to_bytes(8, "little") + record.message[16:]
+            copies.append(record._replace(message=message if record.unique() else record.message, origin=None))
+    draft.records[begin + len(once) : begin + len(once)] = copies
+
+
 def transplant(draft):
     """Some messages of another capture put in."""
     others = captures.read(draft.other().capture).records
@@ -270,6 +288,15 @@ def chosen_lines(chance, lines):
     return chance.choices(range(1, len(lines) - 2) or range(len(lines)), k=2)
 
 
+def as_sent(records):
+    """The lines of the order that names each answered request that acts on the tree, as they were sent."""
+    answered = {record.unique() for record in records if record.direction == ANSWER}
+    acting = {messages.BY_NAME[name].opcode for name in TREE_REQUESTS}
+    numbers = [number for number, record in enumerate(records)
+               if record.direction == REQUEST and record.opcode() in acting and record.unique() in answered]
+    return [b"fuse-order 1", *(b"%d" % number for number in numbers), b"end", b""]
+
+
 def change_order(draft):
     """Another order of the lines of an order text, or another entry, as seldom of another form."""
     draft.set_capture(draft.capture.bytes())
@@ -278,8 +305,10 @@ def change_order(draft):
     at, to = chosen_lines(chance, lines)
     count = max(1, len(draft.records))
     entry = chance.choice((lines[at].split(b" ")[0], b"%d" % chance.randrange(count)))
-    way = chance.randrange(8)
-    if way < 2:
+    way = chance.randrange(10)
+    if way > 7:
+        lines = as_sent(draft.records)
+    elif way < 2:
         lines.insert(to, lines.pop(at))
     elif way == 2:
         del lines[at]
@@ -359,7 +388,7 @@ def change_tree_bytes(draft):
 
 # How often each mutation is made, beside the others; those of messages where there is one.
 OF_MESSAGES = {change_field: 24, change_name: 4, change_end: 5, answer_otherwise: 7, exchange_answers: 4, move: 8, drop: 10,
-               double: 3, change_front: 4, say: 16, transplant: 2, change_record: 2, end_otherwise: 2}
+               double: 3, repeat: 1, change_front: 4, say: 16, transplant: 2, change_record: 2, end_otherwise: 2}
 OF_ANY = {change_order: 9, change_tree: 6, change_capture_bytes: 7, change_order_bytes: 1, change_tree_bytes: 1}
 COUNTS = 0, 1, 1, 1, 1, 1, 1, 2, 2, 2, 3, 3, 4, 8
 
