@@ -158,6 +158,16 @@ def in_process(trial, told):
     trial.same("library", told, trial.ask("check", driver=trial.driver.program), "check in process and by the program")
 
 
+def entered(trial, told):
+    """entries: the entries before the one at fault are good, and those behind it change nothing."""
+    lines, entry = trial.given.order.split(b"\n"), int(told.output.split()[3][:-1])
+    before = trial.ask("check", order=b"\n".join([*lines[: entry + 1], b"end", b""]))
+    left_out = before.output.startswith(b"not shown: entry %d: " % entry) and code_of(before) == 73
+    trial.holds("entries", before.status == LEGAL or left_out, f"the first {entry} entries", before)
+    if code_of(told) != 73:
+        trial.same("entries", told, trial.ask("check", order=b"\n".join([*lines[: entry + 2], b"end", b""])), "with the next entry")
+
+
 def cut(trial, told):
     """cuts: what is left of a legal order and its capture at a message is legal."""
     at = trial.chance.randrange(len(trial.records) + 2)
@@ -260,6 +270,8 @@ def checks_of(trial, told):
         found[plainly] = 2
     if told.status == LEGAL:
         found[cut] = 6
+    if told.status == NOT_SHOWN:
+        found[entered] = 4
     if trial.driver.by_rattle:
         found[compiled] = 2
     return found

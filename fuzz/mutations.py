@@ -56,7 +56,7 @@ class Draft:
 
     def name(self, number, place):
         """Names a request that was put in at this place, by this origin, behind those that the order names and that stand before it."""
-        places = {record.origin: place for place, record in enumerate(self.records)}
+        places = {record.origin: at for at, record in enumerate(self.records)}
         lines = self.order.split(b"\n")
         entries = (captures.ENTRY.fullmatch(line) for line in lines)
         before = [at for at, entry in enumerate(entries) if entry and places.get(int(entry[1]), place) < place]
