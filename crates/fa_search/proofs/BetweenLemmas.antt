@@ -345,6 +345,8 @@ module _ (c : List Message) (calls : List PlainCall) (are : AreCalls c calls) wh
                 unanswered = among.of_call.unanswered;
                 most = among.of_call.most;
                 keeps = among.of_call.keeps;
+                up_to = among.of_call.up_to;
+                gives = among.of_call.gives;
               };
               waits = record {
                 sent = omega (arith, asked, next);

@@ -10,11 +10,11 @@ use Rattle.fa_session.specs.Answers.{IsAnsweredBy}
 use Rattle.fa_tree.specs.State.{TreeState}
 use Rattle.fa_order.specs.declared.entry.Entry.{Entry}
 use Rattle.fa_check.specs.Orders.{numbers}
-use Rattle.fa_check.specs.Runs.{Runs}
+use Rattle.fa_check.specs.Runs.{EntrySteps, Runs}
 use Rattle.fa_check.specs.Faults.{order_checks, EachPlaced}
 use Rattle.fa_check.proofs.CallerLemmas.{number_more, number_still, number_now}
 use Rattle.fa_search.specs.parts.Going.{MayCome, OrThis, GoesOn}
-use Rattle.fa_search.specs.parts.Configurations.{PlainConfiguration, IsAnsweredTree, IsDoneAt, AreDoneOrIn, LeavesTrees, IsAhead}
+use Rattle.fa_search.specs.parts.Configurations.{PlainConfiguration, IsAnsweredTree, IsDoneAt, AreDoneOrIn, LeavesFrom, IsAhead}
 
 -- ---- what is done
 
@@ -83,14 +83,18 @@ this_last Done Others this p = (
   (λ done. elim done [ inl first ↦ elim first [ inl before ↦ inl (inl before) | inr others ↦ inr others ] | inr here ↦ inl (inr here) ]),
 )
 
--- Where one leaves each tree as it is, entries go on without it: it may be done at once.
-one_done : (c : List Message) (this : ℕ) → LeavesTrees c this → (es : List Entry) (Done : ℕ → Type 0) (old new : TreeState) → GoesOn c Done old new es
+-- what leaves a tree and each later one leaves those behind its steps
+leaves_on : (c : List Message) (this : ℕ) (old new : TreeState) (e : Entry) → EntrySteps old new c e → LeavesFrom c old this → LeavesFrom c new this
+leaves_on c this old new e step leaves es later other f run at steps = leaves (e ∷ es) later other f (new, step, run) at steps
+
+-- Where one leaves the tree as it is, and each later one, entries go on without it: it may be done at once.
+one_done : (c : List Message) (this : ℕ) (es : List Entry) (Done : ℕ → Type 0) (old new : TreeState) → LeavesFrom c old this → GoesOn c Done old new es
     → GoesOnBut c Done (λ p. this ≡ p) old new es
-one_done c this leaves [] Done old new on = record { rest = []; on = on; kept = λ p has. absurd (omega (arith, has.1)); shorter = omega arith }
-one_done c this leaves (e ∷ es) Done old new on =
+one_done c this [] Done old new leaves on = record { rest = []; on = on; kept = λ p has. absurd (omega (arith, has.1)); shorter = omega arith }
+one_done c this (e ∷ es) Done old new leaves on =
     elim (cases_eq this e.at) [
       | inl same ↦
-          let stays : on.0 ≡ old = leaves old on.0 e (sym same) on.2 in
+          let stays : on.0 ≡ old = leaves [] old on.0 e refl (sym same) on.2 in
           record {
             rest = es;
             on = subst (λ (k : ℕ). GoesOn c (OrThis Done k) old new es) (sym same) (subst (λ (t : TreeState). GoesOn c (OrThis Done e.at) t new es) stays on.3);
@@ -98,7 +102,7 @@ one_done c this leaves (e ∷ es) Done old new on =
             shorter = omega arith;
           }
       | inr other ↦
-          let further = one_done c this leaves es (OrThis Done e.at) on.0 new on.3 in
+          let further = one_done c this es (OrThis Done e.at) on.0 new (leaves_on c this old on.0 e on.2 leaves) on.3 in
           record {
             rest = e ∷ further.rest;
             on = (
@@ -130,22 +134,22 @@ already_done c this es Done old new done on = record {
 }
 
 -- so several may be done at once
-some_done : (c : List Message) (others : List ℕ) (es : List Entry) (Done : ℕ → Type 0) → ((p : ℕ) → Contains others p → Done p ⊎ LeavesTrees c p) → (old new : TreeState) → GoesOn c Done old new es
+some_done : (c : List Message) (others : List ℕ) (es : List Entry) (Done : ℕ → Type 0) (old new : TreeState) → ((p : ℕ) → Contains others p → Done p ⊎ LeavesFrom c old p) → GoesOn c Done old new es
     → GoesOnBut c Done (Contains others) old new es
-some_done c [] es Done each old new on = record {
+some_done c [] es Done old new each on = record {
   rest = es;
   on = goes_on_same c Done (λ p. Done p ⊎ Contains [] p) old new es (λ p. ((λ done. inl done), (λ done. elim done [ inl before ↦ before | inr none ↦ absurd (omega (arith, none.1)) ]))) on;
   kept = λ p has. inr has;
   shorter = omega arith;
 }
-some_done c (this ∷ others) es Done each old new on =
+some_done c (this ∷ others) es Done old new each on =
     let first : GoesOnBut c Done (λ p. this ≡ p) old new es = elim (each this (contains_first this others)) [
       | inl done ↦ already_done c this es Done old new done on
-      | inr leaves ↦ one_done c this leaves es Done old new on
+      | inr leaves ↦ one_done c this es Done old new leaves on
     ] in
-    let rests : (p : ℕ) → Contains others p → OrThis Done this p ⊎ LeavesTrees c p =
+    let rests : (p : ℕ) → Contains others p → OrThis Done this p ⊎ LeavesFrom c old p =
     λ p has. elim (each p (contains_behind this others p has)) [ inl done ↦ inl (inl done) | inr leaves ↦ inr leaves ] in
-    let further = some_done c others first.rest (OrThis Done this) rests old new first.on in
+    let further = some_done c others first.rest (OrThis Done this) old new rests first.on in
     record {
       rest = further.rest;
       on = goes_on_same c (λ p. OrThis Done this p ⊎ Contains others p) (λ p. Done p ⊎ Contains (this ∷ others) p) old new further.rest
@@ -178,9 +182,9 @@ pub ahead_goes_on : (c : List Message) (at : ℕ) (Placed : ℕ → Type 0) (tre
     → GoesOn c (λ p. IsAnsweredTree c at p ⊎ Placed p) tree last rest → AreDoneOrIn c (λ p. IsAnsweredTree c at p ⊎ Placed p) rest es → GoesOnAhead c at x last es (length rest)
 ahead_goes_on c at Placed tree last x rest es ahead on kept =
     let Before : ℕ → Type 0 = λ p. IsAnsweredTree c at p ⊎ Placed p in
-    let others : (p : ℕ) → Contains x.placed p → Before p ⊎ LeavesTrees c p =
-    λ p has. elim (ahead.others p has) [ inl placed ↦ inl (inr placed) | inr leaves ↦ inr leaves ] in
-    let found = some_done c x.placed rest Before others tree last on in
+    let others : (p : ℕ) → Contains x.placed p → Before p ⊎ LeavesFrom c tree p =
+    λ p has. elim (ahead.others p has) [ inl placed ↦ inl (inr placed) | inr idle ↦ inr idle.leaves ] in
+    let found = some_done c x.placed rest Before tree last others on in
     let fewer : AreFewer c (λ p. Before p ⊎ Contains x.placed p) (IsDoneAt c at x.placed) =
     record {
       of = λ p done. elim done [ inl answered ↦ inl (inl answered) | inr has ↦ inr has ];

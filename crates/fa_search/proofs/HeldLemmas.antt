@@ -15,9 +15,10 @@ use Rattle.fa_check.specs.Cuts.{Explains}
 use Rattle.fa_check.proofs.CallerLemmas.{explains_all_is_legal, number_more, number_still, number_now, each_more, run_more}
 use Rattle.fa_search.specs.Searches.{IsStop}
 use Rattle.fa_search.specs.parts.Going.{OrThis, GoesOn}
-use Rattle.fa_search.specs.parts.Configurations.{PlainConfiguration, IsDoneAt, MayBeTried, IsOneMore, AnswersNone, IsReached, HasRest, AreHeld, IsAhead, AreSettling, AreSpent, AreWithout}
+use Rattle.fa_search.specs.parts.Configurations.{PlainConfiguration, IsDoneAt, MayBeTried, IsOneMore, AnswersNone, IsReached, HasRest, AreHeld, IsAheadIfKnown, AreSettling, AreSpent, AreWithout}
 use Rattle.fa_search.proofs.StopLemmas.{none_placed, explains_earlier}
 use Rattle.fa_search.proofs.PendingLemmas.{done_still, done_answered, none_done}
+use Rattle.fa_search.proofs.GivenLemmas.{knows_reached}
 use Rattle.fa_search.proofs.GoingLemmas.{goes_on_same, kept_same, GoesOnAhead, ahead_goes_on, order_goes_on}
 use Rattle.fa_search.proofs.SettledLemmas.{more_done, all_settled}
 
@@ -142,16 +143,17 @@ held_still c first at held none are = record {
       rest_same c at (at + 1) held held es last found found.from found.there refl (done_still c at found.from.placed none);
 }
 
--- Each may be held further on, with requests placed that leave each tree as it is.
+-- Each may be held further on, with requests placed that leave its tree as it is, and each later one.
 pub held_ahead : (c : List Message) (first : TreeState) (at : ℕ) (held new : List PlainConfiguration) → ((y : PlainConfiguration) → Contains new y → IsReached c first at y)
-    → ((x : PlainConfiguration) → Contains held x → (y : PlainConfiguration) × Contains new y × IsAhead c (Contains x.placed) x.tree y) → AreHeld c first at held → AreHeld c first at new
+    → ((x : PlainConfiguration) → Contains held x → (y : PlainConfiguration) × Contains new y × IsAheadIfKnown c at (Contains x.placed) x.tree y) → AreHeld c first at held → AreHeld c first at new
 held_ahead c first at held new reached ahead are = record {
   reached = reached;
   complete = λ es last explained run.
       let found = are.complete es last explained run in
       let x : PlainConfiguration = found.from in
       let to = ahead x found.there in
-      let further : GoesOnAhead c at to.0 last es (length found.rest) = ahead_goes_on c at (Contains x.placed) x.tree last to.0 found.rest es to.2 found.on found.kept in
+      let further : GoesOnAhead c at to.0 last es (length found.rest) = ahead_goes_on c at (Contains x.placed) x.tree last to.0 found.rest es
+      (to.2 (knows_reached c first at x (are.reached x found.there))) found.on found.kept in
       record { from = to.0; there = to.1; rest = further.rest; on = further.on; kept = further.kept };
 }
 

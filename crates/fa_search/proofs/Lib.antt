@@ -2,6 +2,9 @@ pub mod StopLemmas
 pub mod FirstWithoutLemmas
 pub mod PendingLemmas
 pub mod RefusalLemmas
+pub mod NodeOrderLemmas
+pub mod IdleLemmas
+pub mod GivenLemmas
 pub mod GoingLemmas
 pub mod SettledLemmas
 pub mod SettlingLemmas
@@ -18,3 +21,4 @@ pub mod SearchLemmas
 pub mod LoopLemmas
 pub mod ThereLemmas
 pub mod MergedLemmas
+pub mod ToldLemmas

@@ -63,7 +63,7 @@ pub held_by_merged : (c : List Message) (first : TreeState) (common : List Entry
     → AreHeldBy c first common at new
 held_by_merged c first common at held new merged are = record {
   are = held_ahead c first at held new (λ y has. are.are.reached y (merged.each y has))
-      (λ x has. (let found = merged.all x has in (found.0, found.1, same_is_ahead c x found.0 found.2)))
+      (λ x has. (let found = merged.all x has in (found.0, found.1, λ knows. same_is_ahead c x found.0 found.2)))
       are.are;
   traced = λ y has. are.traced y (merged.each y has);
 }

@@ -102,7 +102,7 @@ module _ (c : List Message) (first : TreeState) (common : List Entry) (at asked 
               (settled_more c first at asked taken work settled y traced.0 (waits_more c first at asked taken so_far.work settled x is.0 so_far.settling lacks) ((in_it.placed asked).1 (inr refl)));
           spent = spent_more c at so_far.work work (settled ++ y ∷ []) x
               (spent_alone c at asked x work (settled ++ y ∷ []) only.1 only.2
-              (λ new steps. step_followed c x y e y.tree work (settled ++ y ∷ []) in_it.steps (one_ahead c x y asked y.tree refl in_it.placed) (inr (Contains-push settled y)) new steps))
+              (λ new steps. step_followed c at x y e y.tree work (settled ++ y ∷ []) in_it.steps (λ knows. one_ahead c x y asked y.tree refl in_it.placed) (inr (Contains-push settled y)) new steps))
               (spent_still c at so_far.work so_far.work settled work (settled ++ y ∷ []) ((λ z there. still_there so_far.work x z there), (λ z there. still_there settled y z there)) so_far.spent);
           left_is = λ none. absurd (never_none settled y none);
           traced = each_of settled y (IsTraced c first common at) so_far.traced traced;
@@ -139,8 +139,8 @@ module _ (c : List Message) (first : TreeState) (common : List Entry) (at asked 
 -- ---- where others are in flight too
 
 -- What was held is taken in up to now: each is in the two lists, or what is ahead of it.
-abbrev pub AreTakenIn : List Message → (taken work settled : List PlainConfiguration) → Type 0
-AreTakenIn c taken work settled = (x : PlainConfiguration) → Contains taken x → IsIn c x work settled
+abbrev pub AreTakenIn : List Message → (at : ℕ) → (taken work settled : List PlainConfiguration) → Type 0
+AreTakenIn c at taken work settled = (x : PlainConfiguration) → Contains taken x → IsIn c at x work settled
 
 -- the lists that grew have what they had
 pub grown_among : (work settled more further : List PlainConfiguration) → AreGrown work settled more further → AreAmong work settled more further
@@ -150,9 +150,9 @@ grown_among work settled more further grown = (
 )
 
 -- so what was in them is
-pub in_still : (c : List Message) (x : PlainConfiguration) (work settled more further : List PlainConfiguration) → AreGrown work settled more further → IsIn c x work settled
-    → IsIn c x more further
-in_still c x work settled more further grown is =
+pub in_still : (c : List Message) (at : ℕ) (x : PlainConfiguration) (work settled more further : List PlainConfiguration) → AreGrown work settled more further → IsIn c at x work settled
+    → IsIn c at x more further
+in_still c at x work settled more further grown is =
     let among = grown_among work settled more further grown in
     record {
       to = is.to;
@@ -160,15 +160,15 @@ in_still c x work settled more further grown is =
       ahead = is.ahead;
     }
 
-pub taken_still : (c : List Message) (taken work settled more further : List PlainConfiguration) → AreGrown work settled more further → AreTakenIn c taken work settled
-    → AreTakenIn c taken more further
-taken_still c taken work settled more further grown are x has = in_still c x work settled more further grown (are x has)
+pub taken_still : (c : List Message) (at : ℕ) (taken work settled more further : List PlainConfiguration) → AreGrown work settled more further → AreTakenIn c at taken work settled
+    → AreTakenIn c at taken more further
+taken_still c at taken work settled more further grown are x has = in_still c at x work settled more further grown (are x has)
 
 -- and one more
-pub taken_in_more : (c : List Message) (taken work settled more further : List PlainConfiguration) (x : PlainConfiguration) → AreGrown work settled more further → IsIn c x more further
-    → AreTakenIn c taken work settled → AreTakenIn c (taken ++ x ∷ []) more further
-taken_in_more c taken work settled more further x grown is are =
-    each_of taken x (λ y. IsIn c y more further) (taken_still c taken work settled more further grown are) is
+pub taken_in_more : (c : List Message) (at : ℕ) (taken work settled more further : List PlainConfiguration) (x : PlainConfiguration) → AreGrown work settled more further → IsIn c at x more further
+    → AreTakenIn c at taken work settled → AreTakenIn c at (taken ++ x ∷ []) more further
+taken_in_more c at taken work settled more further x grown is are =
+    each_of taken x (λ y. IsIn c at y more further) (taken_still c at taken work settled more further grown are) is
 
 -- before any is taken in
 pub none_settling_by : (c : List Message) (first : TreeState) (common : List Entry) (at asked : ℕ) → AreSettlingBy c first common at asked [] [] []
@@ -191,7 +191,7 @@ spent_next c at next x work settled more further grown there spent is =
 
 -- where each in which the request is not placed is spent, it is settled
 pub settled_among : (c : List Message) (first : TreeState) (common : List Entry) (at asked : ℕ) (held work settled : List PlainConfiguration) → AreHeldBy c first common at held
-    → AreTakenIn c held work settled → AreSettlingBy c first common at asked [] work settled → AreSpent c at work work settled → IsSettled c first common at asked work settled
+    → AreTakenIn c at held work settled → AreSettlingBy c first common at asked [] work settled → AreSpent c at work work settled → IsSettled c first common at asked work settled
 settled_among c first common at asked held work settled are taken settling spent = record {
   held = work ++ settled;
   work = work;

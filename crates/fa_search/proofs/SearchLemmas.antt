@@ -26,12 +26,13 @@ use Rattle.fa_search.specs.declared.finding.Finding.TheVariants.{NoOrder, GaveUp
 use Rattle.fa_search.specs.declared.flight.Due.{Due}
 use Rattle.fa_search.specs.declared.flight.Pending.{Pending}
 use Rattle.fa_search.specs.declared.flight.InFlight.{InFlight}
-use Rattle.fa_search.specs.parts.Configurations.{PlainConfiguration, IsDoneAt, IsPending, AnswersNone, IsAhead, IsWithout, AreWithout}
+use Rattle.fa_search.specs.parts.Configurations.{PlainConfiguration, IsDoneAt, IsPending, AnswersNone, IsAheadIfKnown, IsWithout, AreWithout}
 use Rattle.fa_search.specs.parts.Flight.{IsInFlight, IsFlight, IsDue, IsAlone}
 use Rattle.fa_search.specs.parts.Settling.{IsTraced, AreHeldBy, IsSettled, HaveNoStep, IsLeastOf, AreWithoutBy}
 use Rattle.fa_search.proofs.StopLemmas.{none_placed}
 use Rattle.fa_search.proofs.PendingLemmas.{one_answered, done_still, done_answered, none_done, serial_alone}
 use Rattle.fa_search.proofs.FlightLemmas.{pending_by_call}
+use Rattle.fa_search.proofs.GivenLemmas.{knows_reached, knows_next}
 use Rattle.fa_search.proofs.HeldLemmas.{held_first, held_still, held_ahead, held_answered, none_held_stops}
 use Rattle.fa_search.proofs.SettlingLemmas.{one_of, still_there}
 use Rattle.fa_search.proofs.CodeLemmas.{reached_comes, tree_is_there}
@@ -129,7 +130,7 @@ held_by_joined c first common more at x same are =
             y,
             contains_first y [],
             elim (contains_cases x [] z has) [
-              | inl here ↦ subst (λ (w : PlainConfiguration). IsAhead c (Contains w.placed) w.tree y) here (record { same = refl; all = λ p q by there. there; others = λ p there. inl there })
+              | inl here ↦ subst (λ (w : PlainConfiguration). IsAheadIfKnown c at (Contains w.placed) w.tree y) here (λ knows. record { same = refl; all = λ p q by there. there; others = λ p there. inl there })
               | inr none ↦ absurd (omega (arith, none.1))
             ],
           ))
@@ -186,9 +187,11 @@ module _ (c : List Message) (first : TreeState) (common : List Entry) (at asked 
   pub left_have_no_step : HaveNoStep c asked left
   left_have_no_step y there new steps =
       let waits : Contains is.work y = subst (λ (xs : List PlainConfiguration). Contains xs y) left_is_work there in
-      let followed = is.spent y waits (record { at = asked; wrote = None }) new (answer_tried c at asked tree by) (is.settling.waiting y waits) steps in
+      let e : Entry = record { at = asked; wrote = None } in
+      let followed = is.spent y waits e new (answer_tried c at asked tree by) (is.settling.waiting y waits) steps in
+      let knows = knows_next c at (Contains y.placed) y.tree new e steps (knows_reached c first at y (is.settling.reached y (inl waits))) in
       elim followed.there [
-        | inl behind ↦ is.settling.waiting followed.to behind (followed.ahead.all asked at by (inr refl))
+        | inl behind ↦ is.settling.waiting followed.to behind ((followed.ahead knows).all asked at by (inr refl))
         | inr done ↦ omega (arith, done.1)
       ]
 

@@ -8,6 +8,7 @@ use Rattle.fa_order.specs.declared.entry.Entry.{Entry}
 use Rattle.fa_check.specs.Orders.{IsTreeRequestAt, numbers}
 use Rattle.fa_search.specs.parts.Going.{OrThis, GoesOn}
 use Rattle.fa_search.specs.parts.Configurations.{PlainConfiguration, IsAnsweredTree, IsDoneAt, AreDoneOrIn, HasRest, AreSettling, AreSpent}
+use Rattle.fa_search.proofs.GivenLemmas.{knows_reached, knows_next}
 use Rattle.fa_search.proofs.GoingLemmas.{goes_on_same, kept_same, kept_next, GoesOnAhead, ahead_goes_on}
 use Rattle.fa_search.proofs.PendingLemmas.{next_is_pending, waits_still}
 
@@ -30,7 +31,8 @@ module _ (c : List Message) (first : TreeState) (at asked : ℕ) (tree : IsTreeR
       let same = more_done c at e.at x.placed in (
         found.to,
         found.there,
-        ahead_goes_on c at (OrThis (Contains x.placed) e.at) on.0 last found.to rest es found.ahead
+        ahead_goes_on c at (OrThis (Contains x.placed) e.at) on.0 last found.to rest es
+            (found.ahead (knows_next c at (Contains x.placed) x.tree on.0 e on.2 (knows_reached c first at x (settling.reached x (inl there)))))
             (goes_on_same c (OrThis (IsDoneAt c at x.placed) e.at) (λ p. IsAnsweredTree c at p ⊎ OrThis (Contains x.placed) e.at p) on.0 last rest same on.3)
             (kept_same c (OrThis (IsDoneAt c at x.placed) e.at) (λ p. IsAnsweredTree c at p ⊎ OrThis (Contains x.placed) e.at p) rest es same
             (kept_next c (IsDoneAt c at x.placed) e rest es kept)),

@@ -80,9 +80,9 @@ abbrev pub AreAmong : (work settled more further : List PlainConfiguration) → 
 AreAmong work settled more further = ((x : PlainConfiguration) → Contains work x → Contains more x) × ((x : PlainConfiguration) → Contains settled x → Contains further x)
 
 -- what an entry led to is still there
-pub followed_still : (c : List Message) (x : PlainConfiguration) (e : Entry) (new : TreeState) (work settled more further : List PlainConfiguration) → AreAmong work settled more further
-    → IsFollowed c x e new work settled → IsFollowed c x e new more further
-followed_still c x e new work settled more further among followed = record {
+pub followed_still : (c : List Message) (at : ℕ) (x : PlainConfiguration) (e : Entry) (new : TreeState) (work settled more further : List PlainConfiguration) → AreAmong work settled more further
+    → IsFollowed c at x e new work settled → IsFollowed c at x e new more further
+followed_still c at x e new work settled more further among followed = record {
   to = followed.to;
   there = elim followed.there [ inl waits ↦ inl (among.0 followed.to waits) | inr done ↦ inr (among.1 followed.to done) ];
   ahead = followed.ahead;
@@ -92,7 +92,7 @@ followed_still c x e new work settled more further among followed = record {
 pub spent_still : (c : List Message) (at : ℕ) (those work settled more further : List PlainConfiguration) → AreAmong work settled more further → AreSpent c at those work settled
     → AreSpent c at those more further
 spent_still c at those work settled more further among spent = λ x has e new may lacks steps.
-    followed_still c x e new work settled more further among (spent x has e new may lacks steps)
+    followed_still c at x e new work settled more further among (spent x has e new may lacks steps)
 
 -- and one more is
 pub spent_more : (c : List Message) (at : ℕ) (those work settled : List PlainConfiguration) (x : PlainConfiguration) → IsSpent c at x work settled → AreSpent c at those work settled

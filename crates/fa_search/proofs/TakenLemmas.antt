@@ -30,13 +30,14 @@ use Rattle.fa_search.specs.declared.flight.Due.{Due}
 use Rattle.fa_search.specs.declared.flight.InFlight.{InFlight}
 use Rattle.fa_search.specs.declared.flight.Pending.{Pending}
 use Rattle.fa_search.specs.parts.Going.{OrThis}
-use Rattle.fa_search.specs.parts.Configurations.{PlainConfiguration, most_written, IsCountUpTo, IsPending, IsCallPending, MayBeTried, LeavesTrees, IsAhead, IsFollowed, IsSpent}
+use Rattle.fa_search.specs.parts.Configurations.{PlainConfiguration, most_written, IsCountUpTo, IsPending, IsCallPending, MayBeTried, IsIdleIn, IsAhead, IsAheadIfKnown, IsFollowed, IsSpent}
 use Rattle.fa_search.specs.parts.Flight.{IsInFlight, IsFlight}
 use Rattle.fa_search.specs.parts.Placed.{MayBePlacedAt, IsPlacedIn, IsSameAs}
 use Rattle.fa_search.specs.parts.Settling.{IsTraced, AreSettlingBy, AreSettlingStill, IsFurther, IsIn, AreGrown, IsPushedNew, IsPut}
 use Rattle.fa_search.proofs.SettlingLemmas.{each_of, waits_more, settled_more, followed_still}
 use Rattle.fa_search.proofs.FlightLemmas.{counts_allowed, pending_by_call}
-use Rattle.fa_search.proofs.TriedLemmas.{tried_call, call_leaves, step_followed, one_ahead, same_ahead, unanswered_ahead}
+use Rattle.fa_search.proofs.GivenLemmas.{knows_ahead}
+use Rattle.fa_search.proofs.TriedLemmas.{tried_call, step_followed, one_ahead, same_ahead, unanswered_ahead}
 use Rattle.fa_search.proofs.TracedLemmas.{in_flight_placed, in_flight_tried, traced_placed, further_same, further_placed}
 
 -- what holds whatever a result is holds where it is a success
@@ -44,49 +45,25 @@ pub on_ok : {A E : Type 0} (r : Result A E) (P : Type 0) → P → OnOk r P
 on_ok (Ok value) P is = is
 on_ok (Err error) P is = tt
 
--- ---- what leaves each tree as it is
-
--- of what fails only where it has an answer, an order says no count, if it failed or only reads
-no_count : (answer : Option PlainAnswer) (o : PlainOperation) → IsFailure (ended o) ⊎ OnlyReads o → (answer ≡ None → IsFailure (ended o) → ⊥) → IsCountUpTo (most_written answer o) None
-no_count None (Acts (Write offset size payload o)) keeps unfailed = absurd (elim keeps [ inl fails ↦ unfailed refl fails | inr reads ↦ reads ])
-no_count None other keeps unfailed = refl
-no_count (Some answer) o keeps unfailed = refl
-
-module _ (calls : List PlainCall) (messages at : ℕ) (good : ∥ ((c : List Message) × AreGood c × (messages ≡ length c) × AreCalls c calls) ∥₁) (pending : Pending) (is : IsInFlight calls at pending)
-    (keeps : IsTrue pending.keeps_trees) where
-  -- a call fails only where it has an answer
-  unanswered_unfailed : is.call.answer ≡ None → IsFailure (ended is.call.operation) → ⊥
-  unanswered_unfailed none fails = ∥∥₁_elim good (λ x y. absurd x) (λ some.
-      let is_call = call_at some.3.events calls some.3.exact.each pending.place is.call is.listed in
-      subst IsFailure ((calls_end_where_answered some.0 some.3.events is.call some.3.are is_call).1 none) fails)
-
-  -- so what leaves each tree as it is has no count
-  keeping_without : IsCountUpTo pending.most None
-  keeping_without = subst (λ (most : Option ℕ). IsCountUpTo most None) (sym is.kept.most)
-      (no_count is.call.answer is.call.operation (elim (is.kept.keeps keeps) [ inl fails ↦ inl fails | inr reads ↦ inr reads.0 ]) unanswered_unfailed)
-
-  pub keeping_placed : MayBePlacedAt calls pending.place (record { at = pending.asked; wrote = None })
-  keeping_placed = in_flight_placed calls at pending is None keeping_without
-
-  -- and where it is placed, what it leads to is further on
-  pub keeping_further : (c : List Message) → AreCalls c calls → (x y : PlainConfiguration) → (Contains x.placed pending.asked → ⊥) → IsPlacedIn c x (record { at = pending.asked; wrote = None }) y
-      → IsFurther c at x y
-  keeping_further c are x y lacks in_it =
-      further_placed c at x x y (record { at = pending.asked; wrote = None }) (in_flight_tried calls at pending is c are None keeping_without)
-      (subst (LeavesTrees c) (sym is.kept.number) (call_leaves c calls are pending.place is.call is.listed (is.kept.keeps keeps))) lacks in_it (further_same c at x)
-
 -- ---- what is ahead of what is ahead
 
 pub ahead_ahead : (c : List Message) (Placed : ℕ → Type 0) (tree : TreeState) (x y : PlainConfiguration) → IsAhead c Placed tree x → IsAhead c (Contains x.placed) x.tree y → IsAhead c Placed tree y
 ahead_ahead c Placed tree x y ahead further = record {
   same = further.same ∙ ahead.same;
   all = λ p q by placed. further.all p q by (ahead.all p q by placed);
-  others = λ p has. elim (further.others p has) [ inl before ↦ ahead.others p before | inr leaves ↦ inr leaves ];
+  others = λ p has. elim (further.others p has) [ inl before ↦ ahead.others p before | inr idle ↦ inr (subst (λ (t : TreeState). IsIdleIn c t p) ahead.same idle) ];
 }
+
+-- the same, where the tree knows what was given
+pub ahead_if_known : (c : List Message) (at : ℕ) (Placed : ℕ → Type 0) (tree : TreeState) (x y : PlainConfiguration) → IsAheadIfKnown c at Placed tree x
+    → IsAheadIfKnown c at (Contains x.placed) x.tree y → IsAheadIfKnown c at Placed tree y
+ahead_if_known c at Placed tree x y ahead further knows =
+    let one = ahead knows in
+    ahead_ahead c Placed tree x y one (further (knows_ahead c at Placed tree x knows one))
 
 pub further_further : (c : List Message) (at : ℕ) (x y z : PlainConfiguration) → IsFurther c at x y → IsFurther c at y z → IsFurther c at x z
 further_further c at x y z to further = record {
-  ahead = ahead_ahead c (Contains x.placed) x.tree y z to.ahead further.ahead;
+  ahead = ahead_if_known c at (Contains x.placed) x.tree y z to.ahead further.ahead;
   traced = λ first common traced. further.traced first common (to.traced first common traced);
 }
 
@@ -153,10 +130,10 @@ module _ (asked : ℕ) (x : PlainConfiguration) (work settled more further : Lis
         record { behind = pushed.0; beside = []; work_is = pushed.1; settled_is = lacks.2 ∙ sym (append-nil settled) }
   ]
 
-  pub put_in : (c : List Message) → IsIn c x more further
-  put_in c = elim put [
-    | inl has ↦ (let to = pushed_ahead settled x further has.2 c in record { to = to.0; there = inr to.1; ahead = to.2 })
-    | inr lacks ↦ (let to = pushed_ahead work x more lacks.1 c in record { to = to.0; there = inl to.1; ahead = to.2 })
+  pub put_in : (c : List Message) (at : ℕ) → IsIn c at x more further
+  put_in c at = elim put [
+    | inl has ↦ (let to = pushed_ahead settled x further has.2 c in record { to = to.0; there = inr to.1; ahead = λ knows. to.2 })
+    | inr lacks ↦ (let to = pushed_ahead work x more lacks.1 c in record { to = to.0; there = inl to.1; ahead = λ knows. to.2 })
   ]
 
   module _ (c : List Message) (first : TreeState) (common : List Entry) (at : ℕ) (held : List PlainConfiguration) (traced : IsTraced c first common at x)
@@ -198,8 +175,8 @@ module _ (asked : ℕ) (x : PlainConfiguration) (work settled more further : Lis
 
 -- ---- what is taken in
 
-pub in_further : (c : List Message) (at : ℕ) (x y : PlainConfiguration) (work settled : List PlainConfiguration) → IsFurther c at x y → IsIn c y work settled → IsIn c x work settled
-in_further c at x y work settled further is = record { to = is.to; there = is.there; ahead = ahead_ahead c (Contains x.placed) x.tree y is.to further.ahead is.ahead }
+pub in_further : (c : List Message) (at : ℕ) (x y : PlainConfiguration) (work settled : List PlainConfiguration) → IsFurther c at x y → IsIn c at y work settled → IsIn c at x work settled
+in_further c at x y work settled further is = record { to = is.to; there = is.there; ahead = ahead_if_known c at (Contains x.placed) x.tree y is.to further.ahead is.ahead }
 
 -- ---- what is in flight, one after the other
 
@@ -247,16 +224,17 @@ never_answered c calls are at pending is never = λ q by.
     let clash = sym (is.kept.unanswered never) ∙ has in
     absurd cc
 
-module _ (c : List Message) (x : PlainConfiguration) (e : Entry) (one : PlainConfiguration) (in_it : IsPlacedIn c x e one) (work settled : List PlainConfiguration) where
+module _ (c : List Message) (at : ℕ) (x : PlainConfiguration) (e : Entry) (one : PlainConfiguration) (in_it : IsPlacedIn c x e one) (work settled : List PlainConfiguration) where
   -- an entry is followed where what it leads to is taken in,
-  pub taken_followed : IsIn c one work settled → (new : TreeState) → EntrySteps x.tree new c e → IsFollowed c x e new work settled
+  pub taken_followed : IsIn c at one work settled → (new : TreeState) → EntrySteps x.tree new c e → IsFollowed c at x e new work settled
   taken_followed is new steps =
-      step_followed c x is.to e one.tree work settled in_it.steps
-      (ahead_ahead c (OrThis (Contains x.placed) e.at) one.tree one is.to (one_ahead c x one e.at one.tree refl in_it.placed) is.ahead) is.there new steps
+      step_followed c at x is.to e one.tree work settled in_it.steps
+      (ahead_if_known c at (OrThis (Contains x.placed) e.at) one.tree one is.to (λ knows. one_ahead c x one e.at one.tree refl in_it.placed) is.ahead) is.there new steps
 
   -- and where it changes nothing and its request is never answered
-  pub kept_followed : IsUnanswered c e.at → one.tree ≡ x.tree → Contains work x → (new : TreeState) → EntrySteps x.tree new c e → IsFollowed c x e new work settled
-  kept_followed none same there new steps = step_followed c x x e one.tree work settled in_it.steps (unanswered_ahead c x e.at one.tree none (sym same)) (inl there) new steps
+  pub kept_followed : IsUnanswered c e.at → one.tree ≡ x.tree → Contains work x → (new : TreeState) → EntrySteps x.tree new c e → IsFollowed c at x e new work settled
+  kept_followed none same there new steps =
+      step_followed c at x x e one.tree work settled in_it.steps (λ knows. unanswered_ahead c x e.at one.tree none (sym same)) (inl there) new steps
 
 -- ---- what is tried, one after the other
 
@@ -265,75 +243,75 @@ pub grown_get : (work settled more further : List PlainConfiguration) (place : �
 grown_get work settled more further place x grown is = subst (λ (l : List PlainConfiguration). slice_get l place ≡ Some x) (sym grown.work_is) (get_kept work grown.behind place x is)
 
 -- this entry is followed,
-abbrev pub FollowsEntry : Calls → PlainConfiguration → Entry → (work settled : List PlainConfiguration) → Type 0
-FollowsEntry calls x e work settled = (c : List Message) (new : TreeState) → AreMessagesOf calls c → EntrySteps x.tree new c e → IsFollowed c x e new work settled
+abbrev pub FollowsEntry : Calls → (at : ℕ) → PlainConfiguration → Entry → (work settled : List PlainConfiguration) → Type 0
+FollowsEntry calls at x e work settled = (c : List Message) (new : TreeState) → AreMessagesOf calls c → EntrySteps x.tree new c e → IsFollowed c at x e new work settled
 
 -- those of a request with the counts below this one are,
-abbrev pub FollowsCounts : Calls → PlainConfiguration → (asked below : ℕ) → (work settled : List PlainConfiguration) → Type 0
-FollowsCounts calls x asked below work settled =
+abbrev pub FollowsCounts : Calls → (at : ℕ) → PlainConfiguration → (asked below : ℕ) → (work settled : List PlainConfiguration) → Type 0
+FollowsCounts calls at x asked below work settled =
     (c : List Message) (count : ℕ) (new : TreeState) → AreMessagesOf calls c → count < below → EntrySteps x.tree new c (record { at = asked; wrote = Some count })
-    → IsFollowed c x (record { at = asked; wrote = Some count }) new work settled
+    → IsFollowed c at x (record { at = asked; wrote = Some count }) new work settled
 
 -- and those of a request in flight, if it is not placed
-abbrev pub FollowsPending : Calls → PlainConfiguration → Pending → (work settled : List PlainConfiguration) → Type 0
-FollowsPending calls x pending work settled =
+abbrev pub FollowsPending : Calls → (at : ℕ) → PlainConfiguration → Pending → (work settled : List PlainConfiguration) → Type 0
+FollowsPending calls at x pending work settled =
     (c : List Message) (e : Entry) (new : TreeState) → AreMessagesOf calls c → e.at ≡ pending.asked → IsCountUpTo pending.most e.wrote → (Contains x.placed e.at → ⊥) → EntrySteps x.tree new c e
-    → IsFollowed c x e new work settled
+    → IsFollowed c at x e new work settled
 
-module _ (calls : Calls) (x : PlainConfiguration) (work settled more further : List PlainConfiguration) (grown : AreGrown work settled more further) where
+module _ (calls : Calls) (at : ℕ) (x : PlainConfiguration) (work settled more further : List PlainConfiguration) (grown : AreGrown work settled more further) where
   -- one count more
-  pub counts_more : (asked below : ℕ) → FollowsCounts calls x asked below work settled → FollowsEntry calls x (record { at = asked; wrote = Some below }) more further
-      → FollowsCounts calls x asked (below + 1) more further
+  pub counts_more : (asked below : ℕ) → FollowsCounts calls at x asked below work settled → FollowsEntry calls at x (record { at = asked; wrote = Some below }) more further
+      → FollowsCounts calls at x asked (below + 1) more further
   counts_more asked below before now = λ c count new are less. elim (cases_lt count below) [
     | inl early ↦ λ steps.
-        followed_still c x (record { at = asked; wrote = Some count }) new work settled more further (grown_among work settled more further grown) (before c count new are early steps)
+        followed_still c at x (record { at = asked; wrote = Some count }) new work settled more further (grown_among work settled more further grown) (before c count new are early steps)
     | inr late ↦
         let same : below ≡ count = omega (arith, less, late) in
-        subst (λ (k : ℕ). EntrySteps x.tree new c (record { at = asked; wrote = Some k }) → IsFollowed c x (record { at = asked; wrote = Some k }) new more further) same (now c new are)
+        subst (λ (k : ℕ). EntrySteps x.tree new c (record { at = asked; wrote = Some k }) → IsFollowed c at x (record { at = asked; wrote = Some k }) new more further) same (now c new are)
   ]
 
-  pub pending_still : (pending : Pending) → FollowsPending calls x pending work settled → FollowsPending calls x pending more further
+  pub pending_still : (pending : Pending) → FollowsPending calls at x pending work settled → FollowsPending calls at x pending more further
   pending_still pending follows = λ c e new are number up lacks steps.
-      followed_still c x e new work settled more further (grown_among work settled more further grown) (follows c e new are number up lacks steps)
+      followed_still c at x e new work settled more further (grown_among work settled more further grown) (follows c e new are number up lacks steps)
 
-module _ (calls : Calls) (x : PlainConfiguration) (pending : Pending) (work settled : List PlainConfiguration) where
+module _ (calls : Calls) (at : ℕ) (x : PlainConfiguration) (pending : Pending) (work settled : List PlainConfiguration) where
   -- where it has no count, that is one entry
-  pub without_followed : pending.most ≡ None → FollowsEntry calls x (record { at = pending.asked; wrote = None }) work settled → FollowsPending calls x pending work settled
+  pub without_followed : pending.most ≡ None → FollowsEntry calls at x (record { at = pending.asked; wrote = None }) work settled → FollowsPending calls at x pending work settled
   without_followed none follows = λ c e new are number up lacks steps.
       let carries : e.wrote ≡ None = subst (λ (most : Option ℕ). IsCountUpTo most e.wrote) none up in
       let only : Entry = record { at = pending.asked; wrote = None } in
       let same : e ≡ only = same_entry e only number carries in
-      subst (λ (f : Entry). IsFollowed c x f new work settled) (sym same) (follows c new are (subst (EntrySteps x.tree new c) same steps))
+      subst (λ (f : Entry). IsFollowed c at x f new work settled) (sym same) (follows c new are (subst (EntrySteps x.tree new c) same steps))
 
   -- and otherwise those with the counts up to the most
   pub counts_followed : (most : ℕ) → pending.most ≡ Some most
       → ((c : List Message) (count : ℕ) (new : TreeState) → AreMessagesOf calls c → count ≤ most → EntrySteps x.tree new c (record { at = pending.asked; wrote = Some count })
-      → IsFollowed c x (record { at = pending.asked; wrote = Some count }) new work settled) → FollowsPending calls x pending work settled
+      → IsFollowed c at x (record { at = pending.asked; wrote = Some count }) new work settled) → FollowsPending calls at x pending work settled
   counts_followed most some follows = λ c e new are number up lacks steps.
       let count : (count : ℕ) × (e.wrote ≡ Some count) × (count ≤ most) = subst (λ (m : Option ℕ). IsCountUpTo m e.wrote) some up in
       let this : Entry = record { at = pending.asked; wrote = Some count.0 } in
       let same : e ≡ this = same_entry e this number count.1 in
-      subst (λ (f : Entry). IsFollowed c x f new work settled) (sym same) (follows c count.0 new are count.2 (subst (EntrySteps x.tree new c) same steps))
+      subst (λ (f : Entry). IsFollowed c at x f new work settled) (sym same) (follows c count.0 new are count.2 (subst (EntrySteps x.tree new c) same steps))
 
 -- each of those in flight is still to be tried, or followed
-abbrev pub AreTriedOrLeft : Calls → PlainConfiguration → (those left : List Pending) → (work settled : List PlainConfiguration) → Type 0
-AreTriedOrLeft calls x those left work settled = (pending : Pending) → Contains those pending → Contains left pending ⊎ FollowsPending calls x pending work settled
+abbrev pub AreTriedOrLeft : Calls → (at : ℕ) → PlainConfiguration → (those left : List Pending) → (work settled : List PlainConfiguration) → Type 0
+AreTriedOrLeft calls at x those left work settled = (pending : Pending) → Contains those pending → Contains left pending ⊎ FollowsPending calls at x pending work settled
 
 -- one more is tried
-pub tried_more : (calls : Calls) (x : PlainConfiguration) (those left rest : List Pending) (pending : Pending) (work settled more further : List PlainConfiguration) → AreGrown work settled more further
-    → left ≡ pending ∷ rest → FollowsPending calls x pending more further → AreTriedOrLeft calls x those left work settled → AreTriedOrLeft calls x those rest more further
-tried_more calls x those left rest pending work settled more further grown is now before = λ other has. elim (before other has) [
+pub tried_more : (calls : Calls) (at : ℕ) (x : PlainConfiguration) (those left rest : List Pending) (pending : Pending) (work settled more further : List PlainConfiguration) → AreGrown work settled more further
+    → left ≡ pending ∷ rest → FollowsPending calls at x pending more further → AreTriedOrLeft calls at x those left work settled → AreTriedOrLeft calls at x those rest more further
+tried_more calls at x those left rest pending work settled more further grown is now before = λ other has. elim (before other has) [
   | inl waits ↦ elim (contains_cases pending rest other (subst (λ (l : List Pending). Contains l other) is waits)) [
-    | inl here ↦ inr (subst (λ (p : Pending). FollowsPending calls x p more further) here now)
+    | inl here ↦ inr (subst (λ (p : Pending). FollowsPending calls at x p more further) here now)
     | inr behind ↦ inl behind
   ]
-  | inr done ↦ inr (pending_still calls x work settled more further grown other done)
+  | inr done ↦ inr (pending_still calls at x work settled more further grown other done)
 ]
 
 -- an entry that names a call in flight is followed where all are
 call_followed : (calls : Calls) (at : ℕ) (x : PlainConfiguration) (work settled : List PlainConfiguration) (c : List Message) → AreMessagesOf calls c → (pending : Pending) → IsInFlight calls.list at pending
-    → FollowsPending calls x pending work settled → (call : PlainCall) → slice_get calls.list pending.place ≡ Some call → (e : Entry) → call.asked ≡ e.at → Allows call e.wrote → (Contains x.placed e.at → ⊥)
-    → (new : TreeState) → EntrySteps x.tree new c e → IsFollowed c x e new work settled
+    → FollowsPending calls at x pending work settled → (call : PlainCall) → slice_get calls.list pending.place ≡ Some call → (e : Entry) → call.asked ≡ e.at → Allows call e.wrote → (Contains x.placed e.at → ⊥)
+    → (new : TreeState) → EntrySteps x.tree new c e → IsFollowed c at x e new work settled
 call_followed calls at x work settled c are pending is follows call listed e asked allowed lacks new steps =
     let same : call ≡ is.call = same_Some call is.call (sym listed ∙ is.listed) in
     let number : e.at ≡ pending.asked = sym asked ∙ ap (λ (k : PlainCall). k.asked) same ∙ sym is.kept.number in
@@ -343,13 +321,13 @@ call_followed calls at x work settled c are pending is follows call listed e ask
 
 -- so the configuration is spent
 pub all_tried_spent : (calls : Calls) (flight : InFlight) (x : PlainConfiguration) (work settled : List PlainConfiguration) → IsFlight calls.list flight
-    → AreTriedOrLeft calls x (values_of flight.requests.entries) [] work settled → (c : List Message) → AreMessagesOf calls c → IsSpent c flight.at x work settled
+    → AreTriedOrLeft calls flight.at x (values_of flight.requests.entries) [] work settled → (c : List Message) → AreMessagesOf calls c → IsSpent c flight.at x work settled
 all_tried_spent calls flight x work settled is tried c are = λ e new may lacks steps.
     let found = tried_call c calls.list are.are flight.at e may in
     of_call e new may lacks steps found.0 found.1 found.2 found.3 found.4
   where
     of_call : (e : Entry) (new : TreeState) → MayBeTried c flight.at e → (Contains x.placed e.at → ⊥) → EntrySteps x.tree new c e → (place : ℕ) (call : PlainCall) → slice_get calls.list place ≡ Some call
-        → call.asked ≡ e.at → Allows call e.wrote → IsFollowed c x e new work settled
+        → call.asked ≡ e.at → Allows call e.wrote → IsFollowed c flight.at x e new work settled
     of_call e new may lacks steps place call there asked allowed =
         let waits : IsCallPending flight.at call = (pending_by_call c calls.list are.are flight.at place call there).0 (subst (λ (k : ℕ). IsPending c flight.at k) (sym asked) may.pending) in
         let entry = is.all place call there waits in

@@ -1,10 +1,10 @@
 -- The calls of a capture are those of some messages, which no code has at hand. What is in flight is decided by the calls, so where it is so
 -- by whatever messages they are of, it is so.
 use Rattle.std.proofs.Common.{◌≡◌, ◌⊎◌, ℕ, ◌<◌, ◌≤◌, Bool, true, false, List, [], ◌∷◌, Option, Some, None, refl, sym, subst, ap, ◌∙◌, inl, inr, arith}
-use Rattle.std.specs.Prelude.{slice_get, Contains}
+use Rattle.std.specs.Prelude.{slice_get, Contains, All, IfSome}
 use Rattle.std.proofs.Math.Logic.{∥∥₁_elim}
 use Rattle.std.proofs.lemmas.Bool.{cases_lt, cases_eq}
-use Rattle.std.proofs.lemmas.List.Elements.{All-contains, All-contains_itself, All-weaker}
+use Rattle.std.proofs.lemmas.List.Elements.{All-cons, All-head, All-tail, All-contains, All-contains_itself, All-weaker}
 use Rattle.std.proofs.lemmas.Option.{same_Some}
 use Rattle.fa_capture.specs.Message.{Message}
 use Rattle.fa_capture.proofs.CallerLemmas.{contains_cases, contains_first, contains_behind}
@@ -15,6 +15,7 @@ use Rattle.fa_ledger.specs.Operations.PlainOperation.{Lists, Acts}
 use Rattle.fa_ledger.specs.Operations.PlainAction.{Lookup, Getattr, Readlink, Read, Opendir}
 use Rattle.fa_ledger.specs.declared.calls.Calls.{Calls}
 use Rattle.fa_ledger.specs.declared.name.NodeName.{NodeName}
+use Rattle.fa_ledger.specs.declared.name.NodeName.TheVariants.{Root, Given}
 use Rattle.fa_ledger.specs.declared.operation.Outcome.{Outcome}
 use Rattle.fa_ledger.specs.declared.operation.Outcome.TheVariants.{Fails}
 use Rattle.fa_tree.specs.Steps.{names_given, opens_anew}
@@ -22,7 +23,7 @@ use Rattle.fa_check.specs.Verdicts.{AreMessagesOf}
 use Rattle.fa_search.specs.declared.flight.Due.{Due}
 use Rattle.fa_search.specs.declared.flight.Pending.{Pending}
 use Rattle.fa_search.specs.declared.flight.InFlight.{InFlight}
-use Rattle.fa_search.specs.parts.Configurations.{IsCallPending, KeepsTrees, most_written}
+use Rattle.fa_search.specs.parts.Configurations.{IsCallPending, KeepsTrees, IsGivenUpTo, GivesUpTo, most_written}
 use Rattle.fa_search.specs.parts.Flight.{IsDue, IsPendingOf, IsInFlight, IsFlight, due_by}
 
 -- ---- what is decided
@@ -84,6 +85,50 @@ keeps_decided call = by (failure_decided (ended call.operation)) (reads_decided 
     by (inr none) (inl reads) (inr some) opens = inr (λ keeps. elim keeps [ inl fails ↦ none fails | inr is ↦ some is.1 ])
     by (inr none) (inl reads) (inl names) (inr anew) = inr (λ keeps. elim keeps [ inl fails ↦ none fails | inr is ↦ anew is.2 ])
 
+some_decided : {A : Type 0} (found : Option A) (Such : A → Type 0) → ((a : A) → IsDecided (Such a)) → IsDecided (IfSome found Such)
+some_decided None Such each = inl tt
+some_decided (Some a) Such each = each a
+
+given_decided : (reply : ℕ) (name : NodeName) → IsDecided (IsGivenUpTo reply name)
+given_decided reply Root = inr (λ given. given)
+given_decided reply (Given by id) = most_decided by reply
+
+each_given_decided : (reply : ℕ) (names : List NodeName) → IsDecided (All (IsGivenUpTo reply) names)
+each_given_decided reply [] = inl (λ k d within. absurd (omega (arith, within)))
+each_given_decided reply (name ∷ names) = by (given_decided reply name) (each_given_decided reply names)
+  where
+    by : IsDecided (IsGivenUpTo reply name) → IsDecided (All (IsGivenUpTo reply) names) → IsDecided (All (IsGivenUpTo reply) (name ∷ names))
+    by (inl first) (inl rest) = inl (All-cons (IsGivenUpTo reply) name names first rest)
+    by (inr other) rest = inr (λ all. other (All-head (IsGivenUpTo reply) name names all))
+    by (inl first) (inr other) = inr (λ all. other (All-tail (IsGivenUpTo reply) name names all))
+
+up_to_decided : (reply : ℕ) (call : PlainCall) → IsDecided (GivesUpTo reply call)
+up_to_decided reply call =
+    by (reads_decided call.operation) (test_decided (opens_anew call) false) (each_given_decided reply (names_given call))
+  where
+    by : IsDecided (OnlyReads call.operation) → IsDecided (opens_anew call ≡ false) → IsDecided (All (IsGivenUpTo reply) (names_given call)) → IsDecided (GivesUpTo reply call)
+    by (inl reads) (inl opens) (inl each) = inl (reads, opens, each)
+    by (inr changes) opens each = inr (λ up. changes up.0)
+    by (inl reads) (inr anew) each = inr (λ up. anew up.1)
+    by (inl reads) (inl opens) (inr other) = inr (λ up. other up.2)
+
+name_decided : (one other : NodeName) → IsDecided (one ≡ other)
+name_decided Root Root = inl refl
+name_decided Root (Given by id) = inr (λ same. absurd cc)
+name_decided (Given by id) Root = inr (λ same. absurd cc)
+name_decided (Given by id) (Given since other) = elim (cases_eq by since) [
+  | inl replies ↦ elim (cases_eq id other) [
+    | inl ids ↦ inl (ap (λ (b : ℕ). Given b id) replies ∙ ap (λ (i : ℕ). Given since i) ids)
+    | inr apart ↦ inr (λ same. apart cc)
+  ]
+  | inr apart ↦ inr (λ same. apart cc)
+]
+
+only_decided : (names : List NodeName) (name : NodeName) → IsDecided (names ≡ name ∷ [])
+only_decided [] name = inr (λ same. absurd cc)
+only_decided (n ∷ []) name = elim (name_decided n name) [ inl same ↦ inl (ap (λ (k : NodeName). k ∷ []) same) | inr apart ↦ inr (λ same. apart cc) ]
+only_decided (n ∷ m ∷ names) name = inr (λ same. absurd cc)
+
 abbrev due_with : (never : Bool) (position : ℕ) → Due
 due_with never position = record { never = never; position = position }
 
@@ -142,6 +187,10 @@ module _ (calls : Calls) where
           unanswered = λ never. told (call.answer ≡ None) (answer_decided call.answer) (λ c are. (kept c are).unanswered never);
           most = told (e.1.most ≡ most_written call.answer call.operation) (count_decided e.1.most (most_written call.answer call.operation)) (λ c are. (kept c are).most);
           keeps = λ keeps. told (KeepsTrees call) (keeps_decided call) (λ c are. (kept c are).keeps keeps);
+          up_to = told (IfSome e.1.gives_up_to (λ reply. GivesUpTo reply call)) (some_decided e.1.gives_up_to (λ reply. GivesUpTo reply call) (λ reply. up_to_decided reply call))
+              (λ c are. (kept c are).up_to);
+          gives = told (IfSome e.1.gives (λ name. names_given call ≡ name ∷ [])) (some_decided e.1.gives (λ name. names_given call ≡ name ∷ []) (only_decided (names_given call)))
+              (λ c are. (kept c are).gives);
         };
         waits = record {
           sent = told (call.asked < flight.at) (less_decided call.asked flight.at) (λ c are. (waits c are).sent);

@@ -8,10 +8,11 @@ use Rattle.fa_ledger.specs.Choices.{Allows}
 use Rattle.fa_tree.specs.State.{TreeState}
 use Rattle.fa_order.specs.declared.entry.Entry.{Entry}
 use Rattle.fa_search.specs.declared.flight.Pending.{Pending}
-use Rattle.fa_search.specs.parts.Configurations.{PlainConfiguration, MayBeTried, IsPending, IsCountUpTo, LeavesTrees}
+use Rattle.fa_search.specs.parts.Configurations.{PlainConfiguration, MayBeTried, IsPending, IsCountUpTo, LeavesIfKnown}
 use Rattle.fa_search.specs.parts.Flight.{IsInFlight}
 use Rattle.fa_search.specs.parts.Placed.{MayBePlacedAt, IsPlacedIn}
 use Rattle.fa_search.specs.parts.Settling.{IsTraced, IsFurther}
+use Rattle.fa_search.proofs.GivenLemmas.{knows_ahead}
 use Rattle.fa_search.proofs.HeldLemmas.{reached_more, reached_more_by}
 use Rattle.fa_search.proofs.FlightLemmas.{counts_allowed, pending_by_call}
 use Rattle.fa_search.proofs.TriedLemmas.{call_tried, further_ahead, same_ahead}
@@ -48,12 +49,14 @@ traced_placed c first common at x y e may lacks in_it (reached, traced) = (
 
 -- one that is as it was is
 pub further_same : (c : List Message) (at : ℕ) (x : PlainConfiguration) → IsFurther c at x x
-further_same c at x = record { ahead = same_ahead c x; traced = λ first common traced. traced }
+further_same c at x = record { ahead = λ knows. same_ahead c x; traced = λ first common traced. traced }
 
--- so is one in which a request is placed that leaves each tree as it is
-pub further_placed : (c : List Message) (at : ℕ) (old x y : PlainConfiguration) (e : Entry) → MayBeTried c at e → LeavesTrees c e.at → (Contains x.placed e.at → ⊥)
+-- so is one in which a request is placed that leaves the tree as it is, and each later one, if that knows what was given
+pub further_placed : (c : List Message) (at : ℕ) (old x y : PlainConfiguration) (e : Entry) → MayBeTried c at e → LeavesIfKnown c at x e.at → (Contains x.placed e.at → ⊥)
     → IsPlacedIn c x e y → IsFurther c at old x → IsFurther c at old y
 further_placed c at old x y e may leaves lacks in_it further = record {
-  ahead = further_ahead c (Contains old.placed) old.tree x y e.at leaves (leaves x.tree y.tree e refl in_it.steps) in_it.placed further.ahead;
+  ahead = λ knows.
+      let before = further.ahead knows in
+      further_ahead c (Contains old.placed) old.tree x y e (leaves (knows_ahead c at (Contains old.placed) old.tree x knows before)) in_it.steps in_it.placed before;
   traced = λ first common traced. traced_placed c first common at x y e may lacks in_it (further.traced first common traced);
 }

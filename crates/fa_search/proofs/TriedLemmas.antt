@@ -1,5 +1,5 @@
 -- What may be tried, by the calls of the messages: which call an entry names, and where its step leads.
-use Rattle.std.proofs.Common.{◌≡◌, ◌⊎◌, ℕ, ◌<◌, List, Option, Some, refl, sym, subst, ◌∙◌, inl, inr, None}
+use Rattle.std.proofs.Common.{◌≡◌, ◌⊎◌, ℕ, ◌<◌, List, [], Option, Some, refl, sym, subst, ◌∙◌, inl, inr, None}
 use Rattle.std.specs.Prelude.{slice_get, Contains}
 use Rattle.fa_capture.specs.Checks.{FirstFailure}
 use Rattle.fa_capture.specs.Message.{Message}
@@ -9,14 +9,13 @@ use Rattle.fa_ledger.specs.Choices.{Allows}
 use Rattle.fa_ledger.specs.SoFar.{listing_so_far}
 use Rattle.fa_tree.specs.State.{TreeState}
 use Rattle.fa_tree.specs.Steps.{Steps, step_checks}
-use Rattle.fa_tree.proofs.CallerLemmas.{step_failed_stays, step_read_stays}
 use Rattle.fa_order.specs.declared.entry.Entry.{Entry}
 use Rattle.fa_order.proofs.CallerLemmas.{same_entry}
 use Rattle.fa_check.specs.Runs.{IsCallAt, EntrySteps}
 use Rattle.fa_check.specs.Cuts.{IsAnsweredBefore}
 use Rattle.fa_check.proofs.CallerLemmas.{call_one, entry_is_one, no_step_failure, tree_is_call, call_is_tree, call_of_message, allowed_choice, choice_allowed}
 use Rattle.fa_search.specs.parts.Going.{OrThis}
-use Rattle.fa_search.specs.parts.Configurations.{PlainConfiguration, MayBeTried, IsOneMore, LeavesTrees, KeepsTrees, IsAhead, IsFollowed, IsPending, IsSpent}
+use Rattle.fa_search.specs.parts.Configurations.{PlainConfiguration, MayBeTried, IsOneMore, LeavesFrom, IsIdleIn, IsAhead, IsAheadIfKnown, IsFollowed, IsPending, IsSpent}
 
 module _ (c : List Message) (calls : List PlainCall) (are : AreCalls c calls) (at : ℕ) where
   -- what may be tried names a call, which allows its count
@@ -55,34 +54,23 @@ module _ (c : List Message) (calls : List PlainCall) (are : AreCalls c calls) (a
           fails = fails;
         })
 
--- a call that leaves each tree as it is does so by each entry that names it
-pub call_leaves : (c : List Message) (calls : List PlainCall) (are : AreCalls c calls) (place : ℕ) (call : PlainCall) → slice_get calls place ≡ Some call → KeepsTrees call → LeavesTrees c call.asked
-call_leaves c calls are place call there keeps old new e same steps =
-    let of_request : IsCallAt c e.at call (listing_so_far calls place) = call_of_message c calls are place e.at call there (sym same) in
-    let one = call_one c e.at steps.call call steps.so_far (listing_so_far calls place) steps.of_request of_request in
-    let taken : Steps old new call e.wrote steps.so_far = subst (λ (x : PlainCall). Steps old new x e.wrote steps.so_far) one.0 steps.steps in
-    elim keeps [
-      | inl fails ↦ step_failed_stays old new call e.wrote steps.so_far fails taken
-      | inr reads ↦ step_read_stays old new call e.wrote steps.so_far reads.0 reads.1 reads.2 taken
-    ]
-
 -- where the step of an entry leads to what is in one of the two lists, or to what one of them has something ahead of, the entry is followed
-pub step_followed : (c : List Message) (x y : PlainConfiguration) (e : Entry) (tree : TreeState) (work settled : List PlainConfiguration) → EntrySteps x.tree tree c e
-    → IsAhead c (OrThis (Contains x.placed) e.at) tree y → Contains work y ⊎ Contains settled y → (new : TreeState) → EntrySteps x.tree new c e → IsFollowed c x e new work settled
-step_followed c x y e tree work settled steps ahead there new others = record {
+pub step_followed : (c : List Message) (at : ℕ) (x y : PlainConfiguration) (e : Entry) (tree : TreeState) (work settled : List PlainConfiguration) → EntrySteps x.tree tree c e
+    → IsAheadIfKnown c at (OrThis (Contains x.placed) e.at) tree y → Contains work y ⊎ Contains settled y → (new : TreeState) → EntrySteps x.tree new c e → IsFollowed c at x e new work settled
+step_followed c at x y e tree work settled steps ahead there new others = record {
   to = y;
   there = there;
-  ahead = subst (λ (t : TreeState). IsAhead c (OrThis (Contains x.placed) e.at) t y) (entry_is_one c x.tree tree new e steps others) ahead;
+  ahead = subst (λ (t : TreeState). IsAheadIfKnown c at (OrThis (Contains x.placed) e.at) t y) (entry_is_one c x.tree tree new e steps others) ahead;
 }
 
 -- where the request that the message answers is the only one in flight, its entry alone is to be followed
 pub spent_alone : (c : List Message) (at asked : ℕ) (x : PlainConfiguration) (work settled : List PlainConfiguration) → IsAnsweredBy c asked at → ((p : ℕ) → IsPending c at p → p ≡ asked)
-    → ((new : TreeState) → EntrySteps x.tree new c (record { at = asked; wrote = None }) → IsFollowed c x (record { at = asked; wrote = None }) new work settled) → IsSpent c at x work settled
+    → ((new : TreeState) → EntrySteps x.tree new c (record { at = asked; wrote = None }) → IsFollowed c at x (record { at = asked; wrote = None }) new work settled) → IsSpent c at x work settled
 spent_alone c at asked x work settled by only followed e new may lacks steps =
     let number : e.at ≡ asked = only e.at may.pending in
     let carries : e.wrote ≡ None = may.choice.answered at (subst (λ (k : ℕ). IsAnsweredBy c k at) (sym number) by) in
     let same : e ≡ record { at = asked; wrote = None } = same_entry e (record { at = asked; wrote = None }) number carries in
-    subst (λ (f : Entry). IsFollowed c x f new work settled) (sym same) (followed new (subst (EntrySteps x.tree new c) same steps))
+    subst (λ (f : Entry). IsFollowed c at x f new work settled) (sym same) (followed new (subst (EntrySteps x.tree new c) same steps))
 
 -- ---- what is ahead
 
@@ -98,14 +86,25 @@ one_ahead c x y asked tree same one = record {
 pub same_ahead : (c : List Message) (x : PlainConfiguration) → IsAhead c (Contains x.placed) x.tree x
 same_ahead c x = record { same = refl; all = λ p q by has. has; others = λ p has. inl has }
 
--- one more that leaves each tree as it is may be placed in what is ahead,
-pub further_ahead : (c : List Message) (Placed : ℕ → Type 0) (tree : TreeState) (x y : PlainConfiguration) (asked : ℕ) → LeavesTrees c asked → y.tree ≡ x.tree → IsOneMore x.placed asked y.placed
-    → IsAhead c Placed tree x → IsAhead c Placed tree y
-further_ahead c Placed tree x y asked leaves same one ahead = record {
-  same = same ∙ ahead.same;
+-- one more that leaves the tree as it is, and each later one, may be placed in what is ahead,
+pub further_ahead : (c : List Message) (Placed : ℕ → Type 0) (tree : TreeState) (x y : PlainConfiguration) (e : Entry) → LeavesFrom c x.tree e.at → EntrySteps x.tree y.tree c e
+    → IsOneMore x.placed e.at y.placed → IsAhead c Placed tree x → IsAhead c Placed tree y
+further_ahead c Placed tree x y e leaves steps one ahead = record {
+  same = stays ∙ ahead.same;
   all = λ p q by placed. (one p).1 (inl (ahead.all p q by placed));
-  others = λ p has. elim ((one p).0 has) [ inl before ↦ ahead.others p before | inr here ↦ inr (subst (LeavesTrees c) here leaves) ];
+  others = λ p has. elim ((one p).0 has) [ inl before ↦ ahead.others p before | inr here ↦ inr (subst (IsIdleIn c tree) here idle) ];
 }
+  where
+    stays : y.tree ≡ x.tree
+    stays = leaves [] x.tree y.tree e refl refl steps
+
+    idle : IsIdleIn c tree e.at
+    idle = record {
+      entry = e;
+      number = refl;
+      steps = subst (λ (t : TreeState). EntrySteps t t c e) ahead.same (subst (λ (t : TreeState). EntrySteps x.tree t c e) stays steps);
+      leaves = subst (λ (t : TreeState). LeavesFrom c t e.at) ahead.same leaves;
+    }
 
 -- and one without an answer need not be, where it left the tree as it was
 pub unanswered_ahead : (c : List Message) (x : PlainConfiguration) (asked : ℕ) (tree : TreeState) → IsUnanswered c asked → x.tree ≡ tree → IsAhead c (OrThis (Contains x.placed) asked) tree x

@@ -1,15 +1,17 @@
 //! Which requests are in flight.
 
-ghost use Rattle.std.specs.Prelude.{◌≡◌, ◌↔◌, ◌+◌, ◌<◌, ◌^◌, ℕ, List, IsTrue, IfSome, IsNone, OnOk};
+ghost use Rattle.std.specs.Prelude.{◌≡◌, ◌↔◌, ◌∷◌, ◌+◌, ◌<◌, ◌^◌, [], ℕ, false, List, Some, IsTrue, IfSome, IsNone, OnOk};
 ghost use Rattle.fa_capture.specs.Message.{Message};
 ghost use Rattle.fa_ledger.specs.Calls.{call_shown};
 ghost use Rattle.fa_ledger.specs.declared.calls.Calls.{Calls as TheCalls};
+ghost use Rattle.fa_ledger.specs.Kinds.{OnlyReads};
+ghost use Rattle.fa_tree.specs.Steps.{names_given, opens_anew};
 ghost use Rattle.fa_check.specs.Replays.{IsAnswerAt};
 ghost use Rattle.fa_check.specs.Verdicts.{AreMessagesOf};
-ghost use Rattle.fa_search.specs.parts.Configurations.{most_written, KeepsTrees};
+ghost use Rattle.fa_search.specs.parts.Configurations.{most_written, KeepsTrees, GivesUpTo};
 ghost use Rattle.fa_search.specs.parts.Flight.{IsInFlight, IsFlight, IsDue, IsPendingOf, IsSent, IsAlone};
 
-use fa_ledger::{Action, Call, Calls, Operation, Outcome};
+use fa_ledger::{Action, Call, Calls, GivenNodes, NodeName, Operation, Outcome};
 use std::alloc::{AllocError, Global};
 use std::collections::BTreeMap;
 
@@ -54,6 +56,11 @@ pub(crate) struct Pending {
     /// Whether it leaves each tree as it is, by what came of it: an error, or a success that only reads, gives no node and opens no
     /// directory.
     pub keeps_trees: bool,
+    /// Of a success that only reads, opens no directory and gives one node: the reply that was the first to give it. It leaves each tree that
+    /// knows that node.
+    pub gives_up_to: Option<u32>,
+    /// The node that it gives, if it gives one alone.
+    pub gives: Option<NodeName>,
 }
 
 impl Pending {
@@ -67,6 +74,18 @@ impl Pending {
             unanswered: call.answer.is_none(),
             most: most_written(call),
             keeps_trees: keeps_trees(call),
+            gives_up_to: gives_up_to(call),
+            gives: only_given(call),
+        }
+    }
+
+    /// Whether it gives this node, and no other.
+    pub fn gives(&self, name: NodeName) -> bool
+        ensures { IsTrue result → self.now.gives ≡ Some name }
+    {
+        match self.gives {
+            Some(given) => given == name,
+            None => false,
         }
     }
 }
@@ -199,5 +218,41 @@ fn keeps_trees(call: &Call<'_>) -> bool
     match &call.answer {
         Some(answer) => operation.only_reads() && answer.given.names().is_empty() && !answer.opens,
         None => operation.only_reads(),
+    }
+}
+
+/// The reply that was the first to give the only node that the call gives, if it gives one alone, only reads and opens no directory.
+fn gives_up_to(call: &Call<'_>) -> Option<u32>
+    ensures { IfSome result (λ reply. GivesUpTo reply (call_shown call.now)) }
+{
+    if !reads_alone(call) {
+        return None;
+    }
+    match only_given(call) {
+        Some(NodeName::Given { by, .. }) => Some(by),
+        _ => None,
+    }
+}
+
+/// Whether the call only reads, and opens no directory.
+fn reads_alone(call: &Call<'_>) -> bool
+    ensures { IsTrue result → OnlyReads (call_shown call.now).operation × (opens_anew (call_shown call.now) ≡ false) }
+{
+    match &call.answer {
+        Some(answer) => !answer.opens && call.operation().only_reads(),
+        None => false,
+    }
+}
+
+/// The node that the call gives, if it gives one alone.
+fn only_given(call: &Call<'_>) -> Option<NodeName>
+    ensures { IfSome result (λ name. names_given (call_shown call.now) ≡ name ∷ []) }
+{
+    match &call.answer {
+        Some(answer) => match answer.given {
+            GivenNodes::One(name) => Some(name),
+            _ => None,
+        },
+        None => None,
     }
 }

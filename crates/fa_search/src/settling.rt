@@ -1,6 +1,7 @@
 //! What a search does where a reply comes: its request is placed, and others before it.
 
 ghost use Rattle.std.specs.Prelude.{◌≡◌, ◌+◌, ◌<◌, ◌≤◌, ◌++◌, ◌∷◌, [], ℕ, List, length, slice_get, Some, None, Contains, IsTrue, IfOk, IfErr, IsErrOf, OnOk};
+ghost use Rattle.std.specs.Map.{values_of};
 ghost use Rattle.fa_capture.specs.Message.{Message};
 ghost use Rattle.fa_tree.specs.State.{TreeState};
 ghost use Rattle.fa_order.specs.declared.entry.Entry.{Entry as TheEntry};
@@ -9,14 +10,16 @@ ghost use Rattle.fa_check.specs.Verdicts.{AreMessagesOf};
 ghost use Rattle.fa_check.specs.Replays.{IsAnswerAt};
 ghost use Rattle.fa_search.specs.Searches.{IsRefusedFrom};
 ghost use Rattle.fa_search.specs.declared.budget.Halt.TheVariants.{Spent};
-ghost use Rattle.fa_search.specs.parts.Configurations.{PlainConfiguration, IsCountUpTo, IsFollowed, IsSpent};
-ghost use Rattle.fa_search.specs.parts.Flight.{IsInFlight, IsFlight, IsAlone};
+ghost use Rattle.fa_search.specs.declared.flight.Pending.{Pending as ThePending};
+ghost use Rattle.fa_search.specs.parts.Configurations.{PlainConfiguration, IsCountUpTo, LeavesIfKnown, IsFollowed, IsSpent};
+ghost use Rattle.fa_search.specs.parts.Flight.{IsInFlight, IsFlight, IsAlone, IsGivenByPlaced, IsToldIdle};
 ghost use Rattle.fa_search.specs.parts.Placed.{MayBePlacedAt};
 ghost use Rattle.fa_search.specs.parts.Settling.{IsTraced, AreHeldBy, AreSettlingBy, AreSettlingStill, IsOnlyPending, IsTakenIn, IsSettled, IsFurther, IsIn, AreGrown, IsPushedNew, IsPut, IsLeastOf, HasNoStep, HaveNoStep};
 
 use crate::budget::{Halt, Spending};
 use crate::configuration::{Configuration, Known, push};
 use crate::flight::{InFlight, Pending};
+use fa_ledger::NodeName;
 use fa_order::Entry;
 use fa_tree::{Replay, StepError};
 use std::alloc::{AllocError, Global};
@@ -185,8 +188,8 @@ impl Settling {
         }
     }
 
-    /// Takes in a configuration, unless the same one is there. The requests in flight that leave each tree as it is are placed in it first,
-    /// where they have a step.
+    /// Takes in a configuration, unless the same one is there. The requests in flight that leave its tree as it is, and each later one, are
+    /// placed in it first, where they have a step.
     fn take_in(
         &mut self,
         tries: &mut Tries<'_>,
@@ -196,7 +199,7 @@ impl Settling {
     ) -> Result<(), Halt>
         requires { IsFlight tries.old.replay.list flight.now }
         ensures grown { OnOk result (AreGrown self.old.work.items self.old.settled.items self.new.work.items self.new.settled.items) }
-        ensures taken { OnOk result ((c : List Message) → AreMessagesOf tries.old.replay c → IsIn c one self.new.work.items self.new.settled.items) }
+        ensures taken { OnOk result ((c : List Message) → AreMessagesOf tries.old.replay c → IsIn c flight.now.at one self.new.work.items self.new.settled.items) }
         ensures settling { OnOk result ((c : List Message) (first : TreeState) (common : List TheEntry) (held : List PlainConfiguration) → AreMessagesOf tries.old.replay c →
             IsTraced c first common flight.now.at one → AreSettlingBy c first common flight.now.at asked held self.old.work.items self.old.settled.items →
             AreSettlingBy c first common flight.now.at asked held self.new.work.items self.new.settled.items) }
@@ -286,7 +289,7 @@ impl Settling {
         ensures grown { OnOk result (AreGrown self.old.work.items self.old.settled.items self.new.work.items self.new.settled.items) }
         ensures settling { OnOk result (AreSettlingStill tries.old.replay flight.now.at asked self.old.work.items self.old.settled.items self.new.work.items self.new.settled.items) }
         ensures followed { OnOk result ((c : List Message) (e : TheEntry) (new : TreeState) → AreMessagesOf tries.old.replay c → e.at ≡ pending.asked → IsCountUpTo pending.most e.wrote →
-            (Contains origin.old.copy.placed e.at → ⊥) → EntrySteps origin.old.copy.tree new c e → IsFollowed c origin.old.copy e new self.new.work.items self.new.settled.items) }
+            (Contains origin.old.copy.placed e.at → ⊥) → EntrySteps origin.old.copy.tree new c e → IsFollowed c flight.now.at origin.old.copy e new self.new.work.items self.new.settled.items) }
         ensures origin { OnOk result (origin.new ≡ origin.old) }
         ensures same { tries.new.replay ≡ tries.old.replay }
     {
@@ -318,7 +321,7 @@ impl Settling {
         ensures settling { OnOk result (AreSettlingStill tries.old.replay flight.now.at asked self.old.work.items self.old.settled.items self.new.work.items self.new.settled.items) }
         ensures followed { OnOk result ((c : List Message) (count : ℕ) (new : TreeState) → AreMessagesOf tries.old.replay c → count ≤ most →
             EntrySteps origin.old.copy.tree new c (record { at = pending.asked; wrote = Some count }) →
-            IsFollowed c origin.old.copy (record { at = pending.asked; wrote = Some count }) new self.new.work.items self.new.settled.items) }
+            IsFollowed c flight.now.at origin.old.copy (record { at = pending.asked; wrote = Some count }) new self.new.work.items self.new.settled.items) }
         ensures origin { OnOk result (origin.new ≡ origin.old) }
         ensures same { tries.new.replay ≡ tries.old.replay }
     {
@@ -347,7 +350,7 @@ impl Settling {
         ensures settling { OnOk result (AreSettlingStill tries.old.replay flight.now.at asked self.old.work.items self.old.settled.items self.new.work.items self.new.settled.items) }
         ensures followed { OnOk result ((c : List Message) (new : TreeState) → AreMessagesOf tries.old.replay c →
             EntrySteps origin.old.copy.tree new c (record { at = pending.asked; wrote = wrote }) →
-            IsFollowed c origin.old.copy (record { at = pending.asked; wrote = wrote }) new self.new.work.items self.new.settled.items) }
+            IsFollowed c flight.now.at origin.old.copy (record { at = pending.asked; wrote = wrote }) new self.new.work.items self.new.settled.items) }
         ensures origin { OnOk result (origin.new ≡ origin.old) }
         ensures same { tries.new.replay ≡ tries.old.replay }
     {
@@ -393,8 +396,10 @@ fn copied(spending: &mut Spending, one: &Configuration) -> Result<Configuration,
     Ok(one.copy()?)
 }
 
-/// Places the requests in flight that leave each tree as it is, where they have a step, unless this one is placed already. The steps that
-/// are spent are for them, and for its number, which is reckoned next.
+/// Places the requests in flight that leave the tree as it is, and each later one, where they have a step, unless this one is placed already.
+/// The steps that are spent are for them, and for its number, which is reckoned next.
+///
+/// One pass is enough: none of them changes the tree, and none gives a node that was not known before.
 fn place_keeping(
     tries: &mut Tries<'_>,
     one: &mut Configuration,
@@ -413,36 +418,98 @@ fn place_keeping(
         return Ok(());
     }
     for pending in flight.requests.values() {
-        place_if_keeping(&mut tries.replay, one, *pending)?;
+        place_if_keeping(tries, one, *pending, flight)?;
     }
     Ok(())
 }
 
-/// Places a request if it leaves each tree as it is, is not placed and has a step.
+/// Places a request if it leaves the tree as it is, and each later one, is not placed and has a step.
 fn place_if_keeping(
-    replay: &mut Replay<'_>,
+    tries: &mut Tries<'_>,
     one: &mut Configuration,
     pending: Pending,
-) -> Result<(), AllocError>
-    requires { (at : ℕ) × IsInFlight replay.old.list at pending }
-    ensures further { OnOk result ((c : List Message) (at : ℕ) → AreMessagesOf replay.old c → IsInFlight replay.old.list at pending → IsFurther c at one.old one.new) }
-    ensures same { replay.new ≡ replay.old }
+    flight: &InFlight,
+) -> Result<(), Halt>
+    requires in_flight { IsInFlight tries.old.replay.list flight.now.at pending }
+    requires flight { IsFlight tries.old.replay.list flight.now }
+    ensures further { OnOk result ((c : List Message) → AreMessagesOf tries.old.replay c → IsFurther c flight.now.at one.old one.new) }
+    ensures same { tries.new.replay ≡ tries.old.replay }
 {
-    if !pending.keeps_trees || one.has(pending.asked) {
+    if one.has(pending.asked) {
         return Ok(());
     }
-    place_if_it_steps(replay, one, pending)
+    let idle = is_idle(&mut tries.spending, one, &pending, flight)?;
+    if idle {
+        return place_if_it_steps(&mut tries.replay, one, pending);
+    }
+    Ok(())
 }
 
-/// Places a request that leaves each tree as it is, if it has a step.
+/// Whether a request leaves the tree of this configuration as it is, and each later one, if it has a step from it: by what came of it, or
+/// since it gives nodes that a reply gave which came already, or one that a request gives which is placed. Where that is looked for, a step is
+/// spent for each request in flight.
+fn is_idle(
+    spending: &mut Spending,
+    one: &Configuration,
+    pending: &Pending,
+    flight: &InFlight,
+) -> Result<bool, Halt>
+    ensures { IfOk result (λ idle. IsTrue idle → IsToldIdle flight.now one.now pending.now) }
+{
+    if pending.keeps_trees {
+        return Ok(true);
+    }
+    match pending.gives_up_to {
+        None => Ok(false),
+        Some(reply) => {
+            if reply < flight.at {
+                return Ok(true);
+            }
+            spending.spend(flight.requests.len() as u64)?;
+            Ok(is_given_by_placed(one, pending, flight))
+        }
+    }
+}
+
+/// Whether the only node that a request gives is that of a request in flight that is placed.
+fn is_given_by_placed(one: &Configuration, pending: &Pending, flight: &InFlight) -> bool
+    ensures { IsTrue result → IsGivenByPlaced flight.now one.now pending.now }
+{
+    match pending.gives {
+        Some(name) => is_placed_giving(one, name, flight),
+        None => false,
+    }
+}
+
+/// Whether a request in flight gives this node, and no other, and is placed.
+fn is_placed_giving(one: &Configuration, name: NodeName, flight: &InFlight) -> bool
+    ensures { IsTrue result → (other : ThePending) × Contains (values_of flight.now.requests.entries) other × Contains one.now.placed other.asked × (other.gives ≡ Some name) }
+{
+    for other in flight.requests.values() {
+        if is_giver(one, other, name) {
+            return true;
+        }
+    }
+    false
+}
+
+/// Whether this request gives this node, and no other, and is placed.
+fn is_giver(one: &Configuration, other: &Pending, name: NodeName) -> bool
+    ensures { IsTrue result → Contains one.now.placed other.now.asked × (other.now.gives ≡ Some name) }
+{
+    other.gives(name) && one.has(other.asked)
+}
+
+/// Places a request that leaves the tree as it is, and each later one, if it has a step.
 fn place_if_it_steps(
     replay: &mut Replay<'_>,
     one: &mut Configuration,
     pending: Pending,
-) -> Result<(), AllocError>
+) -> Result<(), Halt>
     requires allowed { MayBePlacedAt replay.old.list pending.place (record { at = pending.asked; wrote = None }) }
     requires lacks { Contains one.old.placed pending.asked → ⊥ }
-    ensures further { OnOk result ((c : List Message) (at : ℕ) → AreMessagesOf replay.old c → IsInFlight replay.old.list at pending → IsTrue pending.keeps_trees → IsFurther c at one.old one.new) }
+    ensures further { OnOk result ((c : List Message) (at : ℕ) → AreMessagesOf replay.old c → IsInFlight replay.old.list at pending → IsCountUpTo pending.most None →
+        LeavesIfKnown c at one.old pending.asked → IsFurther c at one.old one.new) }
     ensures same { replay.new ≡ replay.old }
 {
     let entry = Entry {
@@ -452,7 +519,7 @@ fn place_if_it_steps(
     match one.place(replay, pending.place, entry) {
         Ok(()) => Ok(()),
         Err(StepError::Refused(_)) => Ok(()),
-        Err(StepError::Memory) => Err(AllocError),
+        Err(StepError::Memory) => Err(Halt::Memory),
     }
 }
 

@@ -1,14 +1,17 @@
 -- How far a search has come at a message: all tree requests that were answered before it are placed, in some order, and of those in flight
 -- some are. Only which of these are, and the tree, matters for what may come behind it.
-use Rattle.std.specs.Prelude.{◌≡◌, ◌≢◌, ◌↔◌, ◌⊎◌, ℕ, ◌<◌, ◌≤◌, false, List, [], Contains, Option, Some, None}
+use Rattle.std.specs.Prelude.{◌≡◌, ◌≢◌, ◌↔◌, ◌⊎◌, ℕ, ◌<◌, ◌≤◌, false, List, [], Contains, All, Option, Some, None}
 use Rattle.fa_capture.specs.Message.{Message}
 use Rattle.fa_session.specs.Answers.{IsAnsweredBy}
 use Rattle.fa_ledger.specs.Calls.{PlainAnswer, PlainCall}
+use Rattle.fa_ledger.specs.declared.name.NodeName.{NodeName}
+use Rattle.fa_ledger.specs.declared.name.NodeName.TheVariants.{Root, Given}
 use Rattle.fa_ledger.specs.Kinds.{IsFailure, OnlyReads}
 use Rattle.fa_ledger.specs.Operations.{PlainOperation, ended}
 use Rattle.fa_ledger.specs.Operations.PlainAction.{Write}
 use Rattle.fa_ledger.specs.Operations.PlainOperation.{Acts}
-use Rattle.fa_tree.specs.State.{TreeState}
+use Rattle.fa_tree.specs.declared.id.FileId.{FileId}
+use Rattle.fa_tree.specs.State.{TreeState, file_of}
 use Rattle.fa_tree.specs.Steps.{names_given, opens_anew}
 use Rattle.fa_order.specs.declared.entry.Entry.{Entry}
 use Rattle.fa_check.specs.Orders.{IsTreeRequestAt, IsChoice, numbers}
@@ -109,34 +112,70 @@ pub record AreHeld (c : List Message) (first : TreeState) (at : ℕ) (held : Lis
 
 -- ---- requests that leave the tree
 
--- a step of the request at p leaves each tree as it is
-abbrev pub LeavesTrees : List Message → (p : ℕ) → Type 0
-LeavesTrees c p = (old new : TreeState) (e : Entry) → e.at ≡ p → EntrySteps old new c e → new ≡ old
-
--- by what came of it the call does so: it failed; or it only reads, its answer gives no node, and it opens no directory anew
+-- by what came of it the call leaves each tree as it is: it failed; or it only reads, its answer gives no node, and it opens no directory anew
 abbrev pub KeepsTrees : PlainCall → Type 0
 KeepsTrees call = IsFailure (ended call.operation) ⊎ (OnlyReads call.operation × (names_given call ≡ []) × (opens_anew call ≡ false))
 
+-- the node was given first by this reply or an earlier one; the root is never given
+abbrev pub IsGivenUpTo : (reply : ℕ) → NodeName → Type 0
+IsGivenUpTo reply Root = ⊥
+IsGivenUpTo reply (Given by id) = by ≤ reply
+
+-- the call only reads and opens no directory anew, and each node that its answer gives was given first by this reply or an earlier one
+abbrev pub GivesUpTo : (reply : ℕ) → PlainCall → Type 0
+GivesUpTo reply call = OnlyReads call.operation × (opens_anew call ≡ false) × All (IsGivenUpTo reply) (names_given call)
+
+-- the tree knows the node: its name stands for a file
+abbrev pub IsKnown : NodeName → TreeState → Type 0
+IsKnown name tree = (file : FileId) × (file_of tree name ≡ Some file)
+
+-- behind its step the request at p has the tree know the node
+abbrev pub MakesKnown : List Message → (p : ℕ) → NodeName → Type 0
+MakesKnown c p name = (old new : TreeState) (e : Entry) → e.at ≡ p → EntrySteps old new c e → IsKnown name new
+
+-- The tree knows what was given: each node that was made known by a request which was answered before this message, or by one of these.
+abbrev pub KnowsGiven : List Message → (at : ℕ) → (Placed : ℕ → Type 0) → TreeState → Type 0
+KnowsGiven c at Placed tree = (p : ℕ) (name : NodeName) → IsAnsweredTree c at p ⊎ Placed p → MakesKnown c p name → IsKnown name tree
+
+-- a step of the request at p leaves this tree as it is, and each to which entries lead from it
+abbrev pub LeavesFrom : List Message → TreeState → (p : ℕ) → Type 0
+LeavesFrom c tree p = (es : List Entry) (later new : TreeState) (e : Entry) → Runs tree later c es → e.at ≡ p → EntrySteps later new c e → new ≡ later
+
+-- it does so from the tree of the configuration, if that knows what was given
+abbrev pub LeavesIfKnown : List Message → (at : ℕ) → PlainConfiguration → (p : ℕ) → Type 0
+LeavesIfKnown c at x p = KnowsGiven c at (Contains x.placed) x.tree → LeavesFrom c x.tree p
+
+-- The request at p has a step from the tree, and leaves it as it is, and each to which entries lead from it.
+pub record IsIdleIn (c : List Message) (tree : TreeState) (p : ℕ) : Type 0 where
+  pub entry : Entry
+  pub number : entry.at ≡ p
+  pub steps : EntrySteps tree tree c entry
+  pub leaves : LeavesFrom c tree p
+
 -- The configuration has this tree, and of the requests in flight those are placed in it that are answered at any time, and of others only
--- such as leave each tree. So whatever goes on where these requests are placed goes on from it: those that leave each tree may be placed at
--- once, and those without an answer later.
+-- such as leave this tree and each later one. So whatever goes on where these requests are placed goes on from it: those that leave the tree
+-- may be placed at once, and those without an answer later.
 pub record IsAhead (c : List Message) (Placed : ℕ → Type 0) (tree : TreeState) (x : PlainConfiguration) : Type 0 where
   pub same : x.tree ≡ tree
   pub all : (p q : ℕ) → IsAnsweredBy c p q → Placed p → Contains x.placed p
-  pub others : (p : ℕ) → Contains x.placed p → Placed p ⊎ LeavesTrees c p
+  pub others : (p : ℕ) → Contains x.placed p → Placed p ⊎ IsIdleIn c tree p
+
+-- it is so if the tree knows what was given
+abbrev pub IsAheadIfKnown : List Message → (at : ℕ) → (Placed : ℕ → Type 0) → TreeState → PlainConfiguration → Type 0
+IsAheadIfKnown c at Placed tree x = KnowsGiven c at Placed tree → IsAhead c Placed tree x
 
 -- ---- what is settled where a reply comes
 
 -- one of these two lists has what the entry leads to from the configuration, or what is ahead of that
-pub record IsFollowed (c : List Message) (x : PlainConfiguration) (e : Entry) (new : TreeState) (work settled : List PlainConfiguration) : Type 0 where
+pub record IsFollowed (c : List Message) (at : ℕ) (x : PlainConfiguration) (e : Entry) (new : TreeState) (work settled : List PlainConfiguration) : Type 0 where
   pub to : PlainConfiguration
   pub there : Contains work to ⊎ Contains settled to
-  pub ahead : IsAhead c (OrThis (Contains x.placed) e.at) new to
+  pub ahead : IsAheadIfKnown c at (OrThis (Contains x.placed) e.at) new to
 
 -- whatever may be tried from the configuration, and has a step, leads to one of these
 abbrev pub IsSpent : List Message → (at : ℕ) → PlainConfiguration → (work settled : List PlainConfiguration) → Type 0
 IsSpent c at x work settled =
-    (e : Entry) (new : TreeState) → MayBeTried c at e → (Contains x.placed e.at → ⊥) → EntrySteps x.tree new c e → IsFollowed c x e new work settled
+    (e : Entry) (new : TreeState) → MayBeTried c at e → (Contains x.placed e.at → ⊥) → EntrySteps x.tree new c e → IsFollowed c at x e new work settled
 
 -- Two lists of configurations while the request at `asked` is settled, which was answered: it is not placed in those of the first, and is in
 -- those of the second. Each that was held is among them, and entries come to each.

@@ -1,11 +1,14 @@
 -- Which requests are in flight at a message, as a search keeps them.
-use Rattle.std.specs.Prelude.{◌≡◌, ◌⊎◌, ℕ, ◌<◌, ◌≤◌, true, false, List, Contains, All, slice_get, Option, None, Some, IsTrue}
+use Rattle.std.specs.Prelude.{◌≡◌, ◌⊎◌, ℕ, ◌<◌, ◌≤◌, true, false, List, [], ◌∷◌, Contains, All, slice_get, Option, None, Some, IsTrue, IfSome}
+use Rattle.std.specs.Map.{values_of}
+use Rattle.fa_ledger.specs.declared.name.NodeName.{NodeName}
 use Rattle.fa_ledger.specs.Kinds.{OnlyReads}
 use Rattle.fa_ledger.specs.Calls.{PlainAnswer, PlainCall}
+use Rattle.fa_tree.specs.Steps.{names_given}
 use Rattle.fa_search.specs.declared.flight.Due.{Due}
 use Rattle.fa_search.specs.declared.flight.Pending.{Pending}
 use Rattle.fa_search.specs.declared.flight.InFlight.{InFlight}
-use Rattle.fa_search.specs.parts.Configurations.{IsCallPending, KeepsTrees, most_written}
+use Rattle.fa_search.specs.parts.Configurations.{PlainConfiguration, IsCallPending, KeepsTrees, GivesUpTo, most_written}
 
 -- when a call with this answer is answered
 abbrev pub due_by : Option PlainAnswer → (asked : ℕ) → Due
@@ -22,6 +25,8 @@ pub record IsPendingOf (place : ℕ) (call : PlainCall) (pending : Pending) : Ty
   pub unanswered : IsTrue pending.unanswered → call.answer ≡ None
   pub most : pending.most ≡ most_written call.answer call.operation
   pub keeps : IsTrue pending.keeps_trees → KeepsTrees call
+  pub up_to : IfSome pending.gives_up_to (λ reply. GivesUpTo reply call)
+  pub gives : IfSome pending.gives (λ name. names_given call ≡ name ∷ [])
 
 -- it is a call in flight at this message that an order may name
 pub record IsInFlight (calls : List PlainCall) (at : ℕ) (pending : Pending) : Type 0 where
@@ -41,6 +46,19 @@ pub record IsFlight (calls : List PlainCall) (flight : InFlight) : Type 0 where
 -- no request is in flight but that of the call at this place
 abbrev pub IsAlone : InFlight → (place : ℕ) → Type 0
 IsAlone flight place = All (λ e. e.1.place ≡ place) flight.requests.entries
+
+-- The request gives one node alone, and so does one in flight that is placed in the configuration, the same node.
+abbrev pub IsGivenByPlaced : InFlight → PlainConfiguration → Pending → Type 0
+IsGivenByPlaced flight x pending =
+    (other : Pending) × (name : NodeName) × Contains (values_of flight.requests.entries) other × Contains x.placed other.asked
+    × (other.gives ≡ Some name) × (pending.gives ≡ Some name)
+
+-- What is kept of the request says that it leaves the tree of the configuration, if it has a step from it: by what came of it, or since what
+-- it gives was given by a reply that came already, or by a request that is placed.
+abbrev pub IsToldIdle : InFlight → PlainConfiguration → Pending → Type 0
+IsToldIdle flight x pending =
+    IsTrue pending.keeps_trees
+    ⊎ ((reply : ℕ) × (pending.gives_up_to ≡ Some reply) × ((reply < flight.at) ⊎ IsGivenByPlaced flight x pending))
 
 -- the call was sent, by when it is answered: it is among them, with the others of before
 pub record IsAmongNow (place : ℕ) (call : PlainCall) (old new : List (Due × Pending)) : Type 0 where

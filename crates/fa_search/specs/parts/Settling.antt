@@ -14,7 +14,7 @@ use Rattle.fa_search.specs.declared.searching.Ended.{Ended}
 use Rattle.fa_search.specs.declared.searching.Ended.TheVariants.{Order}
 use Rattle.fa_search.specs.parts.Flight.{IsFlight}
 use Rattle.fa_search.specs.parts.Placed.{IsPlacedIn, IsSameAs}
-use Rattle.fa_search.specs.parts.Configurations.{PlainConfiguration, IsPending, IsReached, AreHeld, IsAhead, AreSettling, AreSpent, IsWithout}
+use Rattle.fa_search.specs.parts.Configurations.{PlainConfiguration, IsPending, IsReached, AreHeld, IsAheadIfKnown, AreSettling, AreSpent, IsWithout}
 
 -- the entries that all have in common, and then its own, come to the configuration
 abbrev pub IsTraced : List Message → (first : TreeState) → (common : List Entry) → (at : ℕ) → PlainConfiguration → Type 0
@@ -48,14 +48,14 @@ pub record IsSettled (c : List Message) (first : TreeState) (common : List Entry
 
 -- The configuration is ahead of another, and what came to that comes to it.
 pub record IsFurther (c : List Message) (at : ℕ) (old new : PlainConfiguration) : Type 0 where
-  pub ahead : IsAhead c (Contains old.placed) old.tree new
+  pub ahead : IsAheadIfKnown c at (Contains old.placed) old.tree new
   pub traced : (first : TreeState) (common : List Entry) → IsTraced c first common at old → IsTraced c first common at new
 
 -- one of the two lists has what is ahead of this one
-pub record IsIn (c : List Message) (x : PlainConfiguration) (work settled : List PlainConfiguration) : Type 0 where
+pub record IsIn (c : List Message) (at : ℕ) (x : PlainConfiguration) (work settled : List PlainConfiguration) : Type 0 where
   pub to : PlainConfiguration
   pub there : Contains work to ⊎ Contains settled to
-  pub ahead : IsAhead c (Contains x.placed) x.tree to
+  pub ahead : IsAheadIfKnown c at (Contains x.placed) x.tree to
 
 -- the two lists grew at their ends
 pub record AreGrown (work settled more further : List PlainConfiguration) : Type 0 where

@@ -21,7 +21,7 @@ loop-one-preserved c =
     record {
       same = c.take_in.ensures.same ∙ before.same;
       taken = λ m are.
-          taken_in_more m c.loop-one.yielded c.loop-one.settling.work.items c.loop-one.settling.settled.items c.take_in.new.self.work.items c.take_in.new.self.settled.items c.in-Some.one
+          taken_in_more m c.args.flight.now.at c.loop-one.yielded c.loop-one.settling.work.items c.loop-one.settling.settled.items c.take_in.new.self.work.items c.take_in.new.self.settled.items c.in-Some.one
           c.in_ok-take_in.ensures.grown (c.in_ok-take_in.ensures.taken m (subst (λ (calls : Calls). AreMessagesOf calls m) (sym before.same) are)) (before.taken m are);
       settling = λ m first common are traced.
           c.in_ok-take_in.ensures.settling m first common [] (subst (λ (calls : Calls). AreMessagesOf calls m) (sym before.same) are)
@@ -37,7 +37,7 @@ loop-next-init c =
     record {
       within = omega arith;
       same = before.same;
-      taken = λ m are. subst (λ (xs : List PlainConfiguration). AreTakenIn m xs c.loop-one.settling.work.items c.loop-one.settling.settled.items) all (before.taken m are);
+      taken = λ m are. subst (λ (xs : List PlainConfiguration). AreTakenIn m c.args.flight.now.at xs c.loop-one.settling.work.items c.loop-one.settling.settled.items) all (before.taken m are);
       settling = before.settling;
       spent = λ m are x has. absurd (omega (arith, has.1));
     }
@@ -55,7 +55,7 @@ loop-next-preserved c =
     record {
       within = (let is : length more ≡ length work + length grown.behind = ap length grown.work_is ∙ length-append work grown.behind in omega (arith, is, below));
       same = c.try_from.ensures.same ∙ before.same;
-      taken = λ m are. taken_still m c.args.held.items work settled more further grown (before.taken m are);
+      taken = λ m are. taken_still m c.args.flight.now.at c.args.held.items work settled more further grown (before.taken m are);
       settling = λ m first common are traced.
           c.in_ok-try_from.ensures.settling m first common [] (subst (λ (calls : Calls). AreMessagesOf calls m) (sym before.same) are) (before.settling m first common are traced);
       spent = λ m are.

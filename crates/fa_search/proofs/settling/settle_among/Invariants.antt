@@ -12,7 +12,7 @@ use Rattle.fa_search.proofs.settling.settle_among.Given as goal
 abbrev pub invariant-loop-one : goal.invariant-loop-one
 invariant-loop-one l = record {
   same : l.tries.replay ≡ l.fn.tries.replay;
-  taken : (c : List Message) → AreMessagesOf l.fn.tries.replay c → AreTakenIn c l.yielded l.settling.work.items l.settling.settled.items;
+  taken : (c : List Message) → AreMessagesOf l.fn.tries.replay c → AreTakenIn c l.flight.at l.yielded l.settling.work.items l.settling.settled.items;
   settling : (c : List Message) (first : TreeState) (common : List Entry) → AreMessagesOf l.fn.tries.replay c
       → ((x : PlainConfiguration) → Contains l.fn.held.items x → IsTraced c first common l.flight.at x)
       → AreSettlingBy c first common l.flight.at l.asked.asked [] l.settling.work.items l.settling.settled.items;
@@ -22,7 +22,7 @@ abbrev pub invariant-loop-next : goal.invariant-loop-next
 invariant-loop-next l = record {
   within : l.next ≤ length l.settling.work.items;
   same : l.tries.replay ≡ l.fn.tries.replay;
-  taken : (c : List Message) → AreMessagesOf l.fn.tries.replay c → AreTakenIn c l.fn.held.items l.settling.work.items l.settling.settled.items;
+  taken : (c : List Message) → AreMessagesOf l.fn.tries.replay c → AreTakenIn c l.flight.at l.fn.held.items l.settling.work.items l.settling.settled.items;
   settling : (c : List Message) (first : TreeState) (common : List Entry) → AreMessagesOf l.fn.tries.replay c
       → ((x : PlainConfiguration) → Contains l.fn.held.items x → IsTraced c first common l.flight.at x)
       → AreSettlingBy c first common l.flight.at l.asked.asked [] l.settling.work.items l.settling.settled.items;

@@ -21,10 +21,10 @@ returns-clause-taken c =
     let new = c.put.new.self in
     let x = c.reckon.new.self in
     let at = c.args.flight.now.at in
-    on_ok c.hold.result ((messages : List Message) → AreMessagesOf c.args.tries.now.replay messages → IsIn messages c.args.one new.work.items new.settled.items) (λ messages are.
+    on_ok c.hold.result ((messages : List Message) → AreMessagesOf c.args.tries.now.replay messages → IsIn messages at c.args.one new.work.items new.settled.items) (λ messages are.
     let further : IsFurther messages at c.args.one x = subst (λ (y : PlainConfiguration). IsFurther messages at c.args.one y) (sym c.reckon.ensures) (c.in_ok-place_keeping.ensures.further messages are) in
     in_further messages at c.args.one x new.work.items new.settled.items further
-    (put_in c.args.asked x old.work.items old.settled.items new.work.items new.settled.items c.in_ok-put.ensures messages))
+    (put_in c.args.asked x old.work.items old.settled.items new.work.items new.settled.items c.in_ok-put.ensures messages at))
 
 pub returns-clause-settling : goal.returns-clause-settling
 returns-clause-settling c =

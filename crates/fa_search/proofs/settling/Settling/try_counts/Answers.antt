@@ -54,16 +54,16 @@ settling_now c =
     λ messages first common held are settling. still messages first common held are (c.loop-count.invariant.3 messages first common held are settling)
 
 followed_now : (c : In_ok-try_entry)
-    → FollowsCounts c.args.tries.now.replay c.args.origin.now.copy c.args.pending.asked (c.loop-count.count + 1) c.try_entry.new.self.work.items c.try_entry.new.self.settled.items
+    → FollowsCounts c.args.tries.now.replay c.args.flight.now.at c.args.origin.now.copy c.args.pending.asked (c.loop-count.count + 1) c.try_entry.new.self.work.items c.try_entry.new.self.settled.items
 followed_now c =
     let old = c.loop-count.self in
     let new = c.try_entry.new.self in
     let count = c.loop-count.count in
     let e : Entry = record { at = c.args.pending.asked; wrote = Some count } in
-    let follows : FollowsEntry c.args.tries.now.replay c.args.origin.now.copy e new.work.items new.settled.items =
-    subst (λ (k : Calls). FollowsEntry k c.args.origin.now.copy e new.work.items new.settled.items) c.loop-count.invariant.0
-    (subst (λ (o : Origin). FollowsEntry c.loop-count.tries.replay o.copy e new.work.items new.settled.items) c.loop-count.invariant.1 c.in_ok-try_entry.ensures.followed) in
-    counts_more c.args.tries.now.replay c.args.origin.now.copy old.work.items old.settled.items new.work.items new.settled.items c.in_ok-try_entry.ensures.grown c.args.pending.asked count
+    let follows : FollowsEntry c.args.tries.now.replay c.args.flight.now.at c.args.origin.now.copy e new.work.items new.settled.items =
+    subst (λ (k : Calls). FollowsEntry k c.args.flight.now.at c.args.origin.now.copy e new.work.items new.settled.items) c.loop-count.invariant.0
+    (subst (λ (o : Origin). FollowsEntry c.loop-count.tries.replay c.args.flight.now.at o.copy e new.work.items new.settled.items) c.loop-count.invariant.1 c.in_ok-try_entry.ensures.followed) in
+    counts_more c.args.tries.now.replay c.args.flight.now.at c.args.origin.now.copy old.work.items old.settled.items new.work.items new.settled.items c.in_ok-try_entry.ensures.grown c.args.pending.asked count
     c.loop-count.invariant.4 follows
 
 pub returns-in_err-try_entry-clause-same : goal.returns-in_err-try_entry-clause-same

@@ -59,15 +59,15 @@ loop-pending-preserved c =
     let steps = c.in-Some.ensures.steps in
     let still : AreSettlingStill calls at asked old.work.items old.settled.items new.work.items new.settled.items =
     subst (λ (k : Calls). AreSettlingStill k at asked old.work.items old.settled.items new.work.items new.settled.items) c.loop-pending.invariant.0 c.in_ok-try_request.ensures.settling in
-    let follows : FollowsPending calls x pending new.work.items new.settled.items =
-    subst (λ (k : Calls). FollowsPending k x pending new.work.items new.settled.items) c.loop-pending.invariant.0
-    (subst (λ (o : Origin). FollowsPending c.loop-pending.tries.replay o.copy pending new.work.items new.settled.items) c.loop-pending.invariant.1 c.in_ok-try_request.ensures.followed) in (
+    let follows : FollowsPending calls at x pending new.work.items new.settled.items =
+    subst (λ (k : Calls). FollowsPending k at x pending new.work.items new.settled.items) c.loop-pending.invariant.0
+    (subst (λ (o : Origin). FollowsPending c.loop-pending.tries.replay at o.copy pending new.work.items new.settled.items) c.loop-pending.invariant.1 c.in_ok-try_request.ensures.followed) in (
       c.try_request.ensures.same ∙ c.loop-pending.invariant.0,
       c.in_ok-try_request.ensures.origin ∙ c.loop-pending.invariant.1,
       grown_more before.work.items before.settled.items old.work.items old.settled.items new.work.items new.settled.items c.loop-pending.invariant.2 c.in_ok-try_request.ensures.grown,
       λ messages first common held are settling. still messages first common held are (c.loop-pending.invariant.3 messages first common held are settling),
       rest_in_flight calls.list at left pending rest steps c.loop-pending.invariant.4,
-      tried_more calls x all left rest pending old.work.items old.settled.items new.work.items new.settled.items c.in_ok-try_request.ensures.grown steps follows c.loop-pending.invariant.5,
+      tried_more calls at x all left rest pending old.work.items old.settled.items new.work.items new.settled.items c.in_ok-try_request.ensures.grown steps follows c.loop-pending.invariant.5,
     )
 
 pub returns-clause-grown : goal.returns-clause-grown
@@ -85,7 +85,7 @@ returns-clause-spent c =
     let all = values_of flight.requests.entries in
     let none : c.loop-pending.pending-iterator ≡ [] = c.in-None.ensures.steps.0 in
     all_tried_spent calls flight x new.work.items new.settled.items c.requires.flight
-    (subst (λ (l : List Pending). AreTriedOrLeft calls x all l new.work.items new.settled.items) none c.loop-pending.invariant.5)
+    (subst (λ (l : List Pending). AreTriedOrLeft calls flight.at x all l new.work.items new.settled.items) none c.loop-pending.invariant.5)
 
 pub returns-clause-same : goal.returns-clause-same
 returns-clause-same c = c.loop-pending.invariant.0

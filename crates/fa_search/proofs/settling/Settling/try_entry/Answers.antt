@@ -47,7 +47,7 @@ returns-then-has_same_tree-clause-followed c = λ messages new are steps.
     let one = c.replace-one.result in
     let placed : IsPlacedIn messages x e one = subst (λ (y : PlainConfiguration). IsPlacedIn messages x e y) (sym c.replace-one.ensures.value) (c.in-Ok.ensures.placed messages are) in
     let trees : one.tree ≡ x.tree = c.has_same_tree.ensures c.if-has_same_tree.true ∙ ap (λ (y : PlainConfiguration). y.tree) from in
-    kept_followed messages x e one placed work c.args.self.now.settled.items
+    kept_followed messages c.args.flight.now.at x e one placed work c.args.self.now.settled.items
     (never_answered messages c.args.tries.now.replay.list are.are c.args.flight.now.at c.args.pending c.requires.pending c.if-pending.true) trees (get_there work place x c.requires.origin) new steps
 
 pub returns-then-has_same_tree-clause-origin : goal.returns-then-has_same_tree-clause-origin
@@ -89,11 +89,11 @@ returns-clause-followed c =
     let e : Entry = record { at = c.args.pending.asked; wrote = c.args.wrote } in
     let calls = c.args.tries.now.replay in
     let one = c.replace-one.result in
-    on_ok_weaker {P = (messages : List Message) → AreMessagesOf c.place.new.replay messages → IsIn messages one new.work.items new.settled.items}
-    {Q = (messages : List Message) (tree : TreeState) → AreMessagesOf calls messages → EntrySteps x.tree tree messages e → IsFollowed messages x e tree new.work.items new.settled.items} c.take_in.result
+    on_ok_weaker {P = (messages : List Message) → AreMessagesOf c.place.new.replay messages → IsIn messages c.args.flight.now.at one new.work.items new.settled.items}
+    {Q = (messages : List Message) (tree : TreeState) → AreMessagesOf calls messages → EntrySteps x.tree tree messages e → IsFollowed messages c.args.flight.now.at x e tree new.work.items new.settled.items} c.take_in.result
     (λ taken. λ messages tree are steps.
     let placed : IsPlacedIn messages x e one = subst (λ (y : PlainConfiguration). IsPlacedIn messages x e y) (sym c.replace-one.ensures.value) (c.in-Ok.ensures.placed messages are) in
-    taken_followed messages x e one placed new.work.items new.settled.items (taken messages (subst (λ (k : Calls). AreMessagesOf k messages) (sym c.place.ensures.same) are)) tree steps) c.take_in.ensures.taken
+    taken_followed messages c.args.flight.now.at x e one placed new.work.items new.settled.items (taken messages (subst (λ (k : Calls). AreMessagesOf k messages) (sym c.place.ensures.same) are)) tree steps) c.take_in.ensures.taken
 
 pub returns-clause-origin : goal.returns-clause-origin
 returns-clause-origin c =

@@ -17,8 +17,8 @@ returns-in-None-clause-followed c =
     let x = c.args.origin.now.copy in
     let pending = c.args.pending in
     let new = c.try_entry.new.self in
-    on_ok_weaker {P = FollowsEntry calls x (record { at = pending.asked; wrote = None }) new.work.items new.settled.items} {Q = FollowsPending calls x pending new.work.items new.settled.items}
-    c.try_entry.result (without_followed calls x pending new.work.items new.settled.items c.in-None.is) c.try_entry.ensures.followed
+    on_ok_weaker {P = FollowsEntry calls c.args.flight.now.at x (record { at = pending.asked; wrote = None }) new.work.items new.settled.items} {Q = FollowsPending calls c.args.flight.now.at x pending new.work.items new.settled.items}
+    c.try_entry.result (without_followed calls c.args.flight.now.at x pending new.work.items new.settled.items c.in-None.is) c.try_entry.ensures.followed
 
 pub returns-in-Some-clause-followed : goal.returns-in-Some-clause-followed
 returns-in-Some-clause-followed c =
@@ -30,5 +30,5 @@ returns-in-Some-clause-followed c =
     on_ok_weaker
     {P = (messages : List Message) (count : ℕ) (tree : TreeState) → AreMessagesOf calls messages → count ≤ most
     → EntrySteps x.tree tree messages (record { at = pending.asked; wrote = Some count })
-    → IsFollowed messages x (record { at = pending.asked; wrote = Some count }) tree new.work.items new.settled.items} {Q = FollowsPending calls x pending new.work.items new.settled.items}
-    c.try_counts.result (counts_followed calls x pending new.work.items new.settled.items most c.in-Some.is) c.try_counts.ensures.followed
+    → IsFollowed messages c.args.flight.now.at x (record { at = pending.asked; wrote = Some count }) tree new.work.items new.settled.items} {Q = FollowsPending calls c.args.flight.now.at x pending new.work.items new.settled.items}
+    c.try_counts.result (counts_followed calls c.args.flight.now.at x pending new.work.items new.settled.items most c.in-Some.is) c.try_counts.ensures.followed
