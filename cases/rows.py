@@ -2,6 +2,8 @@
 
 STATUS = {"good": 0, "proposed": 0, "legal": 0, "judged legal": 0, "fault": 1, "not shown": 2, "tree": 3, "order": 3, "no order": 6,
           "gave up": 7}
+# What the second line of those begins with that `judge` prints of a capture without an order.
+ALONE = "the first "
 
 
 def order_text(entries):
@@ -10,11 +12,12 @@ def order_text(entries):
 
 
 class Row:
-    """A row: its own lines, of which the last is what is expected, and all lines in front of that, those that the rows of the text
-    share first."""
+    """A row: its own lines, of which the last is what is expected, or the last two, and all lines in front of that, those that the rows
+    of the text share first."""
 
     def __init__(self, shared, own):
-        self.own, self.lines, self.expected = own, shared + own[:-1], own[-1] if own else ""
+        expected = own[-2:] if own and own[-1].startswith(ALONE) else own[-1:]
+        self.own, self.lines, self.expected = own, shared + own[:len(own) - len(expected)], "\n".join(expected)
 
     def behind(self, word):
         """What stands behind this word on the lines that begin with it."""

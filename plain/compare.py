@@ -5,7 +5,8 @@ usage: plain/compare.py PROGRAM [FOLDER..] [--most N] [--places N] [--seconds N]
        plain/compare.py PROGRAM --made SEED COUNT [--most N] [--places N] [--seconds N]
 
 A FOLDER has NAME.cap, NAME.tree and NAME.order; without one, the cases are those of ../cases. Where the plain judge decides a capture,
-the line and the status of the program's `judge` have to be the same. How many entries are placed may differ, since several orders may
+the lines and the status of the program's `judge` have to be the same; the second line, of the first messages that alone have no order,
+where these are not too large for the plain judge. How many entries are placed may differ, since several orders may
 be legal: the one that `search` prints has to be legal by the plain judge, with the line of `judge`, and that of the plain judge by
 `check`. Where a capture is too large to be decided, the order that `search` prints has to be legal by `check` of both. Where there is
 an order, `check` has to print what the plain judge says of it.
@@ -64,8 +65,22 @@ def folder_of(path):
 
 
 def kind_of(line):
-    """What a line says, without its numbers but for the code."""
+    """What a line says, without its numbers but for the code; of two lines the first."""
+    line = line.partition("\n")[0]
     return re.sub(r"(message|entry|line) \d+: ", "", line) if not LEGAL.fullmatch(line) else "legal"
+
+
+def how_far(said):
+    """How the number of the first messages that alone have no order stands to the message past which none goes."""
+    if "\n" not in said:
+        return "of the first messages alone nothing is told"
+    at, count = (int(re.search(before + r" (\d+)", said)[1]) for before in ("message", "the first"))
+    return "the first messages up to and with it have none" if count == at + 1 else "more messages alone have none than those up to it"
+
+
+def is_same(ours, theirs):
+    """Whether the program says what the plain judge says, which leaves out a second line that it can't tell."""
+    return ours == theirs or "\n" not in ours and ours == theirs.partition("\n")[0]
 
 
 class Comparison:
@@ -122,9 +137,11 @@ class Comparison:
         kind = f"judge: {kind_of(line)}"
         if status == judge.TOO_LARGE:
             kind += ", by the program: " + kind_of(found)
-        elif found_status != GAVE_UP and (found_status != status or status != judge.LEGAL and found != line):
+        elif found_status != GAVE_UP and (found_status != status or status != judge.LEGAL and not is_same(line, found)):
             self.differs(name, "judge", (line, status), (found, found_status))
         self.kinds[kind] += 1
+        if status == judge.NO_ORDER:
+            self.kinds["no order: " + how_far(line)] += 1
         if found_status == GAVE_UP:
             self.gave_up(name, found)
         if found_status == judge.LEGAL:

@@ -1,10 +1,12 @@
 #!/usr/bin/env python3
-"""Judges a small capture by trying all orders, from docs/model.md and docs/formats.md alone, and prints the line that the audit prints.
+"""Judges a small capture by trying all orders, from docs/model.md and docs/formats.md alone, and prints what the audit prints: a line, and
+behind `no order` that of the first messages that alone have none.
 
 usage: plain/judge.py CAPTURE [--tree FILE] [--order FILE] [--most N] [--places N]
 
 With --order it says what that order is, as `check` does; without, whether any order is legal, as `judge` does. A capture with more
-than N tree requests (9 where nothing is said) is `too large`, status 8, and so is one whose orders lead to too many places.
+than N tree requests (9 where nothing is said) is `too large`, status 8, and so is one whose orders lead to too many places. Where the
+first messages are too large, their line is left out.
 """
 import argparse
 import sys
@@ -12,7 +14,7 @@ import sys
 import orders
 import texts
 from codes import told
-from ledger import ledger_of
+from ledger import ledger_of, ledger_of_front
 from tree import empty_tree
 
 LEGAL, FAULT, NOT_SHOWN, NO_TEXT, NO_ORDER, TOO_LARGE = 0, 1, 2, 3, 6, 8
@@ -23,7 +25,7 @@ class Judged:
     order, when one was found."""
 
     def __init__(self, capture, tree_text=None):
-        self.order = None
+        self.capture, self.order = capture, None
         self.ledger, fault = ledger_of(capture)
         self.line = f"fault: message {fault[0]}: {told(fault[1])}" if fault else None
         self.status = FAULT if fault else LEGAL
@@ -53,7 +55,7 @@ class Judged:
         return self.legal(entries), LEGAL
 
     def judge(self, limits=orders.Limits()):
-        """The line and the status of all orders."""
+        """What is printed of all orders, and the status."""
         if self.line:
             return self.line, self.status
         try:
@@ -61,9 +63,22 @@ class Judged:
         except orders.TooLarge:
             return "too large", TOO_LARGE
         if isinstance(answer, orders.Stop):
-            return f"no order: message {answer.message}: {told(answer.code)}", NO_ORDER
+            return "\n".join([f"no order: message {answer.message}: {told(answer.code)}", *self.alone(limits)]), NO_ORDER
         self.order = texts.text_of(answer).encode("ascii")
         return self.legal(answer), LEGAL
+
+    def alone(self, limits):
+        """The line that tells how many of the first messages have no order alone: docs/model.md, 'Messages without an order'. Each number
+        of them is tried, from none on."""
+        try:
+            count = next(count for count in range(self.ledger.number + 1) if self.is_without_order(count, limits))
+        except orders.TooLarge:
+            return []
+        return [f"the first {count} messages alone have no order"]
+
+    def is_without_order(self, count, limits):
+        """Whether so many first messages, as a capture of their own, have no order."""
+        return isinstance(orders.answer_of(ledger_of_front(self.capture, count).calls, self.tree, limits), orders.Stop)
 
 
 def content(path):
@@ -81,10 +96,10 @@ def main():
     given = parser.parse_args()
     judged = Judged(content(given.capture), content(given.tree) if given.tree else None)
     if given.order:
-        line, status = judged.check(content(given.order))
+        said, status = judged.check(content(given.order))
     else:
-        line, status = judged.judge(orders.Limits(requests=given.most, places=given.places))
-    print(line)
+        said, status = judged.judge(orders.Limits(requests=given.most, places=given.places))
+    print(said)
     return status
 
 

@@ -245,3 +245,11 @@ def ledger_of(capture):
         except Refused as refused:
             return ledger, (ledger.number, refused.code)
     return ledger, (len(found), fault) if fault else None
+
+
+def ledger_of_front(capture, count):
+    """The ledger of the first messages of a good capture, so many, as a capture of their own."""
+    ledger = Ledger()
+    for direction, message in framing.messages_of(capture)[0][:count]:
+        ledger.take(direction, message)
+    return ledger

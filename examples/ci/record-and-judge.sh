@@ -9,7 +9,7 @@
 # recording left there is replaced.
 # FA_AUDIT is the auditor, 'fa_audit' on the path, and KIGZELT a clone of its repository, the one that this file is in.
 #
-# The verdict is the last line. The status is that of 'fa_audit judge', which is
+# The verdict is the last line; where no order explains the replies it is the last two. The status is that of 'fa_audit judge', which is
 #   0    some order explains each reply
 #   1    a message breaks the protocol
 #   6    no order explains the replies

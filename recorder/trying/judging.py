@@ -11,7 +11,7 @@ LEGAL, FAULT, NO_ORDER, GAVE_UP = 0, 1, 6, 7
 # than more steps.
 STEPS = 1_000_000
 
-# The status and the line of the auditor, and the message and the code that the line tells.
+# The status and the first line of the auditor, and the message and the code that the line tells.
 Verdict = collections.namedtuple("Verdict", "status line message code")
 
 
@@ -36,7 +36,7 @@ def judge(program, capture, tree=None):
         said = (ended.stdout + ended.stderr).decode(errors="replace").strip().splitlines()
         how = f"{os.path.basename(program)} judge ended with status {ended.returncode}"
         raise AuditFailed(f"{how}: {said[0] if said else 'it said nothing'}")
-    return read_line(ended.returncode, ended.stdout.decode().strip())
+    return read_line(ended.returncode, ended.stdout.decode().partition("\n")[0].strip())
 
 
 def read_line(status, line):

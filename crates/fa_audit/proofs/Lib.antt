@@ -14,3 +14,4 @@ pub mod SearchRunLemmas
 pub mod CutOrderLemmas
 pub mod TimeLemmas
 pub mod SeenLemmas
+pub mod ShortestLemmas

@@ -35,7 +35,7 @@ pub finding_in : (calls : Calls) (first : TreeState) (result : Result Finding Al
     → IfOk result (λ f. (c : List Message) → AreMessagesOf calls c → IsFindingIn c first f)
 finding_in calls first (Ok (finding.Found order placed left)) legal none least gave_up proposed serial = legal
 finding_in calls first (Ok (finding.NoOrder at code)) legal none least gave_up proposed serial =
-    λ c are. record { stop = none c at code are refl; least = least c at code are refl }
+    λ c are. record { stop = none c at code are refl; least = least c at code are refl; alone = tt }
 finding_in calls first (Ok (finding.GaveUp at)) legal none least gave_up proposed serial = λ c are. record {
   explained = gave_up c at are refl;
   overlaps = λ one_by_one. serial c at are one_by_one refl;
@@ -45,15 +45,16 @@ finding_in calls first (Err error) legal none least gave_up proposed serial = tt
 
 -- ---- from what is found to what is answered of the capture and the tree
 
-without_order : (capture : List ℕ) (tree : Option (List ℕ)) (calls : Calls) (first : TreeState) (at code : ℕ)
-    → (start : IsStartOf capture tree calls first) → IsStopWith start.messages first at code → IsWithoutOrder capture tree at code
-without_order capture tree calls first at code start stop = record {
+without_order : (capture : List ℕ) (tree : Option (List ℕ)) (calls : Calls) (first : TreeState) (at code : ℕ) (shortest : Option ℕ)
+    → (start : IsStartOf capture tree calls first) → IsStopWith start.messages first at code shortest → IsWithoutOrder capture tree at code shortest
+without_order capture tree calls first at code shortest start stop = record {
   messages = start.messages;
   first = first;
   good = start.good;
   given = start.given;
   stop = stop.stop;
   least = stop.least;
+  alone = stop.alone;
 }
 
 given_up : (capture : List ℕ) (tree : Option (List ℕ)) (calls : Calls) (first : TreeState) (at : ℕ)
@@ -79,7 +80,7 @@ searched_of capture tree calls first (found.Order text) start is = record {
   legal = is.1;
   spelled = is.2;
 }
-searched_of capture tree calls first (found.NoOrder at code) start is = without_order capture tree calls first at code start is
+searched_of capture tree calls first (found.NoOrder at code shortest) start is = without_order capture tree calls first at code shortest start is
 searched_of capture tree calls first (found.GaveUp at) start is = given_up capture tree calls first at start is
 
 pub judged_of : (capture : List ℕ) (tree : Option (List ℕ)) (calls : Calls) (first : TreeState) (judgement : Judgement)
@@ -92,33 +93,33 @@ judged_of capture tree calls first (judged.Legal messages placed left) start is 
   given = start.given;
   legal = is.1;
 }
-judged_of capture tree calls first (judged.NoOrder at code) start is = without_order capture tree calls first at code start is
+judged_of capture tree calls first (judged.NoOrder at code shortest) start is = without_order capture tree calls first at code shortest start is
 judged_of capture tree calls first (judged.GaveUp at) start is = given_up capture tree calls first at start is
 
 -- an answer has a start
 pub searched_start : (capture : List ℕ) (tree : Option (List ℕ)) (searched : Searched) → IsSearched capture tree searched → IsStart capture tree
 searched_start capture tree (found.Order text) is = record { messages = is.messages; first = is.first; good = is.good; given = is.given }
-searched_start capture tree (found.NoOrder at code) is = record { messages = is.messages; first = is.first; good = is.good; given = is.given }
+searched_start capture tree (found.NoOrder at code shortest) is = record { messages = is.messages; first = is.first; good = is.good; given = is.given }
 searched_start capture tree (found.GaveUp at) is = record { messages = is.messages; first = is.first; good = is.good; given = is.given }
 
 pub judged_start : (capture : List ℕ) (tree : Option (List ℕ)) (judgement : Judgement) → IsJudged capture tree judgement → IsStart capture tree
 judged_start capture tree (judged.Legal messages placed left) is = record { messages = is.messages; first = is.first; good = is.good; given = is.given }
-judged_start capture tree (judged.NoOrder at code) is = record { messages = is.messages; first = is.first; good = is.good; given = is.given }
+judged_start capture tree (judged.NoOrder at code shortest) is = record { messages = is.messages; first = is.first; good = is.good; given = is.given }
 judged_start capture tree (judged.GaveUp at) is = record { messages = is.messages; first = is.first; good = is.good; given = is.given }
 
 -- ---- the codes
 
-without_order_coded : (capture : List ℕ) (tree : Option (List ℕ)) (at code : ℕ) → IsWithoutOrder capture tree at code → IsSome (text_of code)
-without_order_coded capture tree at code is =
+without_order_coded : (capture : List ℕ) (tree : Option (List ℕ)) (at code : ℕ) (shortest : Option ℕ) → IsWithoutOrder capture tree at code shortest → IsSome (text_of code)
+without_order_coded capture tree at code shortest is =
     let refused = is.least.refused in
     step_coded refused.1 is.messages _ code refused.4
 
 pub searched_coded : (capture : List ℕ) (tree : Option (List ℕ)) (searched : Searched) → IsSearched capture tree searched → IsCodedSearch searched
 searched_coded capture tree (found.Order text) is = tt
-searched_coded capture tree (found.NoOrder at code) is = without_order_coded capture tree at code is
+searched_coded capture tree (found.NoOrder at code shortest) is = without_order_coded capture tree at code shortest is
 searched_coded capture tree (found.GaveUp at) is = tt
 
 pub judged_coded : (capture : List ℕ) (tree : Option (List ℕ)) (judgement : Judgement) → IsJudged capture tree judgement → IsCodedJudgement judgement
 judged_coded capture tree (judged.Legal messages placed left) is = tt
-judged_coded capture tree (judged.NoOrder at code) is = without_order_coded capture tree at code is
+judged_coded capture tree (judged.NoOrder at code shortest) is = without_order_coded capture tree at code shortest is
 judged_coded capture tree (judged.GaveUp at) is = tt

@@ -67,23 +67,27 @@ answer_status (Err Memory) = status_number status.Failed
 -- the code that a search tells, if any, has a text
 abbrev pub IsCodedSearch : Searched → Type 0
 IsCodedSearch (found.Order text) = Unit {0}
-IsCodedSearch (found.NoOrder at code) = IsSome (text_of code)
+IsCodedSearch (found.NoOrder at code shortest) = IsSome (text_of code)
 IsCodedSearch (found.GaveUp at) = Unit {0}
 
 -- so has that of what is judged
 abbrev pub IsCodedJudgement : Judgement → Type 0
 IsCodedJudgement (judged.Legal messages placed left) = Unit {0}
-IsCodedJudgement (judged.NoOrder at code) = IsSome (text_of code)
+IsCodedJudgement (judged.NoOrder at code shortest) = IsSome (text_of code)
 IsCodedJudgement (judged.GaveUp at) = Unit {0}
 
 -- The line of what is judged: of a legal order that of its verdict.
 abbrev pub judgement_line : Judgement → List ℕ
 judgement_line (judged.Legal messages placed left) = verdict_line (Legal messages placed left)
-judgement_line (judged.NoOrder at code) = codes "no order" ++ message_part at code
+judgement_line (judged.NoOrder at code shortest) = codes "no order" ++ message_part at code
 judgement_line (judged.GaveUp at) = codes "gave up: message " ++ decimal at
+
+-- the line behind that of `no order`, of so many first messages
+abbrev pub shortest_line : ℕ → List ℕ
+shortest_line count = codes "the first " ++ (decimal count ++ codes " messages alone have no order")
 
 -- Its status.
 abbrev pub judgement_status : Judgement → ℕ
 judgement_status (judged.Legal messages placed left) = status_number status.Legal
-judgement_status (judged.NoOrder at code) = status_number status.NoOrder
+judgement_status (judged.NoOrder at code shortest) = status_number status.NoOrder
 judgement_status (judged.GaveUp at) = status_number status.GaveUp

@@ -1,6 +1,6 @@
 -- The answers of a search of all orders, and of the judgement that rests on it, each by what it says of the capture and of the tree
 -- text if one is handed in; and what a run of either writes. The capture, the given tree and their faults are those of the audit.
-use Rattle.std.specs.Prelude.{ℕ, List, ◌++◌, Option, Result, Ok, Err}
+use Rattle.std.specs.Prelude.{◌≡◌, ℕ, ◌+◌, List, [], ◌++◌, Option, None, Some, IfSome, Result, Ok, Err}
 use Rattle.fa_capture.specs.Message.{Message}
 use Rattle.fa_ledger.specs.Passing.{IsGoodCapture, IsFirstFault}
 use Rattle.fa_tree.specs.State.{TreeState}
@@ -9,7 +9,7 @@ use Rattle.fa_order.specs.Order.{IsOrderText}
 use Rattle.fa_check.specs.Runs.{IsLegalRun}
 use Rattle.fa_check.specs.Verdicts.{IsLegalWith}
 use Rattle.fa_propose.specs.Proposals.{IsProposal}
-use Rattle.fa_search.specs.Searches.{IsStop, IsLeastCode, IsExplainedUpTo, AreSerialBefore}
+use Rattle.fa_search.specs.Searches.{IsStop, IsFirstWithout, IsLeastCode, IsExplainedUpTo, AreSerialBefore}
 use Rattle.fa_audit.specs.declared.found.Searched.{Searched}
 use Rattle.fa_audit.specs.declared.found.Searched.TheVariants as found
 use Rattle.fa_audit.specs.declared.found.Judgement.{Judgement}
@@ -19,7 +19,7 @@ use Rattle.fa_audit.specs.declared.verdict.StartError.TheVariants.{Fault, TreeTe
 use Rattle.fa_audit.specs.declared.status.Status.TheVariants as status
 use Rattle.fa_audit.specs.Status.{status_number}
 use Rattle.fa_audit.specs.Verdict.{IsGivenTree, IsTreeTextAtFault}
-use Rattle.fa_audit.specs.Line.{answer_line, answer_status, judgement_line, judgement_status}
+use Rattle.fa_audit.specs.Line.{answer_line, answer_status, judgement_line, shortest_line, judgement_status}
 use Rattle.fa_audit.specs.Proposed.{answer_of}
 use Rattle.fa_audit.specs.Run.{line_feed, IsWritten, AreBytesOf}
 
@@ -46,15 +46,23 @@ pub record IsJudgedLegal (capture : List ℕ) (tree : Option (List ℕ)) (count 
   pub given : IsGivenTree tree first
   pub legal : IsLegalWith messages first entries count placed left
 
+-- So many of the first messages alone have no order from this first tree, and those before the last of them have one.
+pub record IsShortestWithout (c : List Message) (first : TreeState) (count : ℕ) : Type 0 where
+  pub at : ℕ
+  pub counted : count ≡ at + 1
+  pub without : IsFirstWithout c first at
+
 -- The capture is good, a tree text that is handed in is in its grammar, and no order is legal: none goes past the reply at this message,
--- and this is the least code with which its request is refused after entries that come to it.
-pub record IsWithoutOrder (capture : List ℕ) (tree : Option (List ℕ)) (at code : ℕ) : Type 0 where
+-- and this is the least code with which its request is refused after entries that come to it. Where a number is told, so many of the
+-- first messages alone have no order, and one fewer have one.
+pub record IsWithoutOrder (capture : List ℕ) (tree : Option (List ℕ)) (at code : ℕ) (shortest : Option ℕ) : Type 0 where
   pub messages : List Message
   pub first : TreeState
   pub good : IsGoodCapture capture messages
   pub given : IsGivenTree tree first
   pub stop : IsStop messages first at
   pub least : IsLeastCode messages first at code
+  pub alone : IfSome shortest (IsShortestWithout messages first)
 
 -- The capture is good, a tree text that is handed in is in its grammar, and some entries explain all replies before this message, which
 -- answers a tree request. Of the tree requests before it not each was answered before the next one was sent, and the order that is
@@ -71,13 +79,13 @@ pub record IsGivenUp (capture : List ℕ) (tree : Option (List ℕ)) (at : ℕ) 
 -- What each answer of a search says where there is a start,
 abbrev pub IsSearched : (capture : List ℕ) → (tree : Option (List ℕ)) → Searched → Type 0
 IsSearched capture tree (found.Order text) = IsOrderFound capture tree text.items
-IsSearched capture tree (found.NoOrder at code) = IsWithoutOrder capture tree at code
+IsSearched capture tree (found.NoOrder at code shortest) = IsWithoutOrder capture tree at code shortest
 IsSearched capture tree (found.GaveUp at) = IsGivenUp capture tree at
 
 -- and what is judged there.
 abbrev pub IsJudged : (capture : List ℕ) → (tree : Option (List ℕ)) → Judgement → Type 0
 IsJudged capture tree (judged.Legal messages placed left) = IsJudgedLegal capture tree messages placed left
-IsJudged capture tree (judged.NoOrder at code) = IsWithoutOrder capture tree at code
+IsJudged capture tree (judged.NoOrder at code shortest) = IsWithoutOrder capture tree at code shortest
 IsJudged capture tree (judged.GaveUp at) = IsGivenUp capture tree at
 
 -- What each answer says: what a search comes to, the first fault of the capture, or that of the tree text. That memory was refused is no
@@ -107,14 +115,29 @@ abbrev pub judged_status : Result Judgement StartError → ℕ
 judged_status (Ok judgement) = judgement_status judgement
 judged_status (Err error) = answer_status (answer_of error)
 
--- the line of what is judged and a line feed were written, and the status is that of the answer
+-- how many of the first messages alone have no order, where the answer tells it
+abbrev pub told_shortest : Result Judgement StartError → Option ℕ
+told_shortest (Ok (judged.NoOrder at code shortest)) = shortest
+told_shortest (Ok other) = None
+told_shortest (Err error) = None
+
+-- the line that tells it, and a line feed
+abbrev pub shortest_part : Option ℕ → List ℕ
+shortest_part None = []
+shortest_part (Some count) = shortest_line count ++ line_feed
+
+-- The line of what is judged and a line feed, and behind them that of the first messages alone.
+abbrev pub judged_lines : Result Judgement StartError → List ℕ
+judged_lines answer = judged_line answer ++ (line_feed ++ shortest_part (told_shortest answer))
+
+-- these lines were written, and the status is that of the answer
 abbrev pub IsJudgementTold : Result Judgement StartError → (old new : Option (List ℕ)) → (ended : ℕ) → Type 0
-IsJudgementTold answer old new ended = IsWritten (judged_line answer ++ line_feed) (judged_status answer) old new ended
+IsJudgementTold answer old new ended = IsWritten (judged_lines answer) (judged_status answer) old new ended
 
 -- What is written of each answer of a search, with the status: the order text with 0, and else what is written where that is judged.
 abbrev pub IsSearchTold : Result Searched StartError → (old new : Option (List ℕ)) → (ended : ℕ) → Type 0
 IsSearchTold (Ok (found.Order text)) old new ended = IsWritten text.items (status_number status.Legal) old new ended
-IsSearchTold (Ok (found.NoOrder at code)) old new ended = IsJudgementTold (Ok (judged.NoOrder at code)) old new ended
+IsSearchTold (Ok (found.NoOrder at code shortest)) old new ended = IsJudgementTold (Ok (judged.NoOrder at code shortest)) old new ended
 IsSearchTold (Ok (found.GaveUp at)) old new ended = IsJudgementTold (Ok (judged.GaveUp at)) old new ended
 IsSearchTold (Err error) old new ended = IsJudgementTold (Err error) old new ended
 

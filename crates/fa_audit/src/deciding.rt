@@ -14,17 +14,18 @@ ghost use Rattle.fa_audit.specs.Run.{IfHandedIn, IsHandedIn, IsSomeRead, IsReadI
 ghost use Rattle.fa_audit.specs.declared.running.TheConstants.{MAX_TEXT_INPUT_BYTES};
 ghost use Rattle.fa_audit.specs.Proposed.{IsStart, answer_of};
 ghost use Rattle.fa_audit.specs.Status.{status_number};
-ghost use Rattle.fa_audit.specs.Searched.{IsJudged, IsJudgementTold, IsJudgedFrom, judged_line, judged_status};
+ghost use Rattle.fa_audit.specs.Searched.{IsJudged, IsJudgementTold, IsJudgedFrom, judged_line, judged_status, told_shortest, shortest_part};
 ghost use Rattle.fa_audit.specs.parts.Answers.{IsNoStart};
 ghost use Rattle.fa_audit.specs.parts.Searching.{IsFindingIn, IsJudgedIn};
 
 use crate::found::Judgement;
 use crate::judge::start;
-use crate::line::judgement_text;
+use crate::line::{judgement_text, shortest_text};
 use crate::running::{
     MAX_TEXT_INPUT_BYTES, RunFault, input_bytes, line_and_status, stored_capture,
 };
 use crate::searching::found_from;
+use crate::shortest::shortest_without;
 use crate::status::Status;
 use crate::verdict::StartError;
 use fa_capture::{Capture, Input, Output, read_capture};
@@ -38,7 +39,8 @@ use std::alloc::{AllocError, Global};
 ///
 /// The capture is judged and the tree text is read as [`audit`](crate::audit) does it. All orders are searched, as
 /// [`search`](fa_search::search) does it within the budget, and what is told of one that is found is what [`check`](fa_check::check) tells. It gives up only where
-/// requests overlap and the order of [`proposal`](crate::proposal) is not legal. The tree text has at most 268,435,456 bytes.
+/// requests overlap and the order of [`proposal`](crate::proposal) is not legal. Where there is no order, the first messages alone are
+/// searched too, as [`search_order`](crate::search_order) does it. The tree text has at most 268,435,456 bytes.
 ///
 /// # Errors
 ///
@@ -49,7 +51,8 @@ use std::alloc::{AllocError, Global};
 ///
 /// # Cost
 ///
-/// That of [`audit`](crate::audit) up to the order text, and of [`search`](fa_search::search).
+/// That of [`audit`](crate::audit) up to the order text, and of [`search`](fa_search::search); where there is no order, of each further
+/// search too.
 pub fn judge_capture(
     alloc: Global,
     capture: &[u8],
@@ -74,8 +77,29 @@ pub fn judge_capture(
     judged(alloc, &read_capture(capture), tree, budget, &mut Nobody)
 }
 
-/// What is judged of a capture that was read.
+/// What is judged of a capture that was read: where no order is legal, with how many of the first messages alone have none.
 fn judged<L: Listener>(
+    alloc: Global,
+    capture: &Capture<'_>,
+    tree: Option<&[u8]>,
+    budget: Budget,
+    listener: &mut L,
+) -> Result<Judgement, StartError>
+    requires { IfSome (option_copied tree) (λ text. length text ≤ MAX_TEXT_BYTES) }
+    ensures answer { IfOk result (λ judgement. (bytes : List ℕ) → IsCaptureOf bytes capture.now → IsJudged bytes (option_copied tree.entry) judgement) }
+    ensures none { IfErr result (λ error. (bytes : List ℕ) → IsCaptureOf bytes capture.now → IsNoStart bytes (option_copied tree.entry) error) }
+{
+    match judged_whole(alloc, capture, tree, budget, listener)? {
+        Judgement::NoOrder { at, code, .. } => {
+            let shortest = shortest_without(alloc, capture, tree, at, budget, listener)?;
+            Ok(Judgement::NoOrder { at, code, shortest })
+        }
+        judgement => Ok(judgement),
+    }
+}
+
+/// What is judged of all messages alone.
+fn judged_whole<L: Listener>(
     alloc: Global,
     capture: &Capture<'_>,
     tree: Option<&[u8]>,
@@ -106,7 +130,11 @@ fn decide<L: Listener>(
             placed,
             left,
         }),
-        Finding::NoOrder { at, code } => Ok(Judgement::NoOrder { at, code }),
+        Finding::NoOrder { at, code } => Ok(Judgement::NoOrder {
+            at,
+            code,
+            shortest: None,
+        }),
         Finding::GaveUp { at } => Ok(Judgement::GaveUp { at }),
     }
 }
@@ -122,7 +150,7 @@ fn status_of(judgement: Judgement) -> Status
     }
 }
 
-/// The line that tells an answer of [`judge_capture`], without a line feed, and its status. A code that it tells is one that has a text,
+/// The line that tells an answer of [`judge_capture`], the first where two do, without a line feed, and its status. A code that it tells is one that has a text,
 /// as in each answer of [`judge_capture`].
 ///
 /// # Errors
@@ -149,7 +177,30 @@ pub fn judged_line_and_status(
     }
 }
 
-/// Writes the line of what is judged and a line feed: the status of the answer.
+/// How many of the first messages alone have no order, where that is told.
+fn shortest_of(answer: &Result<Judgement, StartError>) -> Option<u32>
+    ensures { result ≡ told_shortest answer.now }
+{
+    match answer {
+        Ok(Judgement::NoOrder { shortest, .. }) => *shortest,
+        Ok(_) | Err(_) => None,
+    }
+}
+
+/// The line that tells it, with a line feed.
+fn shortest_part(alloc: Global, shortest: Option<u32>) -> Result<String, AllocError>
+    ensures { IfOk result (λ text. string_bytes text ≡ shortest_part shortest) }
+{
+    let Some(messages) = shortest else {
+        return Ok(String::new(alloc));
+    };
+    let mut line = shortest_text(alloc, messages)?;
+    line.push('\n')?;
+    Ok(line)
+}
+
+/// Writes the line of what is judged and a line feed, and behind `no order` the line of the first messages alone: the status of the
+/// answer.
 pub(crate) fn tell_judgement<W: Output>(
     alloc: Global,
     answer: Result<Judgement, StartError>,
@@ -165,9 +216,11 @@ pub(crate) fn tell_judgement<W: Output>(
     ensures read { IsErrOf result RunFault.Read → ⊥ }
     ensures write { IsErrOf result RunFault.Write ↔ (W.is_broken out.new ≡ true) }
 {
-    let (mut line, status) = judged_line_and_status(alloc, answer)?;
-    line.push('\n')?;
-    out.put(line.as_bytes())?;
+    let shortest = shortest_of(&answer);
+    let (mut lines, status) = judged_line_and_status(alloc, answer)?;
+    lines.push('\n')?;
+    lines.push_str(&shortest_part(alloc, shortest)?)?;
+    out.put(lines.as_bytes())?;
     Ok(status.number())
 }
 
@@ -240,9 +293,10 @@ fn judge_on_tree<R: Input, L: Listener, W: Output>(
 /// judged and a line feed by one put, and answers the status.
 ///
 /// The line is `legal: M messages, P placed, L left out` with the status 0, `no order: message N: code C: TEXT` with 6, or
-/// `gave up: message N` with 7; and where there is no start for an order the line of the fault, as [`run`](crate::run) writes it, with the
+/// `gave up: message N` with 7. Behind `no order`, where M is found, a second line is written, `the first M messages alone have no order`.
+/// Where there is no start for an order the line of the fault is written, as [`run`](crate::run) writes it, with the
 /// status 1 at a fault of the capture, and 3 where the tree text is not in its grammar. The inputs are read before anything is judged, as
-/// [`run`](crate::run) reads them. The listener is told how far the search has come, as [`search`](fa_search::search) tells it. No mark of an
+/// [`run`](crate::run) reads them. The listener is told how far each search has come, as [`search`](fa_search::search) tells it. No mark of an
 /// input or of the output is set at the call.
 ///
 /// Which bytes were read and written is said where the inputs and the output tell their bytes, as those over memory do. Files and

@@ -13,6 +13,9 @@ pub enum Searched {
         /// The code with which its request is refused after entries that do, one of [`codes`](fa_capture::codes); the least
         /// where there are several.
         code: u16,
+        /// How many of the first messages have no order alone, as a capture of their own, while one fewer have one: `at` + 1 or more.
+        /// None where that was not found within the budget.
+        shortest: Option<u32>,
     },
     /// The budget was spent before an answer was found.
     GaveUp {
@@ -40,6 +43,8 @@ pub enum Judgement {
         at: u32,
         /// The least code with which its request is refused.
         code: u16,
+        /// How many of the first messages alone have no order, while one fewer have one; where that was found.
+        shortest: Option<u32>,
     },
     /// The budget was spent before an answer was found, as in [`Searched::GaveUp`].
     GaveUp {

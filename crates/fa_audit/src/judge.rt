@@ -117,7 +117,7 @@ pub fn audit_capture(
 }
 
 /// The tree that the server began with.
-fn given_tree(alloc: Global, tree: Option<&[u8]>) -> Result<Tree, StartError>
+pub(crate) fn given_tree(alloc: Global, tree: Option<&[u8]>) -> Result<Tree, StartError>
     requires { IfSome (option_copied tree) (λ text. length text ≤ MAX_TEXT_BYTES) }
     ensures given { IfOk result (IsGivenTree (option_copied tree.entry)) }
     ensures refused { IfErr result (IsTreeRefused (option_copied tree.entry)) }

@@ -2,7 +2,7 @@
 
 ghost use Rattle.std.specs.Prelude.{◌≡◌, IsSome, IfOk, string_bytes};
 ghost use Rattle.fa_capture.specs.Codes.{text_of};
-ghost use Rattle.fa_audit.specs.Line.{IsCoded, IsCodedJudgement, verdict_line, judgement_line, order_line, tree_line, code_text};
+ghost use Rattle.fa_audit.specs.Line.{IsCoded, IsCodedJudgement, verdict_line, judgement_line, shortest_line, order_line, tree_line, code_text};
 
 use crate::found::Judgement;
 use fa_capture::codes;
@@ -73,12 +73,27 @@ pub fn judgement_text(alloc: Global, judgement: &Judgement) -> Result<String, Al
                 left,
             },
         ),
-        Judgement::NoOrder { at, code } => {
+        Judgement::NoOrder { at, code, .. } => {
             let text = text_of_code(code);
             format!(in alloc; "no order: message {at}: code {code}: {text}")
         }
         Judgement::GaveUp { at } => format!(in alloc; "gave up: message {at}"),
     }
+}
+
+/// The line that stands behind that of `no order`, without a line feed: `the first M messages alone have no order`.
+///
+/// # Errors
+///
+/// `AllocError` where memory for the line was refused.
+///
+/// # Cost
+///
+/// Constant time and memory.
+pub fn shortest_text(alloc: Global, messages: u32) -> Result<String, AllocError>
+    ensures { IfOk result (λ line. string_bytes line ≡ shortest_line messages) }
+{
+    format!(in alloc; "the first {messages} messages alone have no order")
 }
 
 /// The line of an order text that is not in its grammar, without a line feed: `order: line L: code 60: TEXT`, with its

@@ -1,12 +1,13 @@
 //! The messages of a capture, one after the other: whether they keep the protocol, and their calls.
 
-ghost use Rattle.std.specs.Prelude.{ℕ, ◌<◌, ◌∷◌, ◌++◌, [], List, length, IfOk, IfErr, OnOk};
+ghost use Rattle.std.specs.Prelude.{ℕ, ◌<◌, ◌∷◌, ◌++◌, [], List, length, take, IfOk, IfErr, OnOk};
 ghost use Rattle.fa_capture.specs.Message.{Message, message};
 ghost use Rattle.fa_capture.specs.Captures.{IsCaptureOf};
 ghost use Rattle.fa_capture.specs.declared.limits.TheConstants.{MAX_MESSAGES};
 ghost use Rattle.fa_ledger.specs.Passing.{Passes};
 ghost use Rattle.fa_watch.specs.Refusals.{IsRefusal};
-ghost use Rattle.fa_audit.specs.parts.Protocol.{ShowBoth};
+ghost use Rattle.fa_check.specs.Verdicts.{AreMessagesOf};
+ghost use Rattle.fa_audit.specs.parts.Protocol.{ShowBoth, messages_of};
 ghost use Rattle.fa_audit.specs.parts.Answers.{AreCallsOf, IsCaptureRefused};
 
 use fa_capture::{Capture, CaptureFault, Packet};
@@ -51,6 +52,32 @@ fn accept<'a>(
     let event = session.accept(packet)?;
     ledger.accept(event)?;
     Ok(())
+}
+
+/// The calls of the first messages of a capture, or of all where there are fewer, as a capture of their own. What stands behind them is
+/// not looked at.
+///
+/// # Errors
+///
+/// - [`MessageError::Refused`] where one of them does not keep the protocol.
+/// - [`MessageError::Memory`] where memory was refused.
+///
+/// # Cost
+///
+/// That of [`good_calls`] for these messages.
+pub(crate) fn calls_of_front<'a>(
+    alloc: Global,
+    capture: &Capture<'a>,
+    messages: usize,
+) -> Result<Calls<'a>, MessageError>
+    ensures { IfOk result (λ calls. AreMessagesOf calls (take messages (messages_of capture.now))) }
+{
+    let mut session = Session::new(alloc);
+    let mut ledger = Ledger::new(alloc);
+    for packet in capture.packets().take(messages) {
+        accept(&mut session, &mut ledger, &packet)?;
+    }
+    Ok(ledger.into_calls())
 }
 
 /// The calls of a good capture.

@@ -21,6 +21,7 @@ use crate::deciding::tell_judgement;
 use crate::found::{Judgement, Searched};
 use crate::judge::start;
 use crate::running::{MAX_TEXT_INPUT_BYTES, RunFault, input_bytes, stored_capture};
+use crate::shortest::shortest_without;
 use crate::status::Status;
 use crate::verdict::StartError;
 use fa_capture::{Capture, Input, Output, read_capture};
@@ -34,7 +35,9 @@ use std::alloc::{AllocError, Global};
 ///
 /// The capture is judged and the tree text is read as [`audit`](crate::audit) does it. All orders are searched, as
 /// [`search`](fa_search::search) does it within the budget. It gives up only where requests overlap and the order of
-/// [`proposal`](crate::proposal) is not legal. The tree text has at most 268,435,456 bytes.
+/// [`proposal`](crate::proposal) is not legal. Where there is no order, the first messages alone are searched too, each time within the
+/// same budget: 2 + 2 log₂(messages) times at most, and twice where their number is that of the message past which none goes, and one. The
+/// tree text has at most 268,435,456 bytes.
 ///
 /// # Errors
 ///
@@ -45,7 +48,8 @@ use std::alloc::{AllocError, Global};
 ///
 /// # Cost
 ///
-/// That of [`audit`](crate::audit) up to the order text, of [`search`](fa_search::search) and of [`write_order`].
+/// That of [`audit`](crate::audit) up to the order text, of [`search`](fa_search::search) and of [`write_order`]. Where there is no order,
+/// that of each further search too, with the calls made and the tree copied anew.
 pub fn search_order(
     alloc: Global,
     capture: &[u8],
@@ -70,8 +74,29 @@ pub fn search_order(
     searched(alloc, &read_capture(capture), tree, budget, &mut Nobody)
 }
 
-/// What a search answers of a capture that was read.
+/// What a search answers of a capture that was read: where no order is legal, with how many of the first messages alone have none.
 fn searched<L: Listener>(
+    alloc: Global,
+    capture: &Capture<'_>,
+    tree: Option<&[u8]>,
+    budget: Budget,
+    listener: &mut L,
+) -> Result<Searched, StartError>
+    requires { IfSome (option_copied tree) (λ text. length text ≤ MAX_TEXT_BYTES) }
+    ensures answer { IfOk result (λ searched. (bytes : List ℕ) → IsCaptureOf bytes capture.now → IsSearched bytes (option_copied tree.entry) searched) }
+    ensures none { IfErr result (λ error. (bytes : List ℕ) → IsCaptureOf bytes capture.now → IsNoStart bytes (option_copied tree.entry) error) }
+{
+    match searched_whole(alloc, capture, tree, budget, listener)? {
+        Searched::NoOrder { at, code, .. } => {
+            let shortest = shortest_without(alloc, capture, tree, at, budget, listener)?;
+            Ok(Searched::NoOrder { at, code, shortest })
+        }
+        searched => Ok(searched),
+    }
+}
+
+/// What a search answers of all messages alone.
+fn searched_whole<L: Listener>(
     alloc: Global,
     capture: &Capture<'_>,
     tree: Option<&[u8]>,
@@ -111,7 +136,11 @@ fn found_text<L: Listener>(
 {
     match found_from(alloc, calls, first, budget, listener)? {
         Finding::Found { order, .. } => Ok(Searched::Order(write_order(alloc, &order)?)),
-        Finding::NoOrder { at, code } => Ok(Searched::NoOrder { at, code }),
+        Finding::NoOrder { at, code } => Ok(Searched::NoOrder {
+            at,
+            code,
+            shortest: None,
+        }),
         Finding::GaveUp { at } => Ok(Searched::GaveUp { at }),
     }
 }
@@ -137,8 +166,8 @@ fn tell_search<W: Output>(
             out.put(&text)?;
             Ok(Status::Legal.number())
         }
-        Ok(Searched::NoOrder { at, code }) => {
-            tell_judgement(alloc, Ok(Judgement::NoOrder { at, code }), out)
+        Ok(Searched::NoOrder { at, code, shortest }) => {
+            tell_judgement(alloc, Ok(Judgement::NoOrder { at, code, shortest }), out)
         }
         Ok(Searched::GaveUp { at }) => tell_judgement(alloc, Ok(Judgement::GaveUp { at }), out),
         Err(error) => tell_judgement(alloc, Err(error), out),
@@ -213,11 +242,12 @@ fn search_on_tree<R: Input, L: Listener, W: Output>(
 /// Searches all orders of a capture: reads the capture, and then the tree if one is handed in, writes the text of an order that is legal
 /// by one put, and answers the status.
 ///
-/// Where there is none, `no order: message N: code C: TEXT` and a line feed are written, where the budget was spent before that is known
-/// `gave up: message N` and a line feed, and where there is no start for an order the line of the fault and a line feed, as
+/// Where there is none, `no order: message N: code C: TEXT` and a line feed are written, and behind them, where M is found,
+/// `the first M messages alone have no order` and a line feed; where the budget was spent before it is known whether there is one,
+/// `gave up: message N` and a line feed; and where there is no start for an order the line of the fault and a line feed, as
 /// [`run`](crate::run) writes them. The status is 0 with an order text, 1 at a fault of the capture, 3 where the tree text is not in its
 /// grammar, 6 where there is no order, and 7 where the search gave up. The inputs are read before anything is judged, as
-/// [`run`](crate::run) reads them. The listener is told how far the search has come, as [`search`] tells it. No mark of an input or of the
+/// [`run`](crate::run) reads them. The listener is told how far each search has come, as [`search`] tells it. No mark of an input or of the
 /// output is set at the call.
 ///
 /// Which bytes were read and written is said where the inputs and the output tell their bytes, as those over memory do. Files and

@@ -291,11 +291,7 @@ pub fn command<'a>(alloc: Global) -> Result<Command<'a>, AllocError> {
         SEARCH,
         "Searches all orders for one that explains a capture, and prints its text or that there is none",
     )?;
-    let judge = search_command(
-        alloc,
-        JUDGE,
-        "Tells in one line whether some order explains a capture",
-    )?;
+    let judge = search_command(alloc, JUDGE, "Tells whether some order explains a capture")?;
     let cut = cut_command(alloc)?;
     let front = Command::new(alloc, FRONT)
         .about("Writes the capture of the messages before a message")

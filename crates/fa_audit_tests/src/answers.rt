@@ -154,7 +154,11 @@ fn what_is_judged_by_a_search(rt: HostRuntime) {
     for (judgement, text) in [
         (legal, "legal: 4 messages, 1 placed, 0 left out"),
         (
-            Judgement::NoOrder { at: 9, code: 85 },
+            Judgement::NoOrder {
+                at: 9,
+                code: 85,
+                shortest: Some(10),
+            },
             "no order: message 9: code 85: bytes read",
         ),
         (Judgement::GaveUp { at: 7 }, "gave up: message 7"),

@@ -1,24 +1,29 @@
 -- What a search finds of good messages from a first tree, and what is judged by it.
-use Rattle.std.specs.Prelude.{ℕ, List, length}
+use Rattle.std.specs.Prelude.{ℕ, List, length, Option, None, IfSome}
 use Rattle.fa_capture.specs.Message.{Message}
 use Rattle.fa_tree.specs.State.{TreeState}
 use Rattle.fa_order.specs.declared.entry.Entry.{Entry}
 use Rattle.fa_order.specs.Order.{IsOrderText}
-use Rattle.fa_check.specs.Runs.{IsLegalRun}
+use Rattle.fa_check.specs.Runs.{IsLegalRun, HasOrder}
 use Rattle.fa_check.specs.Verdicts.{IsLegalWith}
 use Rattle.fa_propose.specs.Proposals.{IsProposal}
-use Rattle.fa_search.specs.Searches.{IsStop, IsLeastCode, IsExplainedUpTo, AreSerialBefore}
+use Rattle.fa_search.specs.Searches.{HasNoOrder, IsStop, IsLeastCode, IsExplainedUpTo, AreSerialBefore}
 use Rattle.fa_search.specs.declared.finding.Finding.{Finding}
 use Rattle.fa_search.specs.declared.finding.Finding.TheVariants as finding
 use Rattle.fa_audit.specs.declared.found.Searched.{Searched}
 use Rattle.fa_audit.specs.declared.found.Searched.TheVariants as found
 use Rattle.fa_audit.specs.declared.found.Judgement.{Judgement}
 use Rattle.fa_audit.specs.declared.found.Judgement.TheVariants as judged
+use Rattle.fa_audit.specs.declared.shortest.Known.{Known}
+use Rattle.fa_audit.specs.declared.shortest.Known.TheVariants as known
+use Rattle.fa_audit.specs.Searched.{IsShortestWithout}
 
--- no order goes past the reply at this message, and this is the least code with which its request is refused
-pub record IsStopWith (c : List Message) (first : TreeState) (at code : ℕ) : Type 0 where
+-- No order goes past the reply at this message, and this is the least code with which its request is refused; so many of the first
+-- messages alone have no order, where a number is told.
+pub record IsStopWith (c : List Message) (first : TreeState) (at code : ℕ) (shortest : Option ℕ) : Type 0 where
   pub stop : IsStop c first at
   pub least : IsLeastCode c first at code
+  pub alone : IfSome shortest (IsShortestWithout c first)
 
 -- Some entries explain all replies before this message, which answers a tree request; requests overlap before it, and the order that is
 -- proposed is not legal.
@@ -30,17 +35,29 @@ pub record IsGivenUpIn (c : List Message) (first : TreeState) (at : ℕ) : Type 
 -- what is found,
 abbrev pub IsFindingIn : List Message → TreeState → Finding → Type 0
 IsFindingIn c first (finding.Found order placed left) = IsLegalWith c first order.items (length c) placed left
-IsFindingIn c first (finding.NoOrder at code) = IsStopWith c first at code
+IsFindingIn c first (finding.NoOrder at code) = IsStopWith c first at code None
 IsFindingIn c first (finding.GaveUp at) = IsGivenUpIn c first at
 
 -- with an order as its text,
 abbrev pub IsSearchedIn : List Message → TreeState → Searched → Type 0
 IsSearchedIn c first (found.Order text) = (es : List Entry) × IsLegalRun c first es × IsOrderText text.items es
-IsSearchedIn c first (found.NoOrder at code) = IsStopWith c first at code
+IsSearchedIn c first (found.NoOrder at code shortest) = IsStopWith c first at code shortest
 IsSearchedIn c first (found.GaveUp at) = IsGivenUpIn c first at
 
 -- and with the numbers of the order in its place.
 abbrev pub IsJudgedIn : List Message → TreeState → Judgement → Type 0
 IsJudgedIn c first (judged.Legal messages placed left) = (es : List Entry) × IsLegalWith c first es messages placed left
-IsJudgedIn c first (judged.NoOrder at code) = IsStopWith c first at code
+IsJudgedIn c first (judged.NoOrder at code shortest) = IsStopWith c first at code shortest
 IsJudgedIn c first (judged.GaveUp at) = IsGivenUpIn c first at
+
+-- what is known of messages by what is found of them,
+abbrev pub known_by : Finding → Known
+known_by (finding.Found order placed left) = known.Order
+known_by (finding.NoOrder at code) = known.NoOrder
+known_by (finding.GaveUp at) = known.Nothing
+
+-- and what that says
+abbrev pub IsKnownOf : List Message → TreeState → Known → Type 0
+IsKnownOf c first known.Order = HasOrder c first
+IsKnownOf c first known.NoOrder = HasNoOrder c first
+IsKnownOf c first known.Nothing = Unit {0}
