@@ -82,12 +82,12 @@ judgement_line (judged.Legal messages placed left) = verdict_line (Legal message
 judgement_line (judged.NoOrder at code shortest) = codes "no order" ++ message_part at code
 judgement_line (judged.GaveUp at) = codes "gave up: message " ++ decimal at
 
--- the line behind that of `no order`, of so many first messages
-abbrev pub shortest_line : ℕ → List ℕ
-shortest_line count = codes "the first " ++ (decimal count ++ codes " messages alone have no order")
-
 -- Its status.
 abbrev pub judgement_status : Judgement → ℕ
 judgement_status (judged.Legal messages placed left) = status_number status.Legal
 judgement_status (judged.NoOrder at code shortest) = status_number status.NoOrder
 judgement_status (judged.GaveUp at) = status_number status.GaveUp
+
+-- the line behind that of `no order`, of so many first messages
+abbrev pub shortest_line : ℕ → List ℕ
+shortest_line count = codes "the first " ++ (decimal count ++ codes " messages alone have no order")

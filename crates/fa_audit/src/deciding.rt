@@ -150,8 +150,8 @@ fn status_of(judgement: Judgement) -> Status
     }
 }
 
-/// The line that tells an answer of [`judge_capture`], the first where two do, without a line feed, and its status. A code that it tells is one that has a text,
-/// as in each answer of [`judge_capture`].
+/// The line that tells an answer of [`judge_capture`], the first where two do, without a line feed, and its status. A code that it tells is
+/// one that has a text, as in each answer of [`judge_capture`].
 ///
 /// # Errors
 ///
