@@ -8,9 +8,9 @@ import traceback
 import captures
 import drivers
 
-import codes  # noqa: E402
-import judge  # noqa: E402
-import orders  # noqa: E402
+import codes
+import judge
+import orders
 
 # What an input of so many bytes may take, but for a search with its usual budget.
 INPUT_BYTES, SECONDS, MEMORY = 100_000, 1.0, 100 << 20
@@ -43,7 +43,7 @@ CODE = re.compile(rb": code (\d+): ")
 MESSAGE = re.compile(rb"message (\d+)")
 # How many steps a search is told.
 STEPS = 0, 100, 2000
-# How many bytes a piece of a small capture has, and a seed for up to a hundred times as many; of a larger one as many as make so many pieces.
+# How many bytes a piece of a small capture has, and a seed for up to a hundred times as many; a larger one has so many pieces.
 PIECES = (1, 0), (1, 1), (7, 0), (40, 3)
 MOST_PIECES = 2000
 # What the plain judge is asked: captures of so many bytes, with so many requests and places.

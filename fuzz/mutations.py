@@ -4,7 +4,7 @@ import os
 import captures
 from captures import ANSWER, REQUEST, Input, Record, messages
 
-from ledger import TREE_REQUESTS  # noqa: E402
+from ledger import TREE_REQUESTS
 
 NAMES = b"a", b"b", b"c", b"a", b"b", b"", b".", b"..", b"a/b", b"\x01", b"x" * 1024, b"x" * 1025
 # Values that a field of this name may get, beside those that any number may.
@@ -340,7 +340,8 @@ def change_tree(draft):
         del lines[at]
     elif way == 3:
         fields, others = lines[at].split(b" "), lines[to].split(b" ")
-        fields[chance.randrange(len(fields))] = chance.choice((chance.choice(others), b"600", b"888", b"a", b"a/b", b"%61", b"..", b"-", b"6"))
+        words = chance.choice(others), b"600", b"888", b"a", b"a/b", b"%61", b"..", b"-", b"6"
+        fields[chance.randrange(len(fields))] = chance.choice(words)
         lines[at] = b" ".join(fields)
     elif way < 6:
         kinds = b"d 755 %b", b"f 644 %b -", b"f 600 %b 616263", b"s 777 %b 62", b"p 644 %b", b"h %b a", b"k 755 %b", b"f 644 a/%b 00"

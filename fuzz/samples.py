@@ -5,8 +5,8 @@ import re
 
 from captures import Input, messages
 
-import made  # noqa: E402
-import run  # noqa: E402
+import made
+import run
 
 # Larger files are none of a sample.
 MOST_BYTES = 200_000
