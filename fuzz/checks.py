@@ -30,7 +30,7 @@ FORMS = {
     "not shown": (NOT_SHOWN, "not shown: entry N: message N: code C: TEXT", ENTRY_FAULTS),
     "tree text": (TEXT, "tree: line N: code C: TEXT", (61,)),
     "order text": (TEXT, "order: line N: code C: TEXT", (60,)),
-    "no order": (NO_ORDER, "no order: message N: code C: TEXT", STEP_FAULTS),
+    "no order": (NO_ORDER, r"no order: message N: code C: TEXT(?:\nthe first N messages alone have no order)?", STEP_FAULTS),
     "gave up": (GAVE_UP, "gave up: message N", ())}
 TOLD = {
     "check": ("legal", "fault", "not shown", "tree text", "order text"), "watch": ("good", "fault"),
@@ -41,6 +41,7 @@ FILES = {"check": ("capture", "tree", "order"), "cut": ("capture", "order"), "ju
          "search": ("capture", "tree"), "propose": ("capture", "tree")}
 CODE = re.compile(rb": code (\d+): ")
 MESSAGE = re.compile(rb"message (\d+)")
+ALONE = re.compile(rb"the first (\d+) messages alone")
 # How many steps a search is told.
 STEPS = 0, 100, 2000
 # How many bytes a piece of a small capture has, and a seed for up to a hundred times as many; a larger one has so many pieces.
@@ -136,6 +137,12 @@ def code_of(answer):
     return code and int(code[1])
 
 
+def is_same_judgement(one, other):
+    """Whether two answers to a search have the same status and the same first line. The library, and a judge whose search for it gives
+    up, leave out the second."""
+    return (one.status, one.output.split(b"\n")[0]) == (other.status, other.output.split(b"\n")[0])
+
+
 # The checks. Each is handed the trial and what `check` told.
 
 
@@ -222,11 +229,26 @@ def searched(trial, told):
         trial.holds("search", found.status == LEGAL, "judge and search", verdict, found)
         trial.same("search", verdict, trial.ask("check", order=found.output), "judge, and check of search")
         return
-    trial.same("search", verdict, found, "judge and search")
+    trial.holds("search", is_same_judgement(verdict, found), "judge and search", verdict, found)
     front = trial.ask("front", "--at", str(at_message(verdict))).output
     before = trial.ask("judge", *steps, capture=front)
     trial.holds("search", before.status in (LEGAL, GAVE_UP), "what comes before", verdict, before)
     trial.holds("search", verdict.status != GAVE_UP or not captures.is_serial(trial.records), "one request after the other", verdict)
+
+
+def alone(trial, told):
+    """alone: so many first messages as the second line tells have no order, and one fewer have one."""
+    steps = "--steps", str(STEPS[-1])
+    found = trial.ask("search", *steps)
+    line = ALONE.search(found.output)
+    if found.status != NO_ORDER or not line:
+        return
+    count = int(line[1])
+    trial.holds("alone", count > at_message(found), "no fewer messages than those up to the stop", found)
+    for number, wanted in (count, NO_ORDER), (count - 1, LEGAL):
+        front = trial.ask("front", "--at", str(number)).output
+        answer = trial.ask("judge", *steps, capture=front)
+        trial.holds("alone", answer.status in (wanted, GAVE_UP), f"the first {number} messages", found, answer)
 
 
 def in_pieces(trial, told):
@@ -254,14 +276,14 @@ def plainly(trial, told):
     trial.same("plain", drivers.Answer(status, line.encode() + b"\n"), told, "plain and check")
     if decided != judge.TOO_LARGE:
         answer = trial.ask("judge", "--steps", "5000")
-        same = answer.status == decided and (decided == LEGAL or answer.output == searched.encode() + b"\n")
+        same = answer.status == decided and (decided == LEGAL or is_same_judgement(answer, drivers.Answer(decided, searched.encode())))
         trial.holds("plain", same or answer.status == GAVE_UP, f"{searched!r} and judge", answer)
 
 
 def checks_of(trial, told):
     """The checks that an input may be put to, and how often each of them is."""
     in_library = trial.driver is not trial.driver.program
-    found = {timed: 20 if in_library else 1, judged: 20 if in_library else 1, migrated: 2, searched: 6, watched: 2}
+    found = {timed: 20 if in_library else 1, judged: 20 if in_library else 1, migrated: 2, searched: 6, alone: 2, watched: 2}
     if in_library:
         found[in_process] = 1
     if len(trial.given.capture) < drivers.PIPE_BYTES:
