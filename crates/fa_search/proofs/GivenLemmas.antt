@@ -1,6 +1,6 @@
 -- What trees know of the nodes that answers gave: a step adds those of its own answer, and none is lost.
 use Rattle.std.proofs.Common.{◌≡◌, ℕ, suc, ◌+◌, ◌<◌, false, map, List, [], ◌∷◌, take, Option, None, Some, refl, sym, ap, subst, ◌∙◌, inl, inr, arith}
-use Rattle.std.specs.Prelude.{slice_get, Contains, All}
+use Rattle.std.specs.Prelude.{slice_get, Contains}
 use Rattle.std.specs.Option.{option_map_or}
 use Rattle.std.specs.FinMap.{get}
 use Rattle.std.proofs.lemmas.List.Elements.{All-contains}
@@ -23,7 +23,7 @@ use Rattle.fa_tree.specs.Steps.{names_given, opens_anew, Steps}
 use Rattle.fa_tree.proofs.CallerLemmas.{step_keeps_node, step_gives, step_failed_stays, step_read_stays}
 use Rattle.fa_order.specs.declared.entry.Entry.{Entry}
 use Rattle.fa_check.specs.Orders.{numbers}
-use Rattle.fa_check.specs.Runs.{IsCallAt, EntrySteps, Runs}
+use Rattle.fa_check.specs.Runs.{EntrySteps, Runs}
 use Rattle.fa_check.proofs.CallerLemmas.{call_one, call_of_message}
 use Rattle.fa_search.specs.parts.Going.{OrThis}
 use Rattle.fa_search.specs.parts.Configurations.{PlainConfiguration, IsReached, KeepsTrees, IsGivenUpTo, GivesUpTo, IsKnown, MakesKnown, KnowsGiven, LeavesFrom, IsAhead}

@@ -5,11 +5,9 @@ use Rattle.std.specs.Cmp.{nat_cmp_total}
 use Rattle.std.specs.FinMap.{FinMap, get, insert, get-insert, same_map, nat_cmp-IsAntisymmetric}
 use Rattle.std.specs.Ordering.{nat_cmp, eq_by_cmp}
 use Rattle.std.proofs.lemmas.Bool.{true≢false}
-use Rattle.std.proofs.lemmas.Option.{same_Some}
 use Rattle.fa_capture.proofs.CallerLemmas.{contains_cases, contains_first, contains_behind}
 use Rattle.fa_bodies.specs.Dirents.{PlainDirent}
 use Rattle.fa_ledger.specs.declared.name.NodeName.{NodeName}
-use Rattle.fa_ledger.specs.declared.operation.Outcome.{Outcome}
 use Rattle.fa_ledger.specs.declared.operation.Outcome.TheVariants.{Succeeds}
 use Rattle.fa_ledger.specs.Calls.{PlainCall}
 use Rattle.fa_ledger.specs.Kinds.{OnlyReads}
@@ -18,7 +16,7 @@ use Rattle.fa_tree.specs.declared.id.FileId.{FileId}
 use Rattle.fa_tree.specs.State.{OpenDirectory, Store, TreeState, node_cmp}
 use Rattle.fa_tree.specs.Operations.{said, count_written}
 use Rattle.fa_tree.specs.Bindings.{bound, nodes_after}
-use Rattle.fa_tree.specs.Steps.{names_given, opens_anew, setting, given_in, tree_done, tree_by, Steps}
+use Rattle.fa_tree.specs.Steps.{names_given, opens_anew, setting, tree_done, tree_by, Steps}
 use Rattle.fa_tree.proofs.CallerLemmas.{IsPartOf, whole_part, step_read}
 use Rattle.fa_search.proofs.NodeOrderLemmas.{node_total, node_apart, tied_same}
 

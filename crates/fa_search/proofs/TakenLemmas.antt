@@ -1,6 +1,5 @@
 -- What is taken in while a request is settled: one of the two lists has what is ahead of it.
-use Rattle.std.proofs.Common.{◌≡◌, ◌⊎◌, ℕ, ◌+◌, ◌<◌, ◌≤◌, List, [], ◌∷◌, ◌++◌, length, refl, sym, subst, ap, ◌∙◌, inl, inr, Result, Ok, Err, arith}
-use Rattle.std.proofs.Math.Logic.{∥∥₁_elim}
+use Rattle.std.proofs.Common.{◌≡◌, ◌⊎◌, ℕ, ◌+◌, ◌<◌, ◌≤◌, List, [], ◌∷◌, ◌++◌, refl, sym, subst, ap, ◌∙◌, inl, inr, Result, Ok, Err, arith}
 use Rattle.std.specs.Prelude.{Contains, None, Option, Some, slice_get, IsTrue, OnOk}
 use Rattle.std.specs.Map.{values_of}
 use Rattle.std.proofs.lemmas.Bool.{cases_lt}
@@ -12,14 +11,8 @@ use Rattle.fa_capture.specs.Message.{Message}
 use Rattle.fa_capture.proofs.CallerLemmas.{contains_cases, contains_first, contains_behind, get_kept}
 use Rattle.fa_session.specs.Answers.{IsAnsweredBy, IsUnanswered}
 use Rattle.fa_ledger.specs.declared.calls.Calls.{Calls}
-use Rattle.fa_ledger.specs.Calls.{PlainAnswer, PlainCall, AreCalls}
+use Rattle.fa_ledger.specs.Calls.{PlainCall, AreCalls}
 use Rattle.fa_ledger.specs.Choices.{Allows}
-use Rattle.fa_ledger.specs.Kinds.{IsFailure, OnlyReads}
-use Rattle.fa_ledger.specs.Operations.{PlainOperation, ended}
-use Rattle.fa_ledger.specs.Operations.PlainAction.{Write}
-use Rattle.fa_ledger.specs.Operations.PlainOperation.{Acts}
-use Rattle.fa_ledger.specs.Passing.{AreGood}
-use Rattle.fa_ledger.proofs.CallerLemmas.{call_at, calls_end_where_answered}
 use Rattle.fa_tree.specs.State.{TreeState}
 use Rattle.fa_order.specs.declared.entry.Entry.{Entry}
 use Rattle.fa_order.proofs.CallerLemmas.{same_entry}
@@ -30,15 +23,15 @@ use Rattle.fa_search.specs.declared.flight.Due.{Due}
 use Rattle.fa_search.specs.declared.flight.InFlight.{InFlight}
 use Rattle.fa_search.specs.declared.flight.Pending.{Pending}
 use Rattle.fa_search.specs.parts.Going.{OrThis}
-use Rattle.fa_search.specs.parts.Configurations.{PlainConfiguration, most_written, IsCountUpTo, IsPending, IsCallPending, MayBeTried, IsIdleIn, IsAhead, IsAheadIfKnown, IsFollowed, IsSpent}
+use Rattle.fa_search.specs.parts.Configurations.{PlainConfiguration, IsCountUpTo, IsPending, IsCallPending, MayBeTried, IsIdleIn, IsAhead, IsAheadIfKnown, IsFollowed, IsSpent}
 use Rattle.fa_search.specs.parts.Flight.{IsInFlight, IsFlight}
-use Rattle.fa_search.specs.parts.Placed.{MayBePlacedAt, IsPlacedIn, IsSameAs}
+use Rattle.fa_search.specs.parts.Placed.{IsPlacedIn, IsSameAs}
 use Rattle.fa_search.specs.parts.Settling.{IsTraced, AreSettlingBy, AreSettlingStill, IsFurther, IsIn, AreGrown, IsPushedNew, IsPut}
 use Rattle.fa_search.proofs.SettlingLemmas.{each_of, waits_more, settled_more, followed_still}
 use Rattle.fa_search.proofs.FlightLemmas.{counts_allowed, pending_by_call}
 use Rattle.fa_search.proofs.GivenLemmas.{knows_ahead}
 use Rattle.fa_search.proofs.TriedLemmas.{tried_call, step_followed, one_ahead, same_ahead, unanswered_ahead}
-use Rattle.fa_search.proofs.TracedLemmas.{in_flight_placed, in_flight_tried, traced_placed, further_same, further_placed}
+use Rattle.fa_search.proofs.TracedLemmas.{in_flight_tried, traced_placed}
 
 -- what holds whatever a result is holds where it is a success
 pub on_ok : {A E : Type 0} (r : Result A E) (P : Type 0) → P → OnOk r P

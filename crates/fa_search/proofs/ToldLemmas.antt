@@ -1,8 +1,7 @@
 -- Requests in flight that leave the tree of a configuration, and each later one, as what is kept of them tells.
-use Rattle.std.proofs.Common.{◌≡◌, ◌⊎◌, ℕ, ◌<◌, List, [], ◌∷◌, length, Option, Some, None, refl, sym, subst, ap, ◌∙◌, inl, inr, arith}
+use Rattle.std.proofs.Common.{◌≡◌, ◌⊎◌, ℕ, ◌<◌, List, [], ◌∷◌, length, Option, Some, None, refl, sym, subst, inl, inr, arith}
 use Rattle.std.proofs.Math.Logic.{∥∥₁_elim}
-use Rattle.std.specs.Prelude.{Contains, IfSome, IsTrue}
-use Rattle.std.specs.Map.{values_of}
+use Rattle.std.specs.Prelude.{Contains, IfSome}
 use Rattle.std.proofs.lemmas.List.Elements.{All-contains}
 use Rattle.fa_capture.specs.Message.{Message}
 use Rattle.fa_capture.proofs.CallerLemmas.{contains_cases, contains_first}
@@ -15,7 +14,6 @@ use Rattle.fa_ledger.specs.Operations.PlainAction.{Write}
 use Rattle.fa_ledger.specs.Operations.PlainOperation.{Acts}
 use Rattle.fa_ledger.specs.Passing.{AreGood}
 use Rattle.fa_ledger.proofs.CallerLemmas.{call_at, calls_end_where_answered}
-use Rattle.fa_tree.specs.State.{TreeState}
 use Rattle.fa_tree.specs.Steps.{names_given}
 use Rattle.fa_search.specs.declared.flight.InFlight.{InFlight}
 use Rattle.fa_search.specs.declared.flight.Pending.{Pending}

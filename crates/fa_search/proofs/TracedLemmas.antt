@@ -1,5 +1,5 @@
 -- Configurations with the entries that lead to them: those that all have in common, and then their own.
-use Rattle.std.proofs.Common.{ℕ, List, [], ◌∷◌, ◌++◌, refl, sym, subst, ap, ◌∙◌}
+use Rattle.std.proofs.Common.{ℕ, List, [], ◌∷◌, ◌++◌, sym, subst, ap, ◌∙◌}
 use Rattle.std.specs.Prelude.{Contains, Option}
 use Rattle.std.proofs.lemmas.List.{append_assoc}
 use Rattle.fa_capture.specs.Message.{Message}

@@ -11,9 +11,9 @@ use Rattle.fa_tree.specs.State.{TreeState}
 use Rattle.fa_tree.specs.Steps.{Steps, step_checks}
 use Rattle.fa_order.specs.declared.entry.Entry.{Entry}
 use Rattle.fa_order.proofs.CallerLemmas.{same_entry}
-use Rattle.fa_check.specs.Runs.{IsCallAt, EntrySteps}
+use Rattle.fa_check.specs.Runs.{EntrySteps}
 use Rattle.fa_check.specs.Cuts.{IsAnsweredBefore}
-use Rattle.fa_check.proofs.CallerLemmas.{call_one, entry_is_one, no_step_failure, tree_is_call, call_is_tree, call_of_message, allowed_choice, choice_allowed}
+use Rattle.fa_check.proofs.CallerLemmas.{entry_is_one, no_step_failure, tree_is_call, call_is_tree, call_of_message, allowed_choice, choice_allowed}
 use Rattle.fa_search.specs.parts.Going.{OrThis}
 use Rattle.fa_search.specs.parts.Configurations.{PlainConfiguration, MayBeTried, IsOneMore, LeavesFrom, IsIdleIn, IsAhead, IsAheadIfKnown, IsFollowed, IsPending, IsSpent}
 
