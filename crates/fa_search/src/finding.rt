@@ -22,7 +22,8 @@ pub enum Finding {
         /// [`codes`](fa_capture::codes); the least where it is refused with several.
         code: u16,
     },
-    /// The search gave up at message `at`, where its budget was spent: some entries explain the replies before it, and nothing is known from it on.
+    /// The search gave up at message `at`, where its budget was spent: some entries explain the replies before it, and nothing is known from
+    /// it on.
     GaveUp {
         /// The number of that message, which answers a tree request.
         at: u32,

@@ -52,10 +52,11 @@ const STEPS_BETWEEN: u64 = 100_000;
 ///
 /// That of a proposal and of a check, and of two copies of the tree. Where the proposal is not legal, that of a search, of two copies of the
 /// tree more, and of a check of the order that is found. A search takes a step for each tree that is held where one request alone is in
-/// flight. Elsewhere it holds a tree for each set of the requests in flight that may have come first, but for those that leave the tree as
-/// it is, and more where their order or the count of an unanswered WRITE tells; for each it looks through the requests in flight, and once
-/// more for one that gives a node which no reply gave before, copies the tree where one of them steps, and looks through the tree once more.
-/// The budget ends it. The listener is told of it between two messages alone.
+/// flight. Elsewhere it holds a tree for each set of the requests in flight that may have come first, and more where their order or the
+/// count of an unanswered WRITE tells. Errors are no such choice, nor is a request that only reads, opens no directory, and gives no node
+/// or one alone that is known: they are placed at once. For each tree it looks through the requests in flight, and through them once more
+/// for each that gives a node alone which no reply gave before, copies the tree where one of them steps, and looks through the tree once
+/// more. The budget ends it. The listener is told of it between two messages alone.
 pub fn search<L: Listener>(
     alloc: Global,
     calls: &Calls<'_>,

@@ -129,11 +129,12 @@ GivesUpTo reply call = OnlyReads call.operation × (opens_anew call ≡ false) �
 abbrev pub IsKnown : NodeName → TreeState → Type 0
 IsKnown name tree = (file : FileId) × (file_of tree name ≡ Some file)
 
--- behind its step the request at p has the tree know the node
+-- behind each step that the request at p has, the tree knows the node
 abbrev pub MakesKnown : List Message → (p : ℕ) → NodeName → Type 0
 MakesKnown c p name = (old new : TreeState) (e : Entry) → e.at ≡ p → EntrySteps old new c e → IsKnown name new
 
--- The tree knows what was given: each node that was made known by a request which was answered before this message, or by one of these.
+-- The tree knows what was given: each node that a step of a request makes known, of one which was answered before this message, or of one of
+-- these. So it is of each tree to which entries with these requests lead (`knows_reached`).
 abbrev pub KnowsGiven : List Message → (at : ℕ) → (Placed : ℕ → Type 0) → TreeState → Type 0
 KnowsGiven c at Placed tree = (p : ℕ) (name : NodeName) → IsAnsweredTree c at p ⊎ Placed p → MakesKnown c p name → IsKnown name tree
 
@@ -166,13 +167,14 @@ IsAheadIfKnown c at Placed tree x = KnowsGiven c at Placed tree → IsAhead c Pl
 
 -- ---- what is settled where a reply comes
 
--- one of these two lists has what the entry leads to from the configuration, or what is ahead of that
+-- One of these two lists has what the entry leads to from the configuration, or what is ahead of that, if the tree to which it leads knows
+-- what was given.
 pub record IsFollowed (c : List Message) (at : ℕ) (x : PlainConfiguration) (e : Entry) (new : TreeState) (work settled : List PlainConfiguration) : Type 0 where
   pub to : PlainConfiguration
   pub there : Contains work to ⊎ Contains settled to
   pub ahead : IsAheadIfKnown c at (OrThis (Contains x.placed) e.at) new to
 
--- whatever may be tried from the configuration, and has a step, leads to one of these
+-- whatever may be tried from the configuration, and has a step, leads to one of these, if the tree to which it leads knows what was given
 abbrev pub IsSpent : List Message → (at : ℕ) → PlainConfiguration → (work settled : List PlainConfiguration) → Type 0
 IsSpent c at x work settled =
     (e : Entry) (new : TreeState) → MayBeTried c at e → (Contains x.placed e.at → ⊥) → EntrySteps x.tree new c e → IsFollowed c at x e new work settled

@@ -46,12 +46,12 @@ pub record IsSettled (c : List Message) (first : TreeState) (common : List Entry
   pub left_is : settled ≡ [] → left ≡ work
   pub traced : (x : PlainConfiguration) → Contains settled x → IsTraced c first common at x
 
--- The configuration is ahead of another, and what came to that comes to it.
+-- The configuration is ahead of another, if the tree of that knows what was given, and what came to that comes to it.
 pub record IsFurther (c : List Message) (at : ℕ) (old new : PlainConfiguration) : Type 0 where
   pub ahead : IsAheadIfKnown c at (Contains old.placed) old.tree new
   pub traced : (first : TreeState) (common : List Entry) → IsTraced c first common at old → IsTraced c first common at new
 
--- one of the two lists has what is ahead of this one
+-- one of the two lists has what is ahead of this one, if its tree knows what was given
 pub record IsIn (c : List Message) (at : ℕ) (x : PlainConfiguration) (work settled : List PlainConfiguration) : Type 0 where
   pub to : PlainConfiguration
   pub there : Contains work to ⊎ Contains settled to
