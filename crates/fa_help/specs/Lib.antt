@@ -1,0 +1,4 @@
+-- What the contracts of this crate speak of.
+
+-- the bytes of what is printed
+pub mod Printing

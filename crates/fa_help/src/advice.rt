@@ -1,0 +1,265 @@
+//! Where each code is told, and what to look at then.
+
+ghost use Rattle.std.specs.Prelude.{◌↔◌, IfSome, IsSome};
+ghost use Rattle.fa_capture.specs.Codes.{text_of};
+ghost use Rattle.fa_help.specs.Printing.{IsPrinting};
+
+use fa_capture::codes;
+
+/// Of what a code is told, where, and what to look at then, if it is a code: lines of a label, padded to eight, a blank and a text,
+/// each with its line feed. Where it is told of several kinds of things, they stand one behind the other.
+pub(crate) fn lines_of(code: u16) -> Option<&'static str>
+    ensures codes { IsSome result ↔ IsSome (text_of code) }
+    ensures printing { IfSome result (λ lines. IsPrinting lines.now) }
+{
+    let lines = match code {
+        codes::NO_MAGIC => {
+            "told of  the bytes of a capture\n\
+             fails    where the bytes begin with neither `FUSECAP1` nor `FUSECAP2`\n\
+             look at  Is this the capture, and not its tree text or its log? A recorder of your own writes FUSECAP1 first.\n"
+        }
+        codes::CUT_OFF => {
+            "told of  the bytes of a capture\n\
+             fails    where fewer than 5 bytes are left, or 13 in `FUSECAP2`\n\
+             fails    where the record ends behind the last byte\n\
+             look at  The recorder was ended in the midst of a record. What stands before it is whole: `fa_audit front` keeps it.\n"
+        }
+        codes::DIRECTION => {
+            "told of  the bytes of a capture\n\
+             fails    where the direction is neither 0 nor 1\n\
+             look at  The record before states another length than it has, or a second capture stands behind the first. Write one record at a time, under a lock, and a file for each mount.\n"
+        }
+        codes::MESSAGE_TOO_LONG => {
+            "told of  the bytes of a capture\n\
+             fails    where the length is above 2,097,152\n\
+             look at  The length was written big-endian, or is not that of the message.\n"
+        }
+        codes::CAPTURE_TOO_LARGE => {
+            "told of  the bytes of a capture\n\
+             fails    where 16,777,216 messages stand before this place\n\
+             fails    where the record ends beyond byte 268,435,456, where no time is counted\n\
+             look at  Record a shorter session.\n\
+             look at  Or have the messages before this one judged: `fa_audit front` keeps them.\n"
+        }
+        codes::HEADER_TOO_SHORT => {
+            "told of  a request\n\
+             fails    where the message has fewer than 40 bytes\n\
+             look at  A part of the request was recorded, or a reply with the direction of a request. Record all that read(2) returned.\n\
+             told of  a message of the server\n\
+             fails    where the message has fewer than 16 bytes\n\
+             look at  The server wrote a part of a message, which the kernel refuses with EINVAL, or a part was recorded. Write header and body in one call.\n"
+        }
+        codes::LENGTH_FIELD => {
+            "told of  a request\n\
+             fails    where len is not the length of the message\n\
+             look at  The size of the buffer was recorded in place of what read(2) returned.\n\
+             told of  a message of the server\n\
+             fails    where len is not the length of the message\n\
+             look at  len of struct fuse_out_header has to count header and body: look where it is set. Or the parts of a writev(2) were recorded one by one.\n"
+        }
+        codes::OPERATION => {
+            "told of  a request\n\
+             fails    where the opcode is 0, 7, 19, 41 or above 47\n\
+             look at  The kernel is newer than 7.31. `fuse-record` answers such operations with ENOSYS in the server's place; a recorder of your own has to.\n"
+        }
+        codes::REQUEST_BODY => {
+            "told of  a request\n\
+             fails    where the body is not one that the operation has\n\
+             look at  The buffer was used again before it was recorded: record a request before the server works in it. Names `.` and `..` are looked up for NFS exports and open_by_handle_at(2): do not export the mount.\n"
+        }
+        codes::PROFILE_LIMIT => {
+            "told of  a request\n\
+             fails    where a WRITE or a SETATTR goes past the file limit, 1,099,511,627,776 bytes\n\
+             look at  No fault of the server: a program wrote beyond what is judged here. Keep the files of the session smaller.\n"
+        }
+        codes::ERROR_VALUE => {
+            "told of  a message of the server\n\
+             fails    where unique is not 0, and the error is above 0 or below -999\n\
+             look at  The server answers the error with the wrong sign, or a number of its own: struct fuse_out_header wants -ENOENT and the like.\n"
+        }
+        codes::REPLY_BODY => {
+            "told of  a message of the server\n\
+             fails    where an error other than 0 has a body, or a success has one that the operation does not have\n\
+             look at  The server answers with the struct of another operation or protocol version, sends an error with a body, or more bytes than were asked for: look where it builds this answer.\n"
+        }
+        codes::NOTIFICATION => {
+            "told of  a message of the server\n\
+             fails    where unique is 0, and the code is none of 1, 2, 3, 4 and 6\n\
+             look at  unique of the answer was left 0: take it from the request. RETRIEVE asks the kernel for an answer and is not judged here.\n"
+        }
+        codes::FIRST_NOT_INIT => {
+            "told of  a request\n\
+             fails    where it is message 0 and no INIT\n\
+             look at  The recording began after INIT was read: start the server under the recorder.\n\
+             told of  a message of the server\n\
+             fails    where it is message 0\n\
+             look at  An answer was recorded before its request: record a request before it is handled.\n"
+        }
+        codes::SECOND_INIT => {
+            "told of  a request\n\
+             fails    where it is an INIT, but not message 0\n\
+             look at  Two mounts were recorded into one file, or the server was started again.\n"
+        }
+        codes::BEFORE_INIT_ANSWERED => {
+            "told of  a request\n\
+             fails    where it is no INIT, and INIT was not answered before it\n\
+             look at  The answer of INIT was recorded too late, or not at all: record an answer before it is written.\n"
+        }
+        codes::INIT_REFUSED => {
+            "told of  a message of the server\n\
+             fails    where it answers INIT with an error\n\
+             look at  The server does not speak what the kernel offers, or failed as it began: see what it says then.\n"
+        }
+        codes::VERSION => {
+            "told of  a message of the server\n\
+             fails    where it answers INIT, and a major is not 7, or the least of the two minors is not 31\n\
+             look at  The server answers the minor of a newer or older fuse.h. `fuse-record` shows it 7.31.\n\
+             look at  Or the kernel is older than 7.31.\n"
+        }
+        codes::NEGOTIATED_FLAGS => {
+            "told of  a message of the server\n\
+             fails    where it answers INIT, and WRITEBACK_CACHE or POSIX_ACL is set in both INIT messages\n\
+             look at  The server copies the flags of the kernel, or asks for what is not judged here. `fuse-record` clears both flags.\n"
+        }
+        codes::UNIQUE_IN_USE => {
+            "told of  a request\n\
+             fails    where its unique is that of a request that waits for its answer, unless both are INTERRUPT\n\
+             look at  The same request was recorded twice (two recorders, or a retried read), or its answer was not recorded.\n"
+        }
+        codes::NO_REQUEST_WAITS => {
+            "told of  a message of the server\n\
+             fails    where unique is not 0, and no request with it waits for an answer\n\
+             look at  The server answers one request twice: look for an error that is sent behind a success, and for two threads that finish one request.\n\
+             look at  FORGET and BATCH_FORGET have no answer: look where the server replies to all that it has handled (in libfuse: fuse_reply_none).\n\
+             look at  unique was not taken from the request, or its request is missing from the capture.\n"
+        }
+        codes::LEFT_OUT_SUCCEEDED => {
+            "told of  a message of the server\n\
+             fails    where it answers IOCTL, FALLOCATE, COPY_FILE_RANGE or a RENAME2 with flags that are not judged with success\n\
+             look at  No fault of the server. Record with `fuse-record --refuse` and the name of the operation: programs then take another way.\n"
+        }
+        codes::OPEN_WITHOUT_HANDLE => {
+            "told of  a message of the server\n\
+             fails    where it answers OPEN or OPENDIR with ENOSYS, -38\n\
+             look at  No fault of the server, but the kernel then sends no opens that could be judged: answer it with a handle while recording.\n"
+        }
+        codes::UNIQUE_ZERO => {
+            "told of  a request\n\
+             fails    where unique is 0\n\
+             look at  Linux gives no request this unique: the bytes were changed before they were recorded.\n"
+        }
+        codes::FORGOTTEN_NODE => {
+            "told of  a request\n\
+             fails    where it names a node, in the header, as the new directory of RENAME or RENAME2 or as the file of LINK, that is not the root and whose lookup count is 0\n\
+             look at  Linux names a node only after an answer gave it: an answer is missing from the capture (a thread or a process that was not recorded), or two mounts stand in one file. A server in which the node is gone too counts lookups otherwise than the kernel.\n"
+        }
+        codes::FORGOTTEN_TOO_OFTEN => {
+            "told of  a request\n\
+             fails    where a FORGET, or an item of a BATCH_FORGET after those before it, takes more lookups than the node has\n\
+             look at  An answer that gave the node is missing from the capture. Each success of LOOKUP, CREATE, MKNOD, MKDIR, SYMLINK and LINK and each entry of READDIRPLUS counts one: does the server count so?\n"
+        }
+        codes::NODE_ID_NOT_ALLOWED => {
+            "told of  a message of the server\n\
+             fails    where it gives node 1, or node 0 in another answer than that of LOOKUP or an entry of READDIRPLUS (the entries `.` and `..` give nothing)\n\
+             look at  nodeid of struct fuse_entry_out was left 0 in the answer of a creation or a LINK; or a name was answered with the id of the root.\n"
+        }
+        codes::CLOSED_HANDLE => {
+            "told of  a request\n\
+             fails    where it uses a file handle that is not open, under the node of its opening and of its kind, a file or a directory\n\
+             look at  The answer of its OPEN, OPENDIR or CREATE is missing from the capture, or a thread recorded RELEASE before what was sent earlier: record each request at once behind read(2).\n\
+             look at  Or the server gave one handle for another: look where it gives handles out and closes them.\n"
+        }
+        codes::NOT_AN_ORDER_TEXT => {
+            "told of  a line of an order text\n\
+             fails    where it is the first that does not fit the format\n\
+             look at  A carriage return, a blank or an empty line, or no line feed behind `end`. `fa_audit propose` writes texts that fit.\n"
+        }
+        codes::NOT_A_TREE_TEXT => {
+            "told of  a line of a tree text\n\
+             fails    where it is the first that does not fit the format\n\
+             look at  A name before its directory, a blank in a name that is not spelled %20, or a file above the limit. `fuse-tree` writes texts that fit.\n"
+        }
+        codes::NO_TREE_REQUEST => {
+            "told of  an entry of an order\n\
+             fails    where its message is no request that acts on the tree\n\
+             look at  Messages are counted from 0, replies too. Only requests that act on the tree stand in an order.\n"
+        }
+        codes::PLACED_TWICE => {
+            "told of  an entry of an order\n\
+             fails    where an entry before it has the same message\n\
+             look at  A line stands in the order twice: take one out.\n"
+        }
+        codes::EARLIER_NOT_PLACED => {
+            "told of  an entry of an order\n\
+             fails    where a tree request that was answered before this one was sent is in no entry before it\n\
+             look at  Where one request was answered before the next was sent, the order has to keep that. Note the order under the server's lock, at the place where the request takes effect, or have `fa_audit propose` guess one.\n"
+        }
+        codes::ANSWERED_LEFT_OUT => {
+            "told of  an order, behind its last entry\n\
+             fails    where an answered request that acts on the tree is in no entry\n\
+             look at  it would fit as the next entry: Each answered request that acts on the tree stands in an order, one that was answered with an error too.\n\
+             look at  it would not fit: The code that it has there says more: `fa_audit check` tells it of the order with this request as its next line. `fa_audit judge` says whether another order explains the reply.\n"
+        }
+        codes::CHOICE_NOT_ALLOWED => {
+            "told of  an entry of an order\n\
+             fails    where it gives a count to an answered request or to one that is no WRITE; or it names an unanswered WRITE without a count or with one above its size, or an unanswered request that only reads\n\
+             look at  Only an unanswered WRITE has a count, at most its size; an unanswered request that only reads stands in no order.\n"
+        }
+        codes::UNKNOWN_HERE => {
+            "told of  an entry of an order\n\
+             fails    where its request names a node or a file handle that no entry before it gave\n\
+             look at  Nothing: no order is told this code. What a request names was given by an earlier answer, and an entry before the request of that answer has code 72.\n"
+        }
+        codes::SUCCESS_NOT_ALLOWED => {
+            "told of  an entry of an order, or the request of a reply that no order explains\n\
+             fails    where the tree does not allow the success, as of a CREATE in a directory without a name, or the answer has not the form of one, as attributes for a WRITE\n\
+             look at  a name is not there: The server finds a name that is gone: a cache that UNLINK, RMDIR or RENAME do not clear, or a check and a change that no lock holds together. Or the tree text lacks the name.\n\
+             look at  a name is there already: The server did not see a name that is there: two requests may both have checked before either made it. Check and change under one lock.\n\
+             look at  a directory is not empty: The server removes or replaces a directory without looking into it, or what it looks at is older than the last CREATE.\n\
+             look at  a file or directory has no name any more: The server goes on to use a directory or file after its last name went: check that under the lock of the removal.\n\
+             look at  a directory would come into itself: The server lets a directory move below itself: walk up from the new directory, and refuse with EINVAL.\n\
+             look at  all else: The server does not check the type, or has another file for the node: look at what it keeps by node id, and what happens to that when the id is given again.\n"
+        }
+        codes::ERROR_WITHOUT_CAUSE => {
+            "told of  an entry of an order, or the request of a reply that no order explains\n\
+             fails    where the error is ENOENT, EEXIST, ENOTDIR, EISDIR or ENOTEMPTY, and the tree gives no cause for it\n\
+             look at  ENOENT: Each place where the server answers the operation with ENOENT: another failure that is told as ENOENT, a cached \"not there\" that CREATE, LINK or RENAME do not clear, a table that is changed in two steps without a lock.\n\
+             look at  EEXIST: What the server asks before EEXIST: a name that went is still in one of its tables. Or the tree text lacks the name.\n\
+             look at  ENOTDIR: From where the server takes the type of the node: an id that was given again, the root taken for a file, a type bit lost.\n\
+             look at  EISDIR: From where the server takes the type of the node: an id that was given again, a type bit lost.\n\
+             look at  ENOTEMPTY: What the server counts as names of the directory: removed files that it keeps under hidden names (libfuse without hard_remove), what others write below, a count that UNLINK does not lower.\n"
+        }
+        codes::ATTRIBUTES => {
+            "told of  an entry of an order, or the request of a reply that no order explains\n\
+             fails    where the type, the permission bits, the size or the number of links that the answer tells are not those of the file\n\
+             look at  type: What fills `mode`: the type bits belong to it; or the node stands for another file in the server.\n\
+             look at  links: What fills `nlink` in the answers of LINK, LOOKUP, GETATTR and CREATE alike: a constant 1, or attributes from before the request.\n\
+             look at  size: What fills `size`: attributes kept from before a WRITE, SETATTR or open with O_TRUNC, or taken before this request took effect.\n\
+             look at  permission bits: The mode of the request less its umask: run the server with umask 0, on a folder without default access control lists, and look what fills `mode`, in answers of SETATTR too.\n"
+        }
+        codes::NODE_ID_OF_ANOTHER => {
+            "told of  an entry of an order, or the request of a reply that no order explains\n\
+             fails    where the node that the answer gives stands for another file already\n\
+             look at  The server made one node id for two files: an id taken from an inode number that was used again while the kernel still knew it, or from a hash; or LINK and RENAME moved a name and not its id. Give an id again only behind the last FORGET.\n"
+        }
+        codes::BYTES_READ => {
+            "told of  an entry of an order, or the request of a reply that no order explains\n\
+             fails    where the bytes of a READ, or the target of a READLINK, are not those of the file\n\
+             look at  READLINK: What the server keeps of targets, and whether the node stands for another file there.\n\
+             look at  READ, too short: Few bytes: only the end of the file, or FOPEN_DIRECT_IO, allows that. Does the server go on reading after a short pread(2), and is its size the newest?\n\
+             look at  READ, too long: Bytes behind the end of the file: the server's size is older than the last truncation.\n\
+             look at  READ, other bytes: A copy of the bytes that a WRITE or truncation did not change: what is kept by handle or by page, and a WRITE done in two steps without a lock.\n"
+        }
+        codes::LISTING => {
+            "told of  an entry of an order, or the request of a reply that no order explains\n\
+             fails    where an answer of READDIR or READDIRPLUS breaks the rule of listings: each name that stayed in the directory since the opening is listed once, and none that was not in it since then\n\
+             look at  a name is missing: The loop that fills the answer: what it passes over, where it goes on (the off of an entry is the place behind it), and what a name that comes or goes does to the places of the others.\n\
+             look at  a name stands twice: The off of the entries: the place behind an entry has to stay, whatever comes or goes; an index into a list that shifts does not.\n\
+             look at  a name that was never there: What the server lists from: a name that was renamed or removed before the opening is in it.\n\
+             look at  the type of an entry: What fills `type` of struct fuse_dirent: 0 says nothing, all else is the type bits of the mode divided by 4,096.\n\
+             look at  a node of a name that is gone: READDIRPLUS looked the name up after it had gone: list and look up under one lock, or give the entry without a node.\n"
+        }
+        _ => return None,
+    };
+    Some(lines)
+}
