@@ -11,8 +11,9 @@ use Rattle.fa_audit_program.specs.declared.command_line.CutPaths.{CutPaths}
 use Rattle.fa_audit_program.specs.declared.command_line.FrontPaths.{FrontPaths}
 use Rattle.fa_audit_program.specs.declared.command_line.MigratePaths.{MigratePaths}
 use Rattle.fa_audit_program.specs.declared.command_line.WatchPaths.{WatchPaths}
+use Rattle.fa_audit_program.specs.declared.command_line.Topic.{Topic}
 use Rattle.fa_audit_program.specs.declared.command_line.Call.{Call}
-use Rattle.fa_audit_program.specs.declared.command_line.Call.TheVariants.{Check, Propose, Search, Judge, Cut, Front, Migrate, Watch}
+use Rattle.fa_audit_program.specs.declared.command_line.Call.TheVariants.{Check, Propose, Search, Judge, Cut, Front, Migrate, Watch, Help}
 
 -- the value of an option of the command that the words call
 abbrev pub value_of : ArgMatches → List ℕ → Option (List ℕ)
@@ -82,6 +83,11 @@ pub record IsWatchOf (matches : ArgMatches) (paths : WatchPaths) : Type 0 where
   pub command : subcommand_name_of matches ≡ Some (codes "watch")
   pub capture_is : value_of matches (codes "capture") ≡ Some paths.capture.now
 
+-- the words call `help` with this word, or none
+pub record IsHelpOf (matches : ArgMatches) (topic : Topic) : Type 0 where
+  pub command : subcommand_name_of matches ≡ Some (codes "help")
+  pub word_is : value_of matches (codes "topic") ≡ option_copied topic.word
+
 -- the words are this call
 abbrev pub IsCallOf : ArgMatches → Call → Type 0
 IsCallOf matches (Check paths) = IsCheckOf matches paths
@@ -92,6 +98,7 @@ IsCallOf matches (Cut paths) = IsCutOf matches paths
 IsCallOf matches (Front paths) = IsFrontCallOf matches paths
 IsCallOf matches (Migrate paths) = IsMigrateCallOf matches paths
 IsCallOf matches (Watch paths) = IsWatchOf matches paths
+IsCallOf matches (Help topic) = IsHelpOf matches topic
 
 -- the words do not call `check` with all that it needs
 abbrev pub IsNoCheck : ArgMatches → Type 0
@@ -126,3 +133,7 @@ IsNoMigrateCall matches = (subcommand_name_of matches ≢ Some (codes "migrate")
 -- the words do not call `watch` with all that it needs
 abbrev pub IsNoWatch : ArgMatches → Type 0
 IsNoWatch matches = (subcommand_name_of matches ≢ Some (codes "watch")) ⊎ (value_of matches (codes "capture") ≡ None)
+
+-- the words do not call `help`
+abbrev pub IsNoHelp : ArgMatches → Type 0
+IsNoHelp matches = subcommand_name_of matches ≢ Some (codes "help")

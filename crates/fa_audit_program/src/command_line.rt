@@ -2,8 +2,9 @@
 
 ghost use Rattle.std.specs.Prelude.{ℕ, codes, IfSome, IsNone};
 ghost use Rattle.std.specs.Option.{option_copied};
-ghost use Rattle.fa_audit_program.specs.CommandLine.{IsCheckOf, IsProposeOf, IsSearchCallOf, IsStepsIfAny, IsStepsText, IsNoSteps, IsNoSearchCall, IsCutOf, IsFrontCallOf, IsMigrateCallOf, IsWatchOf, IsCallOf, IsNumberText, IsNoCheck, IsNoPropose, IsNoCutCall, IsNoFrontCall, IsNoMigrateCall, IsNoWatch};
+ghost use Rattle.fa_audit_program.specs.CommandLine.{IsCheckOf, IsProposeOf, IsSearchCallOf, IsStepsIfAny, IsStepsText, IsNoSteps, IsNoSearchCall, IsCutOf, IsFrontCallOf, IsMigrateCallOf, IsWatchOf, IsHelpOf, IsCallOf, IsNumberText, IsNoCheck, IsNoPropose, IsNoCutCall, IsNoFrontCall, IsNoMigrateCall, IsNoWatch, IsNoHelp};
 
+use crate::help_texts;
 use clap::{Arg, ArgAction, ArgMatches, Command, value_parser};
 use fa_capture::limits::MAX_MESSAGES;
 use std::alloc::{AllocError, Global};
@@ -24,6 +25,8 @@ const FRONT: &str = "front";
 const MIGRATE: &str = "migrate";
 /// The command that watches a stream.
 const WATCH: &str = "watch";
+/// The command that tells what a code means.
+const HELP: &str = "help";
 /// The option that names the capture.
 const CAPTURE: &str = "capture";
 /// The option that names the tree text.
@@ -36,6 +39,13 @@ const AT: &str = "at";
 const STEPS: &str = "steps";
 /// The option by which a search says how far it has come.
 const PROGRESS: &str = "progress";
+/// The word of which help is asked.
+const TOPIC: &str = "topic";
+
+/// The name of the program, in its own texts.
+pub const PROGRAM: &str = "fa_audit";
+/// Its version.
+const VERSION: &str = "0.1.0";
 
 /// The files of a call of `check`.
 #[derive(Clone, Copy, Debug)]
@@ -198,6 +208,25 @@ impl<'a> WatchPaths<'a> {
     }
 }
 
+/// The word of a call of `help`.
+#[derive(Clone, Copy, Debug)]
+pub struct Topic<'a> {
+    /// None where help is asked of the program.
+    pub word: Option<&'a str>,
+}
+
+impl<'a> Topic<'a> {
+    /// What a parse by [`command`] found; there is nothing only where the words were no call of `help`.
+    pub fn new(matches: &ArgMatches<'a>) -> Option<Self>
+        ensures found { IfSome result (IsHelpOf matches.now) }
+        ensures none { IsNone result → IsNoHelp matches.now }
+    {
+        let options = matches.subcommand_matches(HELP)?;
+        let word = options.get_str(TOPIC);
+        Some(Topic { word })
+    }
+}
+
 /// The number that a text is in decimal digits.
 fn number(text: &str) -> Option<u32>
     ensures found { IfSome result (IsNumberText text.now) }
@@ -244,6 +273,8 @@ pub enum Call<'a> {
     Migrate(MigratePaths<'a>),
     /// A capture is judged while it is written.
     Watch(WatchPaths<'a>),
+    /// Help is asked of a code, a command or the program.
+    Help(Topic<'a>),
 }
 
 impl<'a> Call<'a> {
@@ -252,7 +283,7 @@ impl<'a> Call<'a> {
         ensures found { IfSome result (IsCallOf matches.now) }
         ensures none { IsNone result →
             IsNoCheck matches.now × IsNoPropose matches.now × IsNoSearchCall (codes "search") matches.now
-            × IsNoSearchCall (codes "judge") matches.now × IsNoCutCall matches.now × IsNoFrontCall matches.now × IsNoMigrateCall matches.now × IsNoWatch matches.now }
+            × IsNoSearchCall (codes "judge") matches.now × IsNoCutCall matches.now × IsNoFrontCall matches.now × IsNoMigrateCall matches.now × IsNoWatch matches.now × IsNoHelp matches.now }
     {
         if let Some(paths) = CheckPaths::new(matches) {
             return Some(Call::Check(paths));
@@ -275,64 +306,75 @@ impl<'a> Call<'a> {
         if let Some(paths) = MigratePaths::new(matches) {
             return Some(Call::Migrate(paths));
         }
-        Some(Call::Watch(WatchPaths::new(matches)?))
+        if let Some(paths) = WatchPaths::new(matches) {
+            return Some(Call::Watch(paths));
+        }
+        Some(Call::Help(Topic::new(matches)?))
     }
 }
 
 /// The command line: `fa_audit check --capture FILE [--tree FILE] --order FILE`, `fa_audit propose --capture FILE [--tree FILE]`,
 /// `fa_audit search --capture FILE [--tree FILE] [--steps N] [--progress]`, `fa_audit judge` with the same options,
-/// `fa_audit cut --capture FILE --order FILE --at N`, `fa_audit front --capture FILE --at N`, `fa_audit migrate --capture FILE` or
-/// `fa_audit watch --capture FILE`.
+/// `fa_audit cut --capture FILE --order FILE --at N`, `fa_audit front --capture FILE --at N`, `fa_audit migrate --capture FILE`,
+/// `fa_audit watch --capture FILE` or `fa_audit help [CODE|COMMAND]`.
 pub fn command<'a>(alloc: Global) -> Result<Command<'a>, AllocError> {
-    let check = check_command(alloc)?;
-    let propose = propose_command(alloc)?;
-    let search = search_command(
-        alloc,
-        SEARCH,
-        "Searches all orders for one that explains a capture, and prints its text or that there is none",
-    )?;
-    let judge = search_command(alloc, JUDGE, "Tells whether some order explains a capture")?;
-    let cut = cut_command(alloc)?;
-    let front = Command::new(alloc, FRONT)
-        .about("Writes the capture of the messages before a message")
-        .arg(capture_option(alloc))?
-        .arg(at_option(alloc))?;
-    let migrate = Command::new(alloc, MIGRATE)
-        .about("Writes a capture anew in the format that has times")
-        .arg(capture_option(alloc))?;
-    let watch = Command::new(alloc, WATCH)
-        .about("Tells the first fault of a capture as soon as it is written, or that it has none")
-        .arg(capture_option(alloc))?;
-    Command::new(alloc, "fa_audit")
-        .bin_name("fa_audit")?
+    Command::new(alloc, PROGRAM)
+        .bin_name(PROGRAM)?
+        .version(VERSION)
         .about("Audits recorded /dev/fuse traffic")
+        .after_help(help_texts::PROGRAM)
+        .disable_help_subcommand(true)
         .subcommand_required(true)
-        .subcommand(check)?
-        .subcommand(propose)?
-        .subcommand(search)?
-        .subcommand(judge)?
-        .subcommand(cut)?
-        .subcommand(front)?
-        .subcommand(migrate)?
-        .subcommand(watch)
+        .subcommand(check_command(alloc)?)?
+        .subcommand(propose_command(alloc)?)?
+        .subcommand(search_command(
+            alloc,
+            SEARCH,
+            "Searches all orders for one that explains a capture, and prints its text or that there is none",
+            help_texts::SEARCH,
+        )?)?
+        .subcommand(search_command(
+            alloc,
+            JUDGE,
+            "Tells whether some order explains a capture",
+            help_texts::JUDGE,
+        )?)?
+        .subcommand(cut_command(alloc)?)?
+        .subcommand(front_command(alloc)?)?
+        .subcommand(migrate_command(alloc)?)?
+        .subcommand(watch_command(alloc)?)?
+        .subcommand(help_command(alloc)?)
+}
+
+/// A command of this name, with what its help says before and behind its options.
+fn named<'a>(alloc: Global, name: &'a str, about: &'a str, after: &'a str) -> Command<'a> {
+    Command::new(alloc, name).about(about).after_help(after)
 }
 
 /// The command `check`.
 fn check_command<'a>(alloc: Global) -> Result<Command<'a>, AllocError> {
     let order = path_option(alloc, ORDER).help("The order text that is to explain it");
-    Command::new(alloc, CHECK)
-        .about("Tells in one line whether an order explains a capture")
-        .arg(capture_option(alloc))?
-        .arg(tree_option(alloc))?
-        .arg(order)
+    named(
+        alloc,
+        CHECK,
+        "Tells in one line whether an order explains a capture",
+        help_texts::CHECK,
+    )
+    .arg(capture_option(alloc))?
+    .arg(tree_option(alloc))?
+    .arg(order)
 }
 
 /// The command `propose`.
 fn propose_command<'a>(alloc: Global) -> Result<Command<'a>, AllocError> {
-    Command::new(alloc, PROPOSE)
-        .about("Guesses an order that may explain a capture, and prints its text")
-        .arg(capture_option(alloc))?
-        .arg(tree_option(alloc))
+    named(
+        alloc,
+        PROPOSE,
+        "Guesses an order that may explain a capture, and prints its text",
+        help_texts::PROPOSE,
+    )
+    .arg(capture_option(alloc))?
+    .arg(tree_option(alloc))
 }
 
 /// The command of this name, which searches.
@@ -340,9 +382,9 @@ fn search_command<'a>(
     alloc: Global,
     name: &'a str,
     about: &'a str,
+    after: &'a str,
 ) -> Result<Command<'a>, AllocError> {
-    Command::new(alloc, name)
-        .about(about)
+    named(alloc, name, about, after)
         .arg(capture_option(alloc))?
         .arg(tree_option(alloc))?
         .arg(steps_option(alloc))?
@@ -352,11 +394,63 @@ fn search_command<'a>(
 /// The command `cut`.
 fn cut_command<'a>(alloc: Global) -> Result<Command<'a>, AllocError> {
     let order = path_option(alloc, ORDER).help("The order text that is cut");
-    Command::new(alloc, CUT)
-        .about("Prints what is left of an order that is cut at a message")
-        .arg(capture_option(alloc))?
-        .arg(order)?
-        .arg(at_option(alloc))
+    named(
+        alloc,
+        CUT,
+        "Prints what is left of an order that is cut at a message",
+        help_texts::CUT,
+    )
+    .arg(capture_option(alloc))?
+    .arg(order)?
+    .arg(at_option(alloc))
+}
+
+/// The command `front`.
+fn front_command<'a>(alloc: Global) -> Result<Command<'a>, AllocError> {
+    named(
+        alloc,
+        FRONT,
+        "Writes the capture of the messages before a message",
+        help_texts::FRONT,
+    )
+    .arg(capture_option(alloc))?
+    .arg(at_option(alloc))
+}
+
+/// The command `migrate`.
+fn migrate_command<'a>(alloc: Global) -> Result<Command<'a>, AllocError> {
+    named(
+        alloc,
+        MIGRATE,
+        "Writes a capture anew in the format that has times",
+        help_texts::MIGRATE,
+    )
+    .arg(capture_option(alloc))
+}
+
+/// The command `watch`.
+fn watch_command<'a>(alloc: Global) -> Result<Command<'a>, AllocError> {
+    named(
+        alloc,
+        WATCH,
+        "Tells the first fault of a capture as soon as it is written, or that it has none",
+        help_texts::WATCH,
+    )
+    .arg(capture_option(alloc))
+}
+
+/// The command `help`.
+fn help_command<'a>(alloc: Global) -> Result<Command<'a>, AllocError> {
+    let topic = Arg::new(alloc, TOPIC).value_name("CODE|COMMAND").help(
+        "A code of a line of this program, or a command; without it, the program",
+    );
+    named(
+        alloc,
+        HELP,
+        "Tells what a code means and what to look at then, or prints this help or that of a command",
+        help_texts::HELP,
+    )
+    .arg(topic)
 }
 
 /// The option that names the capture.

@@ -15,90 +15,177 @@
 //! is no call, 5 where reading, writing or memory failed, 6 where no order explains the capture, and 7 where a search gave up. What stands behind a status 4 or 5 is told on standard error.
 #![tactic(auto)]
 
-ghost use Rattle.std.specs.Prelude.{◌≡◌, false, IfOk, IfSome};
-ghost use Rattle.fa_capture.specs.Device.{device_failed, device_interrupted};
+ghost use Rattle.std.specs.Prelude.{◌≡◌, IfSome};
 
 mod command_line;
 mod failure;
+mod files;
+mod help_texts;
 
 use crate::command_line::{
-    Call, CheckPaths, CutPaths, FrontPaths, MigratePaths, ProposePaths, SearchPaths, WatchPaths,
+    Call, CheckPaths, CutPaths, FrontPaths, MigratePaths, PROGRAM, ProposePaths, SearchPaths,
+    Topic, WatchPaths,
 };
-use crate::failure::Failure;
+use crate::failure::{Cause, Failure};
+use crate::files::{Sink, Source, open_capture, open_text, open_text_if_any};
 use fa_audit::{
-    Budget, Listener, RunFault, SoFar, run, run_cut, run_front, run_judge, run_migrate,
+    Budget, Listener, RunFault, SoFar, Status, run, run_cut, run_front, run_judge, run_migrate,
     run_propose, run_search, run_watch,
 };
-use fa_capture::Device;
+use fa_help::Paragraph;
 use std::env::Env;
-use std::fs::File;
+use std::fmt::Display;
 use std::io::ErrorKind;
 use std::process::ExitCode;
 use std::rt::Files;
 use std::{env, io};
 
 fn main(rt: HostRuntime) -> ExitCode {
-    let status = match call(&rt) {
-        Ok(status) => status,
-        Err(failure) => {
-            let _ = eprint!(rt; "{failure}");
-            failure.status().number()
-        }
-    };
-    ExitCode::from(status)
+    ExitCode::from(status(&rt))
 }
 
-/// Runs the call that the process's words are: its status.
-fn call<R: AllocGlobal + Env + Files + Print + Eprint>(rt: &R) -> Result<u8, Failure> {
-    let words = words(rt)?;
-    let matches = command_line::command(rt.alloc())?.try_get_matches_from(words.as_slice())?;
+/// Runs the call that the process's words are, and says on standard error what keeps it from an answer: its status.
+fn status<R: AllocGlobal + Env + Files + Print + Eprint>(rt: &R) -> u8 {
+    match words(rt) {
+        Ok(words) => match call(rt, &words) {
+            Ok(status) => status,
+            Err(failure) => told(rt, &failure),
+        },
+        Err(failure) => told(rt, &failure),
+    }
+}
+
+/// Says on standard error what keeps the program from an answer: its status.
+fn told<R: Eprint>(rt: &R, failure: &Failure<'_>) -> u8 {
+    // What standard error does not take is lost.
+    let _ = eprint!(rt; "{failure}");
+    failure.status().number()
+}
+
+/// Runs the call that these words are: its status.
+fn call<'a, R: AllocGlobal + Files + Print + Eprint>(
+    rt: &R,
+    words: &'a [String],
+) -> Result<u8, Failure<'a>> {
+    let matches = match command_line::command(rt.alloc())?.try_get_matches_from(words) {
+        Ok(matches) => matches,
+        Err(error) => return answered(rt, error),
+    };
     match Call::new(&matches).ok_or(Failure::NoCall)? {
-        Call::Check(paths) => Ok(check(rt, &paths)?),
-        Call::Propose(paths) => Ok(propose(rt, &paths)?),
-        Call::Search(paths) => Ok(search(rt, &paths)?),
-        Call::Judge(paths) => Ok(judge(rt, &paths)?),
-        Call::Cut(paths) => Ok(cut(rt, &paths)?),
-        Call::Front(paths) => Ok(front(rt, &paths)?),
-        Call::Migrate(paths) => Ok(migrate(rt, &paths)?),
-        Call::Watch(paths) => Ok(watch(rt, &paths)?),
+        Call::Check(paths) => check(rt, &paths),
+        Call::Propose(paths) => propose(rt, &paths),
+        Call::Search(paths) => search(rt, &paths),
+        Call::Judge(paths) => judge(rt, &paths),
+        Call::Cut(paths) => cut(rt, &paths),
+        Call::Front(paths) => front(rt, &paths),
+        Call::Migrate(paths) => migrate(rt, &paths),
+        Call::Watch(paths) => watch(rt, &paths),
+        Call::Help(topic) => help(rt, &topic),
+    }
+}
+
+/// The answer to words that are no call: the help or the version, where they ask for it, with its status.
+fn answered<'a, R: Print>(rt: &R, error: clap::Error) -> Result<u8, Failure<'a>> {
+    if error.use_stderr() {
+        return Err(error.into());
+    }
+    print(rt, &error)
+}
+
+/// Writes a text to standard output: the status.
+fn print<'a, R: Print>(rt: &R, text: &impl Display) -> Result<u8, Failure<'a>> {
+    match print!(rt; "{text}") {
+        Ok(()) => Ok(Status::Legal.number()),
+        Err(error) => Err(Failure::Run(RunFault::Write, files::unwritten(&error))),
+    }
+}
+
+/// Runs a call of `help`: its status.
+fn help<'a, R: AllocGlobal + Print>(rt: &R, topic: &Topic<'a>) -> Result<u8, Failure<'a>> {
+    let Some(word) = topic.word else {
+        return parser_help(rt, &[PROGRAM, "--help"]);
+    };
+    match word.parse() {
+        Ok(code) => {
+            let paragraph = Paragraph::of(code).ok_or(Failure::NoCode(code))?;
+            print(rt, &paragraph)
+        }
+        Err(_) => parser_help(rt, &[PROGRAM, word, "--help"]),
+    }
+}
+
+/// The help for which these words ask: the status.
+fn parser_help<'a, R: AllocGlobal + Print>(rt: &R, words: &[&str]) -> Result<u8, Failure<'a>> {
+    match command_line::command(rt.alloc())?.try_get_matches_from(words) {
+        Ok(_) => Err(Failure::NoCall),
+        Err(error) => answered(rt, error),
+    }
+}
+
+/// How a call ends: with the status of its run, or its fault and what one of its files or its output knows of the cause.
+fn ended<'a, W>(
+    ran: Result<u8, RunFault>,
+    unread: Cause<'a>,
+    out: &Sink<W>,
+) -> Result<u8, Failure<'a>> {
+    match ran {
+        Ok(status) => Ok(status),
+        Err(RunFault::Read) => Err(Failure::Run(RunFault::Read, unread)),
+        Err(RunFault::Write) => Err(Failure::Run(RunFault::Write, out.cause())),
+        Err(RunFault::Memory) => Err(Failure::Run(RunFault::Memory, Cause::Unknown)),
     }
 }
 
 /// Runs a call of `check`: its status.
-fn check<R: AllocGlobal + Files + Print>(rt: &R, paths: &CheckPaths<'_>) -> Result<u8, RunFault> {
-    let mut capture = open(rt, paths.capture)?;
-    let mut tree = open_if_any(rt, paths.tree)?;
-    let mut order = open(rt, paths.order)?;
-    let mut out = Device::new(io::writer(rt));
-    run(
+fn check<'a, R: AllocGlobal + Files + Print>(
+    rt: &R,
+    paths: &CheckPaths<'a>,
+) -> Result<u8, Failure<'a>> {
+    let mut capture = open_capture(rt, paths.capture)?;
+    let mut tree = open_text_if_any(rt, paths.tree)?;
+    let mut order = open_text(rt, paths.order)?;
+    let mut out = Sink::new(io::writer(rt));
+    let ran = run(
         rt.alloc(),
         &mut capture,
         tree.as_mut(),
         &mut order,
         &mut out,
-    )
+    );
+    let cause = capture.cause().or(tree_cause(&tree)).or(order.cause());
+    ended(ran, cause, &out)
+}
+
+/// What kept a tree text from being read, where there is one.
+fn tree_cause<'a, F>(tree: &Option<Source<'a, F>>) -> Cause<'a> {
+    match tree {
+        Some(tree) => tree.cause(),
+        None => Cause::Unknown,
+    }
 }
 
 /// Runs a call of `propose`: its status.
-fn propose<R: AllocGlobal + Files + Print>(
+fn propose<'a, R: AllocGlobal + Files + Print>(
     rt: &R,
-    paths: &ProposePaths<'_>,
-) -> Result<u8, RunFault> {
-    let mut capture = open(rt, paths.capture)?;
-    let mut tree = open_if_any(rt, paths.tree)?;
-    let mut out = Device::new(io::writer(rt));
-    run_propose(rt.alloc(), &mut capture, tree.as_mut(), &mut out)
+    paths: &ProposePaths<'a>,
+) -> Result<u8, Failure<'a>> {
+    let mut capture = open_capture(rt, paths.capture)?;
+    let mut tree = open_text_if_any(rt, paths.tree)?;
+    let mut out = Sink::new(io::writer(rt));
+    let ran = run_propose(rt.alloc(), &mut capture, tree.as_mut(), &mut out);
+    let cause = capture.cause().or(tree_cause(&tree));
+    ended(ran, cause, &out)
 }
 
 /// Runs a call of `search`: its status.
-fn search<R: AllocGlobal + Files + Print + Eprint>(
+fn search<'a, R: AllocGlobal + Files + Print + Eprint>(
     rt: &R,
-    paths: &SearchPaths<'_>,
-) -> Result<u8, RunFault> {
-    let mut capture = open(rt, paths.capture)?;
-    let mut tree = open_if_any(rt, paths.tree)?;
-    let mut out = Device::new(io::writer(rt));
-    run_search(
+    paths: &SearchPaths<'a>,
+) -> Result<u8, Failure<'a>> {
+    let mut capture = open_capture(rt, paths.capture)?;
+    let mut tree = open_text_if_any(rt, paths.tree)?;
+    let mut out = Sink::new(io::writer(rt));
+    let ran = run_search(
         rt.alloc(),
         &mut capture,
         tree.as_mut(),
@@ -108,18 +195,20 @@ fn search<R: AllocGlobal + Files + Print + Eprint>(
             shown: paths.progress,
         },
         &mut out,
-    )
+    );
+    let cause = capture.cause().or(tree_cause(&tree));
+    ended(ran, cause, &out)
 }
 
 /// Runs a call of `judge`: its status.
-fn judge<R: AllocGlobal + Files + Print + Eprint>(
+fn judge<'a, R: AllocGlobal + Files + Print + Eprint>(
     rt: &R,
-    paths: &SearchPaths<'_>,
-) -> Result<u8, RunFault> {
-    let mut capture = open(rt, paths.capture)?;
-    let mut tree = open_if_any(rt, paths.tree)?;
-    let mut out = Device::new(io::writer(rt));
-    run_judge(
+    paths: &SearchPaths<'a>,
+) -> Result<u8, Failure<'a>> {
+    let mut capture = open_capture(rt, paths.capture)?;
+    let mut tree = open_text_if_any(rt, paths.tree)?;
+    let mut out = Sink::new(io::writer(rt));
+    let ran = run_judge(
         rt.alloc(),
         &mut capture,
         tree.as_mut(),
@@ -129,7 +218,9 @@ fn judge<R: AllocGlobal + Files + Print + Eprint>(
             shown: paths.progress,
         },
         &mut out,
-    )
+    );
+    let cause = capture.cause().or(tree_cause(&tree));
+    ended(ran, cause, &out)
 }
 
 /// Says on standard error how far a search has come, if that is to be shown.
@@ -163,76 +254,58 @@ fn budget(steps: Option<u64>) -> Budget
 }
 
 /// Runs a call of `cut`: its status.
-fn cut<R: AllocGlobal + Files + Print>(rt: &R, paths: &CutPaths<'_>) -> Result<u8, RunFault> {
-    let mut capture = open(rt, paths.capture)?;
-    let mut order = open(rt, paths.order)?;
-    let mut out = Device::new(io::writer(rt));
-    run_cut(rt.alloc(), &mut capture, &mut order, paths.at, &mut out)
+fn cut<'a, R: AllocGlobal + Files + Print>(
+    rt: &R,
+    paths: &CutPaths<'a>,
+) -> Result<u8, Failure<'a>> {
+    let mut capture = open_capture(rt, paths.capture)?;
+    let mut order = open_text(rt, paths.order)?;
+    let mut out = Sink::new(io::writer(rt));
+    let ran = run_cut(rt.alloc(), &mut capture, &mut order, paths.at, &mut out);
+    let cause = capture.cause().or(order.cause());
+    ended(ran, cause, &out)
 }
 
 /// Runs a call of `front`: its status.
-fn front<R: AllocGlobal + Files + Print>(rt: &R, paths: &FrontPaths<'_>) -> Result<u8, RunFault> {
-    let mut capture = open(rt, paths.capture)?;
-    let mut out = Device::new(io::writer(rt));
-    run_front(rt.alloc(), &mut capture, paths.at, &mut out)
+fn front<'a, R: AllocGlobal + Files + Print>(
+    rt: &R,
+    paths: &FrontPaths<'a>,
+) -> Result<u8, Failure<'a>> {
+    let mut capture = open_capture(rt, paths.capture)?;
+    let mut out = Sink::new(io::writer(rt));
+    let ran = run_front(rt.alloc(), &mut capture, paths.at, &mut out);
+    ended(ran, capture.cause(), &out)
 }
 
 /// Runs a call of `migrate`: its status.
-fn migrate<R: AllocGlobal + Files + Print>(
+fn migrate<'a, R: AllocGlobal + Files + Print>(
     rt: &R,
-    paths: &MigratePaths<'_>,
-) -> Result<u8, RunFault> {
-    let mut capture = open(rt, paths.capture)?;
-    let mut out = Device::new(io::writer(rt));
-    run_migrate(rt.alloc(), &mut capture, &mut out)
+    paths: &MigratePaths<'a>,
+) -> Result<u8, Failure<'a>> {
+    let mut capture = open_capture(rt, paths.capture)?;
+    let mut out = Sink::new(io::writer(rt));
+    let ran = run_migrate(rt.alloc(), &mut capture, &mut out);
+    ended(ran, capture.cause(), &out)
 }
 
 /// Runs a call of `watch`: its status.
-fn watch<R: AllocGlobal + Files + Print>(rt: &R, paths: &WatchPaths<'_>) -> Result<u8, RunFault> {
-    let mut capture = open(rt, paths.capture)?;
-    let mut out = Device::new(io::writer(rt));
-    run_watch(rt.alloc(), &mut capture, &mut out)
+fn watch<'a, R: AllocGlobal + Files + Print>(
+    rt: &R,
+    paths: &WatchPaths<'a>,
+) -> Result<u8, Failure<'a>> {
+    let mut capture = open_capture(rt, paths.capture)?;
+    let mut out = Sink::new(io::writer(rt));
+    let ran = run_watch(rt.alloc(), &mut capture, &mut out);
+    ended(ran, capture.cause(), &out)
 }
 
 /// The words of the command line, with the program's name first.
-fn words<R: AllocGlobal + Env>(rt: &R) -> Result<Vec<String>, Failure> {
+fn words<R: AllocGlobal + Env>(rt: &R) -> Result<Vec<String>, Failure<'static>> {
     match env::args(rt) {
         Ok(words) => Ok(words.collect(rt.alloc())?),
-        Err(error) if error.kind() == ErrorKind::OutOfMemory => Err(RunFault::Memory.into()),
+        Err(error) if error.kind() == ErrorKind::OutOfMemory => {
+            Err(Failure::Run(RunFault::Memory, Cause::Unknown))
+        }
         Err(_) => Err(Failure::NotUtf8),
-    }
-}
-
-/// The path that stands for standard input in a call.
-const STANDARD_INPUT: &str = "-";
-
-/// The file that is standard input.
-const STANDARD_INPUT_FILE: &str = "/dev/stdin";
-
-/// A file as an input. One that cannot be opened cannot be read.
-fn open<R: Files>(rt: &R, path: &str) -> Result<Device<R::File>, RunFault>
-    ensures unfailed { IfOk result (λ device. device_failed device ≡ false) }
-    ensures uninterrupted { IfOk result (λ device. device_interrupted device ≡ false) }
-{
-    let path = if path == STANDARD_INPUT {
-        STANDARD_INPUT_FILE
-    } else {
-        path
-    };
-    match File::open(rt, path) {
-        Ok(file) => Ok(Device::new(file)),
-        Err(error) if error.kind() == ErrorKind::OutOfMemory => Err(RunFault::Memory),
-        Err(_) => Err(RunFault::Read),
-    }
-}
-
-/// A file as an input, where one is named.
-fn open_if_any<R: Files>(rt: &R, path: Option<&str>) -> Result<Option<Device<R::File>>, RunFault>
-    ensures unfailed { IfOk result (λ input. IfSome input (λ device. device_failed device ≡ false)) }
-    ensures uninterrupted { IfOk result (λ input. IfSome input (λ device. device_interrupted device ≡ false)) }
-{
-    match path {
-        Some(path) => Ok(Some(open(rt, path)?)),
-        None => Ok(None),
     }
 }
