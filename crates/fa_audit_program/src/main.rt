@@ -7,8 +7,8 @@
 //! up. `fa_audit judge --capture FILE [--tree FILE] [--steps N] [--progress]` tells the verdict of such a search alone. `fa_audit cut --capture FILE --order FILE
 //! --at N` writes what is left of the order for the messages before message N, and `fa_audit front --capture FILE --at N` the capture of
 //! these messages. `fa_audit migrate --capture FILE` writes a capture anew in the format that has times. `fa_audit watch --capture FILE`
-//! reads a capture while it is written and tells its first fault as soon as that was read, or at the end that there is none. A FILE that
-//! is `-` is standard input.
+//! reads a capture while it is written and tells its first fault as soon as that was read, or at the end that there is none. `fa_audit
+//! help CODE` tells what a code means and what to look at then. A FILE that is `-` is standard input.
 //!
 //! Each ends with the status 0 where the verdict is legal, an order or a capture is written, or a stream had no fault, 1 at a fault of
 //! the capture, 2 where the order is not shown to explain the capture, 3 where the tree text or the order text is not in its grammar, 4 where the command line
