@@ -45,6 +45,7 @@ What it prints, and its exit status:
   fault: message N: code C: TEXT                1  message N, counted from 0, is the first that breaks the protocol
   tree: line L: code 61: not a tree text        3  line L of the tree text is the first that does not fit its format
   no order: message N: code C: TEXT             6  no order explains the replies up to that of message N
+  the first M messages alone have no order      6  on a second line, where that was found
   gave up: message N                            7  nothing is known from message N on: allow more steps
   nothing, and what is wrong on standard error  4  the command line is no call
   nothing, and why on standard error            5  a file was not read, the output not taken, or memory refused
@@ -58,6 +59,7 @@ What it prints, and its exit status:
   fault: message N: code C: TEXT                1  message N, counted from 0, is the first that breaks the protocol
   tree: line L: code 61: not a tree text        3  line L of the tree text is the first that does not fit its format
   no order: message N: code C: TEXT             6  no order explains the replies up to that of message N
+  the first M messages alone have no order      6  on a second line, where that was found
   gave up: message N                            7  nothing is known from message N on: allow more steps
   nothing, and what is wrong on standard error  4  the command line is no call
   nothing, and why on standard error            5  a file was not read, the output not taken, or memory refused
