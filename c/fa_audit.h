@@ -45,8 +45,8 @@ uint8_t fa_audit_check(const uint8_t *capture, size_t capture_length, const uint
 
 /* Judges a capture by a search of all its orders, so that none is handed over: the status. FA_AUDIT_NO_ORDER says that no order explains
  * the capture, with the first line alone of the two that the program prints, and FA_AUDIT_GAVE_UP that the search spent so many steps, or
- * as many trees or bytes as the program may take, without an answer; FA_AUDIT_NOT_SHOWN is never told. All else is as with
- * fa_audit_check. */
+ * as many trees or bytes as the program may take, without an answer; FA_AUDIT_NOT_SHOWN is never told. Where no order explains it, the first
+ * messages alone are searched too, with a tenth of the steps each time. All else is as with fa_audit_check. */
 uint8_t fa_audit_judge(const uint8_t *capture, size_t capture_length, const uint8_t *tree, size_t tree_length, bool has_tree,
                        uint64_t steps, uint8_t *line, size_t line_length, size_t *size);
 

@@ -35,9 +35,9 @@ use std::alloc::{AllocError, Global};
 ///
 /// The capture is judged and the tree text is read as [`audit`](crate::audit) does it. All orders are searched, as
 /// [`search`](fa_search::search) does it within the budget. It gives up only where requests overlap and the order of
-/// [`proposal`](crate::proposal) is not legal. Where there is no order, the first messages alone are searched too, each time within the
-/// same budget: 2 + 2 log₂(messages) times at most, and twice where their number is that of the message past which none goes, and one. The
-/// tree text has at most 268,435,456 bytes.
+/// [`proposal`](crate::proposal) is not legal. Where there is no order, the first messages alone are searched too: mostly twice, and
+/// 2 + 2 log₂(messages) times at most, each time with a tenth of the steps, at most 4,096 trees and 64 MiB. The tree text has at most
+/// 268,435,456 bytes.
 ///
 /// # Errors
 ///
@@ -145,7 +145,7 @@ fn found_text<L: Listener>(
     }
 }
 
-/// Writes the order text that was found, or the line of any other answer and a line feed: the status of the answer.
+/// Writes the order text that was found, or the lines of any other answer: the status of the answer.
 fn tell_search<W: Output>(
     alloc: Global,
     searched: Result<Searched, StartError>,

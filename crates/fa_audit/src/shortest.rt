@@ -25,6 +25,11 @@ use fa_tree::Tree;
 use fa_watch::MessageError;
 use std::alloc::{AllocError, Global};
 
+/// How many trees the search of some first messages may hold.
+const MAX_FRONT_TREES: usize = 4_096;
+/// How many bytes these may hold.
+const MAX_FRONT_BYTES: u64 = 67_108_864;
+
 /// What is known of some messages.
 #[derive(Clone, Copy, Debug, PartialEq, Eq)]
 pub(crate) enum Known {
@@ -42,7 +47,9 @@ pub(crate) enum Known {
 /// The messages before `stop` alone are searched, and then more of them: one more, and where these have an order again more, by twice
 /// as many each time but never by more than half of those that are left, until the number lies between one with an order and the next,
 /// without. For nearly all captures that is `stop` + 1, and two searches tell it. There are at most 2 + 2 log₂(messages) of them, each
-/// with the whole budget. Where one gives up nothing is found. The listener is told of each.
+/// with a tenth of the steps of the budget, at most 4,096 trees and 64 MiB. Where one gives up nothing is found. The listener is told of
+/// each. That the messages before `stop` have an order is known by [`ExplainedFrontHasOrder`](fa_search::explained_front_has_order), but not
+/// which: so they are searched.
 ///
 /// # Errors
 ///
@@ -69,10 +76,20 @@ pub(crate) fn shortest_without<L: Listener>(
     ensures refused { IfErr result (IsTreeRefused (option_copied tree.entry)) }
 {
     let first = given_tree(alloc, tree)?;
-    let shortest = shortest_from(alloc, capture, &first, stop, budget, listener);
+    let shortest = shortest_from(alloc, capture, &first, stop, of_a_front(budget), listener);
     // It has many tables: they are proved to go in one place.
     drop(first);
     Ok(shortest?)
+}
+
+/// How much of a budget the search of some first messages may take: a tenth of its steps, and no more trees and bytes than most captures
+/// ask for, since the answer stands already, and what is searched is a number beside it.
+fn of_a_front(budget: Budget) -> Budget {
+    Budget {
+        steps: budget.steps / 10,
+        trees: budget.trees.min(MAX_FRONT_TREES),
+        bytes: budget.bytes.min(MAX_FRONT_BYTES),
+    }
 }
 
 /// The same from a tree that is lent.
