@@ -69,6 +69,6 @@ fn judge<R: AllocGlobal + Print>(rt: &R, capture: &[u8]) -> Result<()> {
     };
     let line = judgement_text(alloc, &judgement)?;
     let bytes = capture.len();
-    println!(rt; "overlaps: {bytes} bytes, searched, {line}")?;
+    println!(rt; "overlaps: {bytes} bytes, judged, {line}")?;
     Ok(())
 }
