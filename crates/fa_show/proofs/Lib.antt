@@ -1,0 +1,2 @@
+pub mod FollowLemmas
+pub mod AddedLemmas

@@ -1,0 +1,103 @@
+//! What came of the messages so far.
+
+use crate::asked::message_in;
+use crate::pairing::{Fate, Pairing};
+use fa_capture::{Direction, Packet, Packets, codes};
+use fa_session::Event;
+use indexmap::IndexMap;
+use std::alloc::{AllocError, Global};
+
+/// The messages that are still to come, what came of those before, and which requests wait for their answers.
+#[derive(Drop)]
+pub(crate) struct Notes<'a> {
+    packets: Packets<'a>,
+    pairing: Pairing<'a>,
+    /// The numbers of the requests that wait, by their uniques.
+    waiting: IndexMap<u64, u32>,
+}
+
+impl<'a> Notes<'a> {
+    /// Nothing came of these messages yet.
+    pub fn new(alloc: Global, packets: Packets<'a>) -> Self {
+        Notes {
+            packets,
+            pairing: Pairing::new(alloc),
+            waiting: IndexMap::new(alloc),
+        }
+    }
+
+    /// What came of the messages.
+    pub fn into_pairing(self) -> Pairing<'a> {
+        self.pairing
+    }
+
+    /// The next message, with its number.
+    pub fn next(&mut self) -> Result<Option<(u32, Packet<'a>)>, AllocError> {
+        let packets = self.packets;
+        let Some(packet) = self.packets.next() else {
+            return Ok(None);
+        };
+        let number = self.pairing.begin(packets)?;
+        Ok(Some((number, packet)))
+    }
+
+    /// Notes that a message is taken.
+    pub fn take(&mut self, number: u32, event: &Event<'_>) -> Result<(), AllocError> {
+        match event {
+            Event::Asked { message, .. } => {
+                if message.request.body.may_be_answered() {
+                    self.waiting.insert(message.request.unique, number)?;
+                }
+            }
+            Event::Answered { messages, .. } => {
+                let asked = self.waiting.swap_remove(&messages.to.request.unique);
+                self.answer(number, asked, None);
+            }
+            Event::Notice { .. } => {}
+        }
+        Ok(())
+    }
+
+    /// Notes that a message is refused.
+    pub fn refuse(&mut self, number: u32, packet: &Packet<'_>, code: u16) {
+        let asked = self.refused_reply_to(packet, code);
+        self.answer(number, asked, Some(code));
+    }
+
+    /// Notes a reply to a request, with the code if it is refused.
+    fn answer(&mut self, number: u32, asked: Option<u32>, code: Option<u16>) {
+        if let Some(asked) = asked {
+            self.pairing.pair(asked, number);
+        }
+        self.pairing.set(
+            number,
+            Fate {
+                partner: asked,
+                code,
+            },
+        );
+    }
+
+    /// The request whose reply is refused with this code.
+    fn refused_reply_to(&self, packet: &Packet<'_>, code: u16) -> Option<u32> {
+        if packet.direction == Direction::ToServer || !is_of_reply(code) {
+            return None;
+        }
+        let told = message_in(packet)?;
+        self.waiting.get(&told.unique).copied()
+    }
+}
+
+/// Whether a message of the server that is refused with this code is the reply to a request that waits.
+fn is_of_reply(code: u16) -> bool {
+    matches!(
+        code,
+        codes::REPLY_BODY
+            | codes::INIT_REFUSED
+            | codes::VERSION
+            | codes::NEGOTIATED_FLAGS
+            | codes::LEFT_OUT_SUCCEEDED
+            | codes::OPEN_WITHOUT_HANDLE
+            | codes::NODE_ID_NOT_ALLOWED
+    )
+}
