@@ -3,8 +3,10 @@
 use fa_bodies::{Reply, Request, reply_body, reply_head, request};
 use fa_capture::Packet;
 
-/// The four bytes at this place, as a number.
-pub(crate) fn u32_at(bytes: &[u8], place: usize) -> Option<u32> {
+/// The four bytes at this place, as a number, low byte first; none where there are fewer.
+///
+/// Takes no memory, in constant time.
+pub fn u32_at(bytes: &[u8], place: usize) -> Option<u32> {
     let (_, behind) = bytes.split_at_checked(place)?;
     match behind {
         [a, b, c, d, ..] => Some(u32::from_le_bytes([*a, *b, *c, *d])),
@@ -12,8 +14,10 @@ pub(crate) fn u32_at(bytes: &[u8], place: usize) -> Option<u32> {
     }
 }
 
-/// The eight bytes at this place, as a number.
-pub(crate) fn u64_at(bytes: &[u8], place: usize) -> Option<u64> {
+/// The eight bytes at this place, as a number, low byte first; none where there are fewer.
+///
+/// Takes no memory, in constant time.
+pub fn u64_at(bytes: &[u8], place: usize) -> Option<u64> {
     let (_, behind) = bytes.split_at_checked(place)?;
     match behind {
         [a, b, c, d, e, f, g, h, ..] => {
@@ -31,7 +35,7 @@ const OUT_HEADER: usize = 16;
 
 /// A request, as far as it can be read: the fields of its header, and what it is.
 #[derive(Clone, Copy)]
-pub(crate) struct Asked<'a> {
+pub struct Asked<'a> {
     pub opcode: u32,
     pub unique: u64,
     pub node: u64,
@@ -41,8 +45,10 @@ pub(crate) struct Asked<'a> {
     pub request: Result<Request<'a>, u16>,
 }
 
-/// A request, if there is room for its header.
-pub(crate) fn request_in<'a>(packet: &Packet<'a>) -> Option<Asked<'a>> {
+/// A request, if there is room for its header. The direction of the message is not looked at.
+///
+/// Takes no memory, in the time of [`fa_bodies::request`].
+pub fn request_in<'a>(packet: &Packet<'a>) -> Option<Asked<'a>> {
     let (_, behind) = packet.bytes.split_at_checked(IN_HEADER)?;
     Some(Asked {
         opcode: u32_at(packet.bytes, 4)?,
@@ -53,16 +59,20 @@ pub(crate) fn request_in<'a>(packet: &Packet<'a>) -> Option<Asked<'a>> {
     })
 }
 
-/// The header of a message of the server, and what stands behind it.
+/// A message of the server, as far as it can be read: the fields of its header, and what stands behind it.
 #[derive(Clone, Copy)]
-pub(crate) struct Told<'a> {
+pub struct Told<'a> {
+    /// The error of a reply, or the code of a notification.
     pub error: i32,
     pub unique: u64,
+    /// What stands behind the header.
     pub behind: &'a [u8],
 }
 
-/// A message of the server, if there is room for its header.
-pub(crate) fn message_in<'a>(packet: &Packet<'a>) -> Option<Told<'a>> {
+/// A message of the server, if there is room for its header. The direction of the message is not looked at.
+///
+/// Takes no memory, in constant time.
+pub fn message_in<'a>(packet: &Packet<'a>) -> Option<Told<'a>> {
     let (_, behind) = packet.bytes.split_at_checked(OUT_HEADER)?;
     Some(Told {
         error: u32_at(packet.bytes, 4)?.cast_signed(),
@@ -72,7 +82,9 @@ pub(crate) fn message_in<'a>(packet: &Packet<'a>) -> Option<Told<'a>> {
 }
 
 /// What a message says to a request, if it is a reply to it.
-pub(crate) fn said<'a>(asked: &Request<'_>, packet: &Packet<'a>) -> Option<Reply<'a>> {
+///
+/// Takes no memory, in the time of [`fa_bodies::reply_body`].
+pub fn said<'a>(asked: &Request<'_>, packet: &Packet<'a>) -> Option<Reply<'a>> {
     let Ok(head) = reply_head(packet) else {
         return None;
     };

@@ -17,4 +17,7 @@ pub struct Choice<'a> {
     pub unanswered: bool,
     /// Nothing is shortened.
     pub whole: bool,
+    /// In the place of lines a table of the requests that are shown, with their answers. There an answer is shown where its request is
+    /// whatever number it has itself.
+    pub summary: bool,
 }

@@ -1,14 +1,24 @@
 //! The line of a message.
 
-use crate::asked::{Asked, message_in, request_in};
+use crate::asked::{Asked, message_in, request_in, said};
 use crate::pairing::Fate;
 use crate::text::Text;
 use crate::{replies, requests};
+use fa_bodies::{Negotiated, Reply, opcodes};
 use fa_capture::{Direction, Packet, codes};
+
+/// How much of INIT, and of its success, a line says.
+#[derive(Clone, Copy, PartialEq, Eq)]
+pub enum InitFields {
+    /// The version of the protocol alone.
+    Version,
+    /// The version, how much is read ahead at most, and the flags.
+    All,
+}
 
 /// What the line of a message is made of.
 #[derive(Clone, Copy)]
-pub(crate) struct Line<'a> {
+pub struct Line<'a> {
     /// The number of the message.
     pub number: u32,
     pub packet: Packet<'a>,
@@ -19,20 +29,29 @@ pub(crate) struct Line<'a> {
 
 impl Line<'_> {
     /// Writes the line.
+    ///
+    /// Takes no memory, in time linear in the message and in the one that goes with it.
     pub fn write(&self, text: &mut Text) {
-        text.number(u64::from(self.number));
-        match self.packet.direction {
-            Direction::ToServer => self.request(text),
-            Direction::FromServer => self.reply(text),
-        }
+        self.cite(text, InitFields::All);
         if let Some(code) = self.fate.code {
             refused(text, code);
         }
         text.end_line();
     }
 
+    /// Writes the line as another one cites it: without the code with which the message is refused, and without the line feed.
+    ///
+    /// Takes no memory, in time linear in the message and in the one that goes with it.
+    pub fn cite(&self, text: &mut Text, fields: InitFields) {
+        text.number(u64::from(self.number));
+        match self.packet.direction {
+            Direction::ToServer => self.request(text, fields),
+            Direction::FromServer => self.reply(text, fields),
+        }
+    }
+
     /// Writes a request.
-    fn request(&self, text: &mut Text) {
+    fn request(&self, text: &mut Text, fields: InitFields) {
         text.word(" > ");
         let Some(asked) = request_in(&self.packet) else {
             return bytes(text, self.packet.bytes);
@@ -40,14 +59,16 @@ impl Line<'_> {
         text.field("unique ", asked.unique);
         text.word(" ");
         requests::about(text, &asked);
-        requests::further(text, &asked);
+        if fields == InitFields::All || asked.opcode != opcodes::INIT {
+            requests::further(text, &asked);
+        }
         if is_never_answered(self.fate, &asked) {
             text.word(", never answered");
         }
     }
 
     /// Writes a message of the server.
-    fn reply(&self, text: &mut Text) {
+    fn reply(&self, text: &mut Text, fields: InitFields) {
         text.word(" < ");
         let Some(told) = message_in(&self.packet) else {
             return bytes(text, self.packet.bytes);
@@ -58,7 +79,10 @@ impl Line<'_> {
             return replies::say(text, &self.packet, &told, None);
         };
         let request = request_in(&packet);
-        replies::say(text, &self.packet, &told, request.as_ref());
+        match version_told(fields, request.as_ref(), &self.packet) {
+            Some(init) => replies::version(text, &init),
+            None => replies::say(text, &self.packet, &told, request.as_ref()),
+        }
         text.field(", answers ", u64::from(number));
         if let Some(request) = &request {
             text.word(" (");
@@ -66,6 +90,24 @@ impl Line<'_> {
             text.word(")");
         }
         duration(text, packet.time, self.packet.time);
+    }
+}
+
+/// What a success of INIT says, where its version alone is to be written.
+fn version_told(
+    fields: InitFields,
+    asked: Option<&Asked<'_>>,
+    packet: &Packet<'_>,
+) -> Option<Negotiated> {
+    if fields == InitFields::All {
+        return None;
+    }
+    let Ok(request) = &asked?.request else {
+        return None;
+    };
+    match said(request, packet)? {
+        Reply::Negotiated(init) => Some(init),
+        _ => None,
     }
 }
 
@@ -108,9 +150,14 @@ fn duration(text: &mut Text, asked: u64, answered: u64) {
     text.word(" ms");
 }
 
+/// Nanoseconds as microseconds, rounded.
+pub(crate) fn microseconds(nanoseconds: u64) -> u64 {
+    nanoseconds / 1000 + (nanoseconds % 1000 + 500) / 1000
+}
+
 /// Writes nanoseconds as milliseconds, rounded to thousandths.
 pub(crate) fn milliseconds(text: &mut Text, nanoseconds: u64) {
-    let microseconds = nanoseconds / 1000 + (nanoseconds % 1000 + 500) / 1000;
+    let microseconds = microseconds(nanoseconds);
     text.number(microseconds / 1000);
     text.word(".");
     text.padded(microseconds % 1000, 3);

@@ -8,7 +8,7 @@ const STRIDE: u32 = 16;
 
 /// What came of a message.
 #[derive(Clone, Copy, Default)]
-pub(crate) struct Fate {
+pub struct Fate {
     /// Of a request the number of its reply, or of the last that was refused; of a reply the number of its request.
     pub partner: Option<u32>,
     /// The code with which it was refused.

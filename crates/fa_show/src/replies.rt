@@ -7,7 +7,8 @@ use crate::text::Text;
 use crate::words::{self, FOPEN_FLAGS};
 use bitflags::Flags;
 use fa_bodies::{
-    AttrOut, Attributes, Dirent, Entries, EntryOut, OpenOut, Reply, RequestBody, opcodes,
+    AttrOut, Attributes, Dirent, Entries, EntryOut, Negotiated, OpenOut, Reply, RequestBody,
+    opcodes,
 };
 use fa_capture::Packet;
 
@@ -82,12 +83,17 @@ fn answer(text: &mut Text, asked: &Asked<'_>, told: &Told<'_>, reply: &Reply<'_>
         Reply::Bytes(bytes) => bytes_of(text, asked.opcode, bytes),
         Reply::Listed(entries) => listed(text, entries),
         Reply::Negotiated(init) => {
-            text.field("", u64::from(init.major));
-            text.field(".", u64::from(init.minor));
+            version(text, init);
             opening::init(text, init.max_readahead, init.flags);
         }
         Reply::Skipped => done(text, told.behind),
     }
+}
+
+/// Writes the version of the protocol that a success of INIT tells.
+pub(crate) fn version(text: &mut Text, init: &Negotiated) {
+    text.field("", u64::from(init.major));
+    text.field(".", u64::from(init.minor));
 }
 
 /// Writes attributes.

@@ -19,7 +19,7 @@ const LONG_DATA: usize = 16;
 ///
 /// All that is written goes through its methods, and each of them writes printing ASCII, whatever it is handed.
 #[derive(Drop)]
-pub(crate) struct Text {
+pub struct Text {
     /// The text, and spaces behind it.
     room: Vec<u8>,
     /// How many bytes of the room are text.
@@ -167,6 +167,13 @@ impl Text {
         }
     }
 
+    /// Writes a byte in two hexadecimal digits.
+    #[inline(always)]
+    pub fn digits(&mut self, byte: u8) {
+        self.character(hexadecimal_digit(byte >> 4));
+        self.character(hexadecimal_digit(byte & 15));
+    }
+
     /// Writes bytes between quotes: what prints stands for itself but for quotes and backslashes, and all else is `\x` and two digits.
     pub fn quoted(&mut self, bytes: &[u8]) {
         self.character(b'"');
@@ -188,8 +195,7 @@ impl Text {
             self.character(byte);
         } else {
             self.word("\\x");
-            self.character(hexadecimal_digit(byte >> 4));
-            self.character(hexadecimal_digit(byte & 15));
+            self.digits(byte);
         }
     }
 

@@ -116,10 +116,10 @@ static TYPES: [&str; 13] = [
 ];
 
 /// A flag by its bits, and its name.
-type Flag = (u32, &'static str);
+pub type Flag = (u32, &'static str);
 
 /// The flags of INIT.
-pub(crate) static INIT_FLAGS: [Flag; 27] = [
+pub static INIT_FLAGS: [Flag; 27] = [
     (1 << 0, "ASYNC_READ"),
     (1 << 1, "POSIX_LOCKS"),
     (1 << 2, "FILE_OPS"),
@@ -182,7 +182,7 @@ pub(crate) static WRITE_FLAGS: [Flag; 3] = [
 ];
 
 /// The flags of RENAME2 (those of Linux `renameat2`).
-pub(crate) static RENAME_FLAGS: [Flag; 3] = [
+pub static RENAME_FLAGS: [Flag; 3] = [
     (1 << 0, "RENAME_NOREPLACE"),
     (1 << 1, "RENAME_EXCHANGE"),
     (1 << 2, "RENAME_WHITEOUT"),
@@ -205,15 +205,15 @@ pub(crate) fn operation_name(opcode: u32) -> Option<&'static str> {
 }
 
 /// Writes an operation.
-pub(crate) fn operation(text: &mut Text, opcode: u32) {
+pub fn operation(text: &mut Text, opcode: u32) {
     match operation_name(opcode) {
         Some(name) => text.word(name),
         None => text.field("opcode ", u64::from(opcode)),
     }
 }
 
-/// The name of an error that a reply has, which is its negated number.
-fn error_name(error: i32) -> Option<&'static str> {
+/// The name of an error that a reply has, which is its negated number, if it is known by one.
+pub fn error_name(error: i32) -> Option<&'static str> {
     match error {
         -61 => Some("ENODATA"),
         -71 => Some("EPROTO"),
@@ -227,7 +227,7 @@ fn error_name(error: i32) -> Option<&'static str> {
 }
 
 /// Writes a number that may be below zero.
-fn signed(text: &mut Text, number: i32) {
+pub fn signed(text: &mut Text, number: i32) {
     if number < 0 {
         text.word("-");
     }
@@ -282,7 +282,7 @@ pub(crate) fn mode(text: &mut Text, bits: u32) {
 }
 
 /// Writes the names of the flags that are set, and what is left in hexadecimal.
-pub(crate) fn flags(text: &mut Text, bits: u32, names: &[Flag]) {
+pub fn flags(text: &mut Text, bits: u32, names: &[Flag]) {
     let mut left = bits;
     for (flag, name) in names {
         if left & *flag != 0 {
