@@ -15,8 +15,9 @@ pub mod CutOrders
 -- what a run writes that cuts a capture, and one that migrates it
 pub mod Fronts
 pub mod Migrated
--- what a run writes that watches a stream
+-- what a run writes that watches a stream, and one that shows messages
 pub mod Watching
+pub mod Showing
 -- the statements of the laws
 pub mod Laws
 -- the vocabulary of private contracts

@@ -8,3 +8,5 @@ pub mod Answers
 pub mod Seeing
 -- what a search finds from a tree, and what is judged by it
 pub mod Searching
+-- why messages are not shown
+pub mod Showings

@@ -3,8 +3,9 @@
 //! [`audit`] judges a capture and an order of its requests from the tree that the server began with, [`audit_capture`] a capture that
 //! was read, as one that came in pieces, and [`verdict_text`] is the line that tells it. [`judge_capture`] searches all orders for one
 //! that explains a capture, so that none has to be handed in, and [`search_order`] is the text of the one that is found. [`run`],
-//! [`run_propose`], [`run_search`], [`run_judge`], [`run_cut`], [`run_front`], [`run_migrate`] and [`run_watch`] go from inputs to an
-//! output: they are the commands `check`, `propose`, `search`, `judge`, `cut`, `front`, `migrate` and `watch` of the program `fa_audit`.
+//! [`run_propose`], [`run_search`], [`run_judge`], [`run_cut`], [`run_front`], [`run_migrate`], [`run_watch`] and [`run_show`] go from
+//! inputs to an output: they are the commands `check`, `propose`, `search`, `judge`, `cut`, `front`, `migrate`, `watch` and `show` of the
+//! program `fa_audit`.
 #![tactic(auto)]
 
 mod cutting;
@@ -20,6 +21,7 @@ mod protocol;
 mod running;
 mod searching;
 mod shortest;
+mod showing;
 mod status;
 mod verdict;
 mod watching;
@@ -34,9 +36,13 @@ pub use migrating::run_migrate;
 pub use proposing::{proposal, run_propose};
 pub use running::{MAX_CAPTURE_INPUT_BYTES, MAX_TEXT_INPUT_BYTES, RunFault, line_and_status, run};
 pub use searching::{run_search, search_order};
+pub use showing::run_show;
 pub use status::Status;
 pub use verdict::{AuditError, CutError, StartError};
 pub use watching::run_watch;
 
 /// How much a search may take.
 pub use fa_search::{Budget, Listener, Nobody, SoFar};
+
+/// Which messages are shown, and how.
+pub use fa_show::Choice;

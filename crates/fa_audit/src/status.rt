@@ -6,7 +6,7 @@ ghost use Rattle.fa_audit.specs.Status.{status_number};
 /// How a call of the program ends.
 #[derive(Clone, Copy, Debug, PartialEq, Eq, Hash)]
 pub enum Status {
-    /// The verdict is legal, an order or a capture is written, or a stream came to its end without a fault.
+    /// The verdict is legal, what was asked for is written, or a stream came to its end without a fault.
     Legal = 0,
     /// The capture has a fault.
     Fault = 1,
@@ -14,7 +14,7 @@ pub enum Status {
     NotShown = 2,
     /// The tree text or the order text is not in its grammar.
     Text = 3,
-    /// The command line is no call, or is a call for help.
+    /// The command line is no call.
     CommandLine = 4,
     /// Reading, writing or memory failed.
     Failed = 5,
