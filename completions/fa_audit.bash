@@ -10,11 +10,18 @@ _fa_audit()
             mapfile -t COMPREPLY < <(compgen -f -- "$word")
             return
             ;;
-        --at | --steps)
+        --at | --steps | --from | --to | --node | --name)
+            return
+            ;;
+        --operation)
+            words='LOOKUP FORGET GETATTR SETATTR READLINK SYMLINK MKNOD MKDIR UNLINK RMDIR RENAME LINK OPEN READ WRITE STATFS RELEASE FSYNC
+                SETXATTR GETXATTR LISTXATTR REMOVEXATTR FLUSH INIT OPENDIR READDIR RELEASEDIR FSYNCDIR GETLK SETLK SETLKW ACCESS CREATE
+                INTERRUPT BMAP DESTROY IOCTL POLL BATCH_FORGET FALLOCATE READDIRPLUS RENAME2 LSEEK COPY_FILE_RANGE'
+            mapfile -t COMPREPLY < <(compgen -W "$words" -- "$word")
             return
             ;;
     esac
-    local commands='check propose search judge cut front migrate watch help'
+    local commands='check propose search judge cut front migrate watch show help'
     if [ "$COMP_CWORD" -eq 1 ]; then
         words="$commands --help --version"
     else
@@ -25,6 +32,7 @@ _fa_audit()
             cut) words='--capture --order --at --help' ;;
             front) words='--capture --at --help' ;;
             migrate | watch) words='--capture --help' ;;
+            show) words='--capture --from --to --node --name --operation --unanswered --whole --summary --help' ;;
             help) words="$commands --help" ;;
         esac
     fi

@@ -6,7 +6,7 @@ use Rattle.std.specs.Str.Parse.{ParsesUnsigned}
 use Rattle.clap.specs.Words.{Row, Text, first_of, first_value, found_of, rows_of, subcommand_rows_of}
 use Rattle.clap.specs.declared.parser.matches.ArgMatches.{ArgMatches}
 use Rattle.clap.proofs.WalkLemmas.{first_value-rows}
-use Rattle.fa_audit_program.specs.CommandLine.{value_of, IsNumberText, IsNumberOf, IsStepsText, IsStepsIfAny, IsNoSteps}
+use Rattle.fa_audit_program.specs.CommandLine.{value_of, IsNumberText, IsNumberOf, IsNumberIfAny, IsNoNumber}
 
 -- the rows of the command that the words call are those of its matches
 first_of-rows : (option : Text) (command : Option (Text × List Row)) (rows : List Row)
@@ -23,38 +23,28 @@ value_of-given matches options option value rows given =
     ∙ sym (first_value-rows (found_of options) option) ∙ sym given
 
 -- a text that is read is that number
-pub number_found : {E : Type 0} (text : List ℕ) (r : Result ℕ E) → ParsesUnsigned 32 10 text r → IfSome (result_ok r) (IsNumberText text)
-number_found text (Ok n) p = (p.0.0, sym p.1, subst (λ (k : ℕ). k < 2 ^ 32) (sym p.1) p.0.1)
-number_found text (Err e) p = tt
+pub number_found : {E : Type 0} (bits : ℕ) (text : List ℕ) (r : Result ℕ E) → ParsesUnsigned bits 10 text r → IfSome (result_ok r) (IsNumberText bits text)
+number_found bits text (Ok n) p = (p.0.0, sym p.1, subst (λ (k : ℕ). k < 2 ^ bits) (sym p.1) p.0.1)
+number_found bits text (Err e) p = tt
 
 -- and one that is not is none
-pub number_none : {E : Type 0} (text : List ℕ) (r : Result ℕ E) → ParsesUnsigned 32 10 text r → IsNone (result_ok r) → (number : ℕ) → IsNumberText text number → ⊥
-number_none text (Ok n) p none number is = absurd cc
-number_none text (Err e) p none number is = p (is.0, subst (λ (k : ℕ). k < 2 ^ 32) (sym is.1) is.2)
+pub number_none : {E : Type 0} (bits : ℕ) (text : List ℕ) (r : Result ℕ E) → ParsesUnsigned bits 10 text r → IsNone (result_ok r) → (number : ℕ) → IsNumberText bits text number → ⊥
+number_none bits text (Ok n) p none number is = absurd cc
+number_none bits text (Err e) p none number is = p (is.0, subst (λ (k : ℕ). k < 2 ^ bits) (sym is.1) is.2)
 
 -- an option that is not given has no number, and one whose text is none has none
 pub none_given : (matches : ArgMatches) (option : Text) (number : ℕ) → value_of matches option ≡ None → IsNumberOf matches option number → ⊥
 none_given matches option number none is = (let clash : None ≡ Some is.0 = sym none ∙ is.1 in absurd cc)
 
-pub none_read : (matches : ArgMatches) (option text : Text) (number : ℕ) → value_of matches option ≡ Some text → ((n : ℕ) → IsNumberText text n → ⊥)
+pub none_read : (matches : ArgMatches) (option text : Text) (number : ℕ) → value_of matches option ≡ Some text → ((n : ℕ) → IsNumberText 32 text n → ⊥)
     → IsNumberOf matches option number → ⊥
 none_read matches option text number given none is =
     let same : is.0 ≡ text = same_Some is.0 text (sym is.1 ∙ given) in
-    none number (subst (λ (t : Text). IsNumberText t number) same is.2)
-
--- a text that is read is that number of steps,
-pub steps_found : {E : Type 0} (text : List ℕ) (r : Result ℕ E) → ParsesUnsigned 64 10 text r → IfSome (result_ok r) (IsStepsText text)
-steps_found text (Ok n) p = (p.0.0, sym p.1, subst (λ (k : ℕ). k < 2 ^ 64) (sym p.1) p.0.1)
-steps_found text (Err e) p = tt
-
--- and one that is not is none
-pub steps_none : {E : Type 0} (text : List ℕ) (r : Result ℕ E) → ParsesUnsigned 64 10 text r → IsNone (result_ok r) → (steps : ℕ) → IsStepsText text steps → ⊥
-steps_none text (Ok n) p none steps is = absurd cc
-steps_none text (Err e) p none steps is = p (is.0, subst (λ (k : ℕ). k < 2 ^ 64) (sym is.1) is.2)
+    none number (subst (λ (t : Text). IsNumberText 32 t number) same is.2)
 
 -- the same of an option, by what the matches of the command give for it
-pub steps_of_value : (value text : Option (List ℕ)) (steps : Option ℕ) → value ≡ text → IsStepsIfAny text steps → IsStepsIfAny value steps
-steps_of_value value text steps same is = subst (λ (t : Option (List ℕ)). IsStepsIfAny t steps) (sym same) is
+pub number_of_value : (bits : ℕ) (value text : Option (List ℕ)) (number : Option ℕ) → value ≡ text → IsNumberIfAny bits text number → IsNumberIfAny bits value number
+number_of_value bits value text number same is = subst (λ (t : Option (List ℕ)). IsNumberIfAny bits t number) (sym same) is
 
-pub no_steps_of_value : (value text : Option (List ℕ)) → value ≡ text → IsNoSteps text → IsNoSteps value
-no_steps_of_value value text same is = subst IsNoSteps (sym same) is
+pub no_number_of_value : (bits : ℕ) (value text : Option (List ℕ)) → value ≡ text → IsNoNumber bits text → IsNoNumber bits value
+no_number_of_value bits value text same is = subst (IsNoNumber bits) (sym same) is

@@ -11,9 +11,10 @@ use Rattle.fa_audit_program.specs.declared.command_line.CutPaths.{CutPaths}
 use Rattle.fa_audit_program.specs.declared.command_line.FrontPaths.{FrontPaths}
 use Rattle.fa_audit_program.specs.declared.command_line.MigratePaths.{MigratePaths}
 use Rattle.fa_audit_program.specs.declared.command_line.WatchPaths.{WatchPaths}
+use Rattle.fa_audit_program.specs.declared.command_line.ShowPaths.{ShowPaths}
 use Rattle.fa_audit_program.specs.declared.command_line.Topic.{Topic}
 use Rattle.fa_audit_program.specs.declared.command_line.Call.{Call}
-use Rattle.fa_audit_program.specs.declared.command_line.Call.TheVariants.{Check, Propose, Search, Judge, Cut, Front, Migrate, Watch, Help}
+use Rattle.fa_audit_program.specs.declared.command_line.Call.TheVariants.{Check, Propose, Search, Judge, Cut, Front, Migrate, Watch, Show, Help}
 
 -- the value of an option of the command that the words call
 abbrev pub value_of : ArgMatches → List ℕ → Option (List ℕ)
@@ -32,33 +33,29 @@ pub record IsProposeOf (matches : ArgMatches) (paths : ProposePaths) : Type 0 wh
   pub capture_is : value_of matches (codes "capture") ≡ Some paths.capture.now
   pub tree_is : value_of matches (codes "tree") ≡ option_copied paths.tree
 
--- the text is this number of steps in decimal digits, with a plus before them or none
-abbrev pub IsStepsText : List ℕ → ℕ → Type 0
-IsStepsText text steps = IsNumeral 10 (without_leading_plus text) × (digits_value 10 (without_leading_plus text) ≡ steps) × (steps < 2 ^ 64)
+-- the text is this number of at most so many bits, in decimal digits, with a plus before them or none
+abbrev pub IsNumberText : (bits : ℕ) → List ℕ → ℕ → Type 0
+IsNumberText bits text number = IsNumeral 10 (without_leading_plus text) × (digits_value 10 (without_leading_plus text) ≡ number) × (number < 2 ^ bits)
 
 -- it is, where there is a text; else there is no number
-abbrev pub IsStepsIfAny : (text : Option (List ℕ)) → (steps : Option ℕ) → Type 0
-IsStepsIfAny None steps = steps ≡ None
-IsStepsIfAny (Some text) steps = (number : ℕ) × (steps ≡ Some number) × IsStepsText text number
+abbrev pub IsNumberIfAny : (bits : ℕ) → (text : Option (List ℕ)) → (number : Option ℕ) → Type 0
+IsNumberIfAny bits None number = number ≡ None
+IsNumberIfAny bits (Some text) number = (found : ℕ) × (number ≡ Some found) × IsNumberText bits text found
 
--- there is a text, and it is no number of steps
-abbrev pub IsNoSteps : (text : Option (List ℕ)) → Type 0
-IsNoSteps text = (there : List ℕ) × (text ≡ Some there) × ((number : ℕ) → IsStepsText there number → ⊥)
+-- there is a text, and it is no such number
+abbrev pub IsNoNumber : (bits : ℕ) → (text : Option (List ℕ)) → Type 0
+IsNoNumber bits text = (there : List ℕ) × (text ≡ Some there) × ((number : ℕ) → IsNumberText bits there number → ⊥)
 
 -- the words call this one of `search` and `judge` with these files and so many steps
 pub record IsSearchCallOf (name : List ℕ) (matches : ArgMatches) (paths : SearchPaths) : Type 0 where
   pub command : subcommand_name_of matches ≡ Some name
   pub capture_is : value_of matches (codes "capture") ≡ Some paths.capture.now
   pub tree_is : value_of matches (codes "tree") ≡ option_copied paths.tree
-  pub steps_are : IsStepsIfAny (value_of matches (codes "steps")) paths.steps
-
--- the text is this number in decimal digits, with a plus before them or none
-abbrev pub IsNumberText : List ℕ → ℕ → Type 0
-IsNumberText text number = IsNumeral 10 (without_leading_plus text) × (digits_value 10 (without_leading_plus text) ≡ number) × (number < 2 ^ 32)
+  pub steps_are : IsNumberIfAny 64 (value_of matches (codes "steps")) paths.steps
 
 -- the option of the command that the words call has this number
 abbrev pub IsNumberOf : ArgMatches → (option : List ℕ) → ℕ → Type 0
-IsNumberOf matches option number = (text : List ℕ) × (value_of matches option ≡ Some text) × IsNumberText text number
+IsNumberOf matches option number = (text : List ℕ) × (value_of matches option ≡ Some text) × IsNumberText 32 text number
 
 -- the words call `cut` with these files and this message
 pub record IsCutOf (matches : ArgMatches) (paths : CutPaths) : Type 0 where
@@ -83,6 +80,16 @@ pub record IsWatchOf (matches : ArgMatches) (paths : WatchPaths) : Type 0 where
   pub command : subcommand_name_of matches ≡ Some (codes "watch")
   pub capture_is : value_of matches (codes "capture") ≡ Some paths.capture.now
 
+-- the words call `show` with this file and this choice
+pub record IsShowOf (matches : ArgMatches) (paths : ShowPaths) : Type 0 where
+  pub command : subcommand_name_of matches ≡ Some (codes "show")
+  pub capture_is : value_of matches (codes "capture") ≡ Some paths.capture.now
+  pub from_is : IsNumberIfAny 32 (value_of matches (codes "from")) paths.choice.from
+  pub to_is : IsNumberIfAny 32 (value_of matches (codes "to")) paths.choice.to
+  pub node_is : IsNumberIfAny 64 (value_of matches (codes "node")) paths.choice.node
+  pub name_is : value_of matches (codes "name") ≡ option_copied paths.choice.name
+  pub operation_is : value_of matches (codes "operation") ≡ option_copied paths.choice.operation
+
 -- the words call `help` with this word, or none
 pub record IsHelpOf (matches : ArgMatches) (topic : Topic) : Type 0 where
   pub command : subcommand_name_of matches ≡ Some (codes "help")
@@ -98,6 +105,7 @@ IsCallOf matches (Cut paths) = IsCutOf matches paths
 IsCallOf matches (Front paths) = IsFrontCallOf matches paths
 IsCallOf matches (Migrate paths) = IsMigrateCallOf matches paths
 IsCallOf matches (Watch paths) = IsWatchOf matches paths
+IsCallOf matches (Show paths) = IsShowOf matches paths
 IsCallOf matches (Help topic) = IsHelpOf matches topic
 
 -- the words do not call `check` with all that it needs
@@ -112,7 +120,7 @@ IsNoPropose matches = (subcommand_name_of matches ≢ Some (codes "propose")) �
 -- the words do not call this one of `search` and `judge` with all that it needs, or what they give for its steps is no number
 abbrev pub IsNoSearchCall : (name : List ℕ) → ArgMatches → Type 0
 IsNoSearchCall name matches =
-    (subcommand_name_of matches ≢ Some name) ⊎ (value_of matches (codes "capture") ≡ None) ⊎ IsNoSteps (value_of matches (codes "steps"))
+    (subcommand_name_of matches ≢ Some name) ⊎ (value_of matches (codes "capture") ≡ None) ⊎ IsNoNumber 64 (value_of matches (codes "steps"))
 
 -- the words do not call `cut` with all that it needs
 abbrev pub IsNoCutCall : ArgMatches → Type 0
@@ -133,6 +141,12 @@ IsNoMigrateCall matches = (subcommand_name_of matches ≢ Some (codes "migrate")
 -- the words do not call `watch` with all that it needs
 abbrev pub IsNoWatch : ArgMatches → Type 0
 IsNoWatch matches = (subcommand_name_of matches ≢ Some (codes "watch")) ⊎ (value_of matches (codes "capture") ≡ None)
+
+-- the words do not call `show` with all that it needs, or what they give for a number is none
+abbrev pub IsNoShow : ArgMatches → Type 0
+IsNoShow matches =
+    (subcommand_name_of matches ≢ Some (codes "show")) ⊎ (value_of matches (codes "capture") ≡ None)
+    ⊎ IsNoNumber 32 (value_of matches (codes "from")) ⊎ IsNoNumber 32 (value_of matches (codes "to")) ⊎ IsNoNumber 64 (value_of matches (codes "node"))
 
 -- the words do not call `help`
 abbrev pub IsNoHelp : ArgMatches → Type 0

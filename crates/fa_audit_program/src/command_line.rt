@@ -2,11 +2,12 @@
 
 ghost use Rattle.std.specs.Prelude.{ℕ, codes, IfSome, IsNone};
 ghost use Rattle.std.specs.Option.{option_copied};
-ghost use Rattle.fa_audit_program.specs.CommandLine.{IsCheckOf, IsProposeOf, IsSearchCallOf, IsStepsIfAny, IsStepsText, IsNoSteps, IsNoSearchCall, IsCutOf, IsFrontCallOf, IsMigrateCallOf, IsWatchOf, IsHelpOf, IsCallOf, IsNumberText, IsNoCheck, IsNoPropose, IsNoCutCall, IsNoFrontCall, IsNoMigrateCall, IsNoWatch, IsNoHelp};
+ghost use Rattle.fa_audit_program.specs.CommandLine.{IsCheckOf, IsProposeOf, IsSearchCallOf, IsNoSearchCall, IsCutOf, IsFrontCallOf, IsMigrateCallOf, IsWatchOf, IsShowOf, IsNumberIfAny, IsNoNumber, IsHelpOf, IsCallOf, IsNumberText, IsNoCheck, IsNoPropose, IsNoCutCall, IsNoFrontCall, IsNoMigrateCall, IsNoWatch, IsNoShow, IsNoHelp};
 
 use crate::help_texts;
 use clap::{Arg, ArgAction, ArgMatches, Command, value_parser};
 use fa_capture::limits::MAX_MESSAGES;
+use fa_show::Choice;
 use std::alloc::{AllocError, Global};
 
 /// The command that judges an order.
@@ -25,6 +26,8 @@ const FRONT: &str = "front";
 const MIGRATE: &str = "migrate";
 /// The command that watches a stream.
 const WATCH: &str = "watch";
+/// The command that shows messages.
+const SHOW: &str = "show";
 /// The command that tells what a code means.
 const HELP: &str = "help";
 /// The option that names the capture.
@@ -39,6 +42,22 @@ const AT: &str = "at";
 const STEPS: &str = "steps";
 /// The option by which a search says how far it has come.
 const PROGRESS: &str = "progress";
+/// The option that gives the first message that is shown.
+const FROM: &str = "from";
+/// The option that gives the last one.
+const TO: &str = "to";
+/// The option that gives a node.
+const NODE: &str = "node";
+/// The option that gives a name.
+const NAME: &str = "name";
+/// The option that gives an operation.
+const OPERATION: &str = "operation";
+/// The option that leaves out what was answered.
+const UNANSWERED: &str = "unanswered";
+/// The option by which nothing is shortened.
+const WHOLE: &str = "whole";
+/// The option by which operations are counted.
+const SUMMARY: &str = "summary";
 /// The word of which help is asked.
 const TOPIC: &str = "topic";
 
@@ -113,7 +132,7 @@ impl<'a> SearchPaths<'a> {
         let options = matches.subcommand_matches(name)?;
         let path = options.get_str(CAPTURE)?;
         let tree = options.get_str(TREE);
-        let steps = steps_if_any(options.get_str(STEPS))?;
+        let steps = wide_number_if_any(options.get_str(STEPS))?;
         let progress = options.get_flag(PROGRESS);
         Some(SearchPaths {
             capture: path,
@@ -208,6 +227,43 @@ impl<'a> WatchPaths<'a> {
     }
 }
 
+/// The file of a call of `show`, and which of its messages are shown, and how.
+#[derive(Clone, Copy, Debug)]
+pub struct ShowPaths<'a> {
+    pub capture: &'a str,
+    pub choice: Choice<'a>,
+}
+
+impl<'a> ShowPaths<'a> {
+    /// What a parse by [`command`] found; there is nothing only where the words were no call of `show`.
+    pub fn new(matches: &ArgMatches<'a>) -> Option<Self>
+        ensures found { IfSome result (IsShowOf matches.now) }
+        ensures none { IsNone result → IsNoShow matches.now }
+    {
+        let options = matches.subcommand_matches(SHOW)?;
+        let path = options.get_str(CAPTURE)?;
+        let from = number_if_any(options.get_str(FROM))?;
+        let to = number_if_any(options.get_str(TO))?;
+        let node = wide_number_if_any(options.get_str(NODE))?;
+        let name = options.get_str(NAME);
+        let operation = options.get_str(OPERATION);
+        let choice = Choice {
+            from,
+            to,
+            node,
+            name,
+            operation,
+            unanswered: options.get_flag(UNANSWERED),
+            whole: options.get_flag(WHOLE),
+            summary: options.get_flag(SUMMARY),
+        };
+        Some(ShowPaths {
+            capture: path,
+            choice,
+        })
+    }
+}
+
 /// The word of a call of `help`.
 #[derive(Clone, Copy, Debug)]
 pub struct Topic<'a> {
@@ -229,27 +285,38 @@ impl<'a> Topic<'a> {
 
 /// The number that a text is in decimal digits.
 fn number(text: &str) -> Option<u32>
-    ensures found { IfSome result (IsNumberText text.now) }
-    ensures none { IsNone result → (number : ℕ) → IsNumberText text.now number → ⊥ }
+    ensures found { IfSome result (IsNumberText 32 text.now) }
+    ensures none { IsNone result → (number : ℕ) → IsNumberText 32 text.now number → ⊥ }
 {
     text.parse().ok()
 }
 
-/// The number of steps that a text is in decimal digits.
-fn steps(text: &str) -> Option<u64>
-    ensures found { IfSome result (IsStepsText text.now) }
-    ensures none { IsNone result → (steps : ℕ) → IsStepsText text.now steps → ⊥ }
+/// The same of a number of 64 bits.
+fn wide_number(text: &str) -> Option<u64>
+    ensures found { IfSome result (IsNumberText 64 text.now) }
+    ensures none { IsNone result → (number : ℕ) → IsNumberText 64 text.now number → ⊥ }
 {
     text.parse().ok()
 }
 
-/// The number of steps that a text is, where there is one.
-fn steps_if_any(text: Option<&str>) -> Option<Option<u64>>
-    ensures found { IfSome result (IsStepsIfAny (option_copied text.entry)) }
-    ensures none { IsNone result → IsNoSteps (option_copied text.entry) }
+/// The number that a text is, where there is one.
+fn number_if_any(text: Option<&str>) -> Option<Option<u32>>
+    ensures found { IfSome result (IsNumberIfAny 32 (option_copied text.entry)) }
+    ensures none { IsNone result → IsNoNumber 32 (option_copied text.entry) }
 {
     match text {
-        Some(text) => Some(Some(steps(text)?)),
+        Some(text) => Some(Some(number(text)?)),
+        None => Some(None),
+    }
+}
+
+/// The same of a number of 64 bits.
+fn wide_number_if_any(text: Option<&str>) -> Option<Option<u64>>
+    ensures found { IfSome result (IsNumberIfAny 64 (option_copied text.entry)) }
+    ensures none { IsNone result → IsNoNumber 64 (option_copied text.entry) }
+{
+    match text {
+        Some(text) => Some(Some(wide_number(text)?)),
         None => Some(None),
     }
 }
@@ -273,6 +340,8 @@ pub enum Call<'a> {
     Migrate(MigratePaths<'a>),
     /// A capture is judged while it is written.
     Watch(WatchPaths<'a>),
+    /// Messages are shown.
+    Show(ShowPaths<'a>),
     /// Help is asked of a code, a command or the program.
     Help(Topic<'a>),
 }
@@ -283,7 +352,7 @@ impl<'a> Call<'a> {
         ensures found { IfSome result (IsCallOf matches.now) }
         ensures none { IsNone result →
             IsNoCheck matches.now × IsNoPropose matches.now × IsNoSearchCall (codes "search") matches.now
-            × IsNoSearchCall (codes "judge") matches.now × IsNoCutCall matches.now × IsNoFrontCall matches.now × IsNoMigrateCall matches.now × IsNoWatch matches.now × IsNoHelp matches.now }
+            × IsNoSearchCall (codes "judge") matches.now × IsNoCutCall matches.now × IsNoFrontCall matches.now × IsNoMigrateCall matches.now × IsNoWatch matches.now × IsNoShow matches.now × IsNoHelp matches.now }
     {
         if let Some(paths) = CheckPaths::new(matches) {
             return Some(Call::Check(paths));
@@ -309,6 +378,9 @@ impl<'a> Call<'a> {
         if let Some(paths) = WatchPaths::new(matches) {
             return Some(Call::Watch(paths));
         }
+        if let Some(paths) = ShowPaths::new(matches) {
+            return Some(Call::Show(paths));
+        }
         Some(Call::Help(Topic::new(matches)?))
     }
 }
@@ -316,7 +388,7 @@ impl<'a> Call<'a> {
 /// The command line: `fa_audit check --capture FILE [--tree FILE] --order FILE`, `fa_audit propose --capture FILE [--tree FILE]`,
 /// `fa_audit search --capture FILE [--tree FILE] [--steps N] [--progress]`, `fa_audit judge` with the same options,
 /// `fa_audit cut --capture FILE --order FILE --at N`, `fa_audit front --capture FILE --at N`, `fa_audit migrate --capture FILE`,
-/// `fa_audit watch --capture FILE` or `fa_audit help [CODE|COMMAND]`.
+/// `fa_audit watch --capture FILE`, `fa_audit show --capture FILE` with options that choose messages, or `fa_audit help [CODE|COMMAND]`.
 pub fn command<'a>(alloc: Global) -> Result<Command<'a>, AllocError> {
     Command::new(alloc, PROGRAM)
         .bin_name(PROGRAM)?
@@ -343,6 +415,7 @@ pub fn command<'a>(alloc: Global) -> Result<Command<'a>, AllocError> {
         .subcommand(front_command(alloc)?)?
         .subcommand(migrate_command(alloc)?)?
         .subcommand(watch_command(alloc)?)?
+        .subcommand(show_command(alloc)?)?
         .subcommand(help_command(alloc)?)
 }
 
@@ -439,6 +512,56 @@ fn watch_command<'a>(alloc: Global) -> Result<Command<'a>, AllocError> {
     .arg(capture_option(alloc))
 }
 
+/// The command `show`.
+fn show_command<'a>(alloc: Global) -> Result<Command<'a>, AllocError> {
+    let shown = named(
+        alloc,
+        SHOW,
+        "Shows the messages of a capture, a line each",
+        help_texts::SHOW,
+    )
+    .arg(capture_option(alloc))?;
+    show_flags(alloc, show_choices(alloc, shown)?)
+}
+
+/// The command `show`, with the options that choose messages.
+fn show_choices<'a>(alloc: Global, shown: Command<'a>) -> Result<Command<'a>, AllocError> {
+    shown
+        .arg(value_option(alloc, FROM, "N", "The first message that is shown").value_parser(
+            value_parser!(u32),
+        ))?
+        .arg(value_option(alloc, TO, "N", "The last message that is shown").value_parser(
+            value_parser!(u32),
+        ))?
+        .arg(value_option(alloc, NODE, "N", "Messages that name this node or give it").value_parser(
+            value_parser!(u64),
+        ))?
+        .arg(value_option(
+            alloc,
+            NAME,
+            "NAME",
+            "Messages with this name, as it is printed between quotes",
+        ))?
+        .arg(value_option(
+            alloc,
+            OPERATION,
+            "OP",
+            "Messages of this operation, as LOOKUP",
+        ))
+}
+
+/// The command `show`, with the options that say how messages are shown.
+fn show_flags<'a>(alloc: Global, shown: Command<'a>) -> Result<Command<'a>, AllocError> {
+    shown
+        .arg(flag(alloc, UNANSWERED, "Requests that were never answered"))?
+        .arg(flag(alloc, WHOLE, "Shorten no name and no data"))?
+        .arg(flag(
+            alloc,
+            SUMMARY,
+            "A table of the operations in the place of the messages",
+        ))
+}
+
 /// The command `help`.
 fn help_command<'a>(alloc: Global) -> Result<Command<'a>, AllocError> {
     let topic = Arg::new(alloc, TOPIC).value_name("CODE|COMMAND").help(
@@ -494,6 +617,24 @@ fn steps_option<'a>(alloc: Global) -> Arg<'a> {
         .action(ArgAction::Set)
         .value_parser(value_parser!(u64))
         .help("How many steps may be spent where there is a choice; without it, ten million")
+}
+
+/// An option with a value that may be left out. The word behind it is its value, whatever that word begins with.
+fn value_option<'a>(alloc: Global, name: &'a str, value: &'a str, help: &'a str) -> Arg<'a> {
+    Arg::new(alloc, name)
+        .long(name)
+        .value_name(value)
+        .action(ArgAction::Set)
+        .allow_hyphen_values(true)
+        .help(help)
+}
+
+/// An option without a value.
+fn flag<'a>(alloc: Global, name: &'a str, help: &'a str) -> Arg<'a> {
+    Arg::new(alloc, name)
+        .long(name)
+        .action(ArgAction::SetTrue)
+        .help(help)
 }
 
 /// An option that is needed once. The word behind it is its path, whatever that word begins with.

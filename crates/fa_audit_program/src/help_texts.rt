@@ -107,6 +107,15 @@ What it prints, and its exit status:
 
 `fa_audit help C` tells what code C means. A FILE may be a pipe; - is standard input.";
 
+/// Of `show`.
+pub const SHOW: &str = "\
+What it prints, and its exit status:
+  a line for each message that is chosen, or a table  0  also of messages that are refused, with their codes
+  nothing, and what is wrong on standard error        4  the command line is no call
+  nothing, and why on standard error                  5  a file was not read, the output not taken, or memory refused
+
+An answer is shown where its request is. What is printed is printing ASCII; a FILE may be a pipe; - is standard input.";
+
 /// Of `help`.
 pub const HELP: &str = "\
 What it prints, and its exit status:

@@ -3,16 +3,18 @@
 //! `fa_audit check --capture FILE [--tree FILE] --order FILE` tells in one line on standard output whether the order explains the
 //! capture. `fa_audit propose --capture FILE [--tree FILE]` writes the text of an order that may explain it to standard output, or
 //! the line of the fault where the capture has one or the tree text is not in its grammar. `fa_audit search --capture FILE [--tree FILE]
-//! [--steps N] [--progress]` searches all orders and writes the text of one that explains the capture, or the line that there is none or that it gave
-//! up. `fa_audit judge --capture FILE [--tree FILE] [--steps N] [--progress]` tells the verdict of such a search alone. `fa_audit cut --capture FILE --order FILE
-//! --at N` writes what is left of the order for the messages before message N, and `fa_audit front --capture FILE --at N` the capture of
-//! these messages. `fa_audit migrate --capture FILE` writes a capture anew in the format that has times. `fa_audit watch --capture FILE`
-//! reads a capture while it is written and tells its first fault as soon as that was read, or at the end that there is none. `fa_audit
-//! help CODE` tells what a code means and what to look at then. A FILE that is `-` is standard input.
+//! [--steps N] [--progress]` searches all orders and writes the text of one that explains the capture, or the line that there is none
+//! or that it gave up. `fa_audit judge --capture FILE [--tree FILE] [--steps N] [--progress]` tells the verdict of such a search alone.
+//! `fa_audit cut --capture FILE --order FILE --at N` writes what is left of the order for the messages before message N, and `fa_audit
+//! front --capture FILE --at N` the capture of these messages. `fa_audit migrate --capture FILE` writes a capture anew in the format
+//! that has times. `fa_audit watch --capture FILE` reads a capture while it is written and tells its first fault as soon as that was
+//! read, or at the end that there is none. `fa_audit show --capture FILE` prints the messages that its options choose, a line each.
+//! `fa_audit help CODE` tells what a code means and what to look at then. A FILE that is `-` is standard input.
 //!
-//! Each ends with the status 0 where the verdict is legal, an order or a capture is written, or a stream had no fault, 1 at a fault of
-//! the capture, 2 where the order is not shown to explain the capture, 3 where the tree text or the order text is not in its grammar, 4 where the command line
-//! is no call, 5 where reading, writing or memory failed, 6 where no order explains the capture, and 7 where a search gave up. What stands behind a status 4 or 5 is told on standard error.
+//! Each ends with the status 0 where the verdict is legal, what was asked for is written, or a stream had no fault, 1 at a fault of
+//! the capture, 2 where the order is not shown to explain the capture, 3 where the tree text or the order text is not in its grammar,
+//! 4 where the command line is no call, 5 where reading, writing or memory failed, 6 where no order explains the capture, and 7 where a
+//! search gave up. What stands behind a status 4 or 5 is told on standard error.
 #![tactic(auto)]
 
 ghost use Rattle.std.specs.Prelude.{◌≡◌, IfSome};
@@ -24,13 +26,13 @@ mod help_texts;
 
 use crate::command_line::{
     Call, CheckPaths, CutPaths, FrontPaths, MigratePaths, PROGRAM, ProposePaths, SearchPaths,
-    Topic, WatchPaths,
+    ShowPaths, Topic, WatchPaths,
 };
 use crate::failure::{Cause, Failure};
 use crate::files::{Sink, Source, open_capture, open_text, open_text_if_any};
 use fa_audit::{
     Budget, Listener, RunFault, SoFar, Status, run, run_cut, run_front, run_judge, run_migrate,
-    run_propose, run_search, run_watch,
+    run_propose, run_search, run_show, run_watch,
 };
 use fa_help::Paragraph;
 use std::env::Env;
@@ -80,6 +82,7 @@ fn call<'a, R: AllocGlobal + Files + Print + Eprint>(
         Call::Front(paths) => front(rt, &paths),
         Call::Migrate(paths) => migrate(rt, &paths),
         Call::Watch(paths) => watch(rt, &paths),
+        Call::Show(paths) => show(rt, &paths),
         Call::Help(topic) => help(rt, &topic),
     }
 }
@@ -296,6 +299,17 @@ fn watch<'a, R: AllocGlobal + Files + Print>(
     let mut capture = open_capture(rt, paths.capture)?;
     let mut out = Sink::new(io::writer(rt));
     let ran = run_watch(rt.alloc(), &mut capture, &mut out);
+    ended(ran, capture.cause(), &out)
+}
+
+/// Runs a call of `show`: its status.
+fn show<'a, R: AllocGlobal + Files + Print>(
+    rt: &R,
+    paths: &ShowPaths<'a>,
+) -> Result<u8, Failure<'a>> {
+    let mut capture = open_capture(rt, paths.capture)?;
+    let mut out = Sink::new(io::writer(rt));
+    let ran = run_show(rt.alloc(), &mut capture, &paths.choice, &mut out);
     ended(ran, capture.cause(), &out)
 }
 

@@ -12,4 +12,5 @@ returns-in_err-new-clause-none c = λ none. (
   (search rules),
   (search rules),
   (search rules),
+  (search rules),
 )

@@ -1,5 +1,5 @@
 use Rattle.std.proofs.Common.{inl, inr, refl, sym, codes, None}
-use Rattle.fa_audit_program.proofs.CommandLineLemmas.{value_of-given, steps_of_value, no_steps_of_value}
+use Rattle.fa_audit_program.proofs.CommandLineLemmas.{value_of-given, number_of_value, no_number_of_value}
 use Rattle.fa_audit_program.proofs.command_line.SearchPaths.new.Goals as goal
 
 pub returns-in_err-path-clause-none : goal.returns-in_err-path-clause-none
@@ -8,7 +8,7 @@ returns-in_err-path-clause-none c none =
 
 pub returns-in_err-steps-clause-none : goal.returns-in_err-steps-clause-none
 returns-in_err-steps-clause-none c none =
-    inr (inr (no_steps_of_value _ _ (value_of-given _ c.in_ok-options.options.now (codes "steps") _ (sym c.in_ok-options.ensures.rows) c.get_str-2.ensures)
+    inr (inr (no_number_of_value 64 _ _ (value_of-given _ c.in_ok-options.options.now (codes "steps") _ (sym c.in_ok-options.ensures.rows) c.get_str-2.ensures)
     (c.in_err-steps.ensures.none refl)))
 
 pub returns-clause-found : goal.returns-clause-found
@@ -17,6 +17,6 @@ returns-clause-found c = record {
   capture_is = value_of-given _ c.in_ok-options.options.now (codes "capture") _ (sym c.in_ok-options.ensures.rows) c.in_ok-path.ensures;
   tree_is = value_of-given _ c.in_ok-options.options.now (codes "tree") _ (sym c.in_ok-options.ensures.rows) c.get_str-tree.ensures;
   steps_are =
-      steps_of_value _ _ _ (value_of-given _ c.in_ok-options.options.now (codes "steps") _ (sym c.in_ok-options.ensures.rows) c.get_str-2.ensures)
+      number_of_value 64 _ _ _ (value_of-given _ c.in_ok-options.options.now (codes "steps") _ (sym c.in_ok-options.ensures.rows) c.get_str-2.ensures)
       c.in_ok-steps.ensures.found;
 }
