@@ -268,13 +268,8 @@ rename_in_mount() {
         ! "$0" moved none
         ls -lR' "$work/exchange") > "$work/seen" 2>&1
 }
-# A success of RENAME2 is in the capture.
-has_renamed() {
-    "$work/recorder/fuse-messages" "$capture" | awk '
-        /to server: RENAME2, / { match($0, /unique [0-9]+/); asked[substr($0, RSTART, RLENGTH)] = 1 }
-        /from server: success, / { match($0, /unique [0-9]+/); found += asked[substr($0, RSTART, RLENGTH)] }
-        END { exit found < '"$1"' }'
-}
+# So many successes of RENAME2 are in the capture.
+has_renamed() { [ "$("$program" show --capture "$capture" --operation RENAME2 | grep -c " < unique [0-9]* ok, ")" -ge "$1" ]; }
 
 # Work with names by RENAME2: renaming_session NAME.
 renaming_session() {
@@ -687,14 +682,18 @@ started_again() {
 monotonic() { python3 -c "import time; print(time.clock_gettime_ns(time.CLOCK_MONOTONIC))"; }
 # The times of the capture rise from one between these two: has_times FIRST LAST.
 has_times() {
-    local first
-    first="$(od -A n -t u8 -j 9 -N 8 "$capture")"
-    [ "$(head -c 8 "$capture")" = FUSECAP2 ] && [ "$1" -le "$first" ] && "$work/recorder/fuse-messages" --times "$capture" |
-        awk -v most="$(($2 - first))" '{ falls += $2 < last; last = $2 } END { exit falls || NR < 4 || last <= 0 || last * 1e9 > most + 1000 }'
+    python3 - "$capture" "$1" "$2" << 'END'
+import struct, sys
+record, at, times = open(sys.argv[1], "rb").read(), 8, []
+while at < len(record):
+    direction, time, length = struct.unpack_from("<BQI", record, at)
+    times.append(time)
+    at += 13 + length
+sys.exit(not (record[:8] == b"FUSECAP2" and len(times) >= 4 and times == sorted(times) and times[0] < times[-1]
+    and int(sys.argv[2]) <= times[0] and times[-1] <= int(sys.argv[3])))
+END
 }
-prints_no_times() {
-    ! "$work/recorder/fuse-messages" --times "$capture" > "$work/seen" 2> "$work/errors" && grep -q ": a capture without times$" "$work/errors"
-}
+has_no_times() { [ "$(head -c 8 "$capture")" = FUSECAP1 ] && "$program" show --capture "$capture" > "$work/seen" && ! grep -q " ms$" "$work/seen"; }
 # A file of 300 GiB with bytes at both ends, cut and made longer again.
 work_on_sparse() {
     timeout 20 bash -ec 'cd "$0"; size=$((300 << 30))
@@ -732,7 +731,7 @@ of_own_server() {
     own plain --plain --
     whole_session "memory, plain"
     check "plain: has no times" [ "$(head -c 8 "$capture")" = FUSECAP1 ]
-    check "plain: and none are printed" prints_no_times
+    check "plain: and none are printed" has_no_times
 
     # A file of which the first and the last bytes are written alone.
     own sparse --
@@ -773,9 +772,8 @@ of_own_server() {
     own denied -- --deny name
     timeout 20 sh -c "echo text > '$mnt/name'; cat '$mnt/name' '$mnt/name'" > "$work/seen" 2> /dev/null
     stop
-    denied="$("$work/recorder/fuse-messages" "$capture" | awk '
-        / LOOKUP.* name name$/ { asked[$5 $6] = $1 } / CREATE.* name name$/ { made = 1 }
-        made && / ENOENT/ { for (key in asked) if (key == $5 $6) { print $1; exit } }')"
+    denied="$("$program" show --capture "$capture" --name name | awk '
+        / > unique [0-9]* CREATE / { made = 1 } made && / < unique [0-9]* ENOENT, answers [0-9]* \(LOOKUP / { print $1; exit }')"
     check "denied: has no order at that answer" judged "memory with a denied name" "no order: message $denied: code 82: *"
 
     # What the kernel refuses is taken out of the capture, unless it is to be kept.
@@ -905,21 +903,6 @@ echo 1234567 > "$work/b"
 check "empty: another file of its length does not" refuses 1 "b: is there already" -o "$work/b" -- true
 check "empty: gives way" refuses 125 "no message was seen" -o "$capture" --plain -- true
 check "empty: so does one without times" refuses 125 "no message was seen" -o "$capture" -- true
-
-# What is left of a capture that was cut is printed, and that it was cut.
-cut_at() {
-    head -c "$1" "$capture" > "$work/b"
-    ! "$work/recorder/fuse-messages" "$work/b" > "$work/seen" 2> "$work/errors" &&
-        grep -q ": cut off behind $2 whole messages" "$work/errors" && [ "$(wc -l < "$work/seen")" -eq "$2" ]
-}
-own messages --
-timeout 20 ls "$mnt" > "$work/seen"
-stop
-count="$("$work/recorder/fuse-messages" "$capture" | wc -l)"
-check "messages: a whole capture" "$work/recorder/fuse-messages" "$capture" > "$work/seen"
-check "messages: a byte less" cut_at -1 "$((count - 1))"
-check "messages: in the first time" cut_at 11 0
-check "messages: in the first length" cut_at 19 0
 
 # A signal that fuse-record gets is the server's.
 own signalled --
@@ -1064,7 +1047,7 @@ tried_checks() {
     trying --rounds 20 --calls 200 --keep "$work/kept" --shrink 5 -- "$work/memory" --bug lost-mode
     check "tried, a bug: is found" tries 6 ": no order: message [0-9]*: code 83: attributes$"
     check "tried, a bug: the shortest capture shows it" grep -q "^no order: message [0-9]*: code 83: attributes$" "$work/kept/verdict"
-    check "tried, a bug: has few messages" [ "$("$work/recorder/fuse-messages" "$work/kept/shortest.cap" | wc -l)" -lt 60 ]
+    check "tried, a bug: has few messages" [ "$("$program" show --capture "$work/kept/shortest.cap" | wc -l)" -lt 60 ]
     trying --rounds 5 --script "$work/kept/script" -- "$work/memory" --bug lost-mode
     check "tried, a bug: its script shows it" tries 6 "^script: .*: no order: .*code 83: attributes$"
     mkdir "$work/plain"
@@ -1249,12 +1232,10 @@ servers_in_go() {
 }
 refused=(--refuse "FALLOCATE,COPY_FILE_RANGE,IOCTL")
 gocryptfs_words=(gocryptfs -fg -nosyslog -sharedstorage -passfile "$work/password" "$work/secret" "$mnt")
-names_of_go_fuse() { "$work/recorder/fuse-messages" "$capture" | grep -c "to server: LOOKUP, .*, name \.go-fuse-epoll-hack$"; }
+names_of_go_fuse() { "$program" show --capture "$capture" --operation LOOKUP --name .go-fuse-epoll-hack | grep -c " > "; }
 # The answer to the first LINK.
 first_link() {
-    "$work/recorder/fuse-messages" "$capture" | awk '
-        / to server: LINK, / && !asked { match($0, /unique [0-9]+/); asked = substr($0, RSTART, RLENGTH) }
-        / from server: / && asked && index($0, asked ",") { print $1; exit }'
+    "$program" show --capture "$capture" --operation LINK | awk '$2 == ">" && !asked { asked = $4 } $2 == "<" && $4 == asked { print $1; exit }'
 }
 work_without_links() {
     is_mounted && timeout 60 sh -ec "cd '$mnt'; rm -rf *
