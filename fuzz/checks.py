@@ -24,6 +24,7 @@ FORMS = {
     "good": (LEGAL, "good: N messages", ()),
     "order": (LEGAL, r"fuse-order 1\n(?:N(?: w N)?\n)*end", ()),
     "capture": (LEGAL, None, ()),
+    "lines": (LEGAL, None, ()),
     "fault": (FAULT, "fault: message N: code C: TEXT", FAULTS),
     "no capture": (FAULT, "fault: message 0: code C: TEXT", (1,)),
     "framing fault": (FAULT, "fault: message N: code C: TEXT", FAULTS[:5]),
@@ -36,12 +37,18 @@ TOLD = {
     "check": ("legal", "fault", "not shown", "tree text", "order text"), "watch": ("good", "fault"),
     "judge": ("legal", "fault", "tree text", "no order", "gave up"), "search": ("order", "fault", "tree text", "no order", "gave up"),
     "propose": ("order", "fault", "tree text"), "cut": ("order", "fault", "order text"), "front": ("capture", "no capture"),
-    "migrate": ("capture", "framing fault")}
+    "migrate": ("capture", "framing fault"), "show": ("lines",)}
+# The bytes of these that are told by no text.
+BYTES = {"capture": re.compile(rb"(?:FUSECAP1|FUSECAP2).*", re.DOTALL), "lines": re.compile(rb"(?:[ -~]*\n)*")}
 FILES = {"check": ("capture", "tree", "order"), "cut": ("capture", "order"), "judge": ("capture", "tree"),
          "search": ("capture", "tree"), "propose": ("capture", "tree")}
 CODE = re.compile(rb": code (\d+): ")
 MESSAGE = re.compile(rb"message (\d+)")
 ALONE = re.compile(rb"the first (\d+) messages alone")
+# What a line of `show` ends with that tells a code: a name that ends like this has a quote behind it.
+REFUSED = re.compile(rb"[,!] code (\d+): [^\"]+$")
+# What messages are chosen by.
+CHOICES = ("--node", "1"), ("--node", "2"), ("--operation", "LOOKUP"), ("--operation", "WRITE"), ("--name", "a"), ("--unanswered",)
 # How many steps a search is told.
 STEPS = 0, 100, 2000
 # How many bytes a piece of a small capture has, and a seed for up to a hundred times as many; a larger one has so many pieces.
@@ -64,7 +71,7 @@ def form(kind):
     """The status of a kind of answer, and the pattern of its bytes."""
     status, pattern, told = FORMS[kind]
     if pattern is None:
-        return status, re.compile(rb"(?:FUSECAP1|FUSECAP2).*", re.DOTALL)
+        return status, BYTES[kind]
     texts = "|".join(f"{code}: {re.escape(codes.TEXTS[code])}" for code in told)
     pattern = pattern.replace("N", r"(?:0|[1-9]\d*)").replace("C: TEXT", f"(?:{texts})")
     return status, re.compile(pattern.encode() + rb"\n")
@@ -273,6 +280,23 @@ def watched(trial, told):
     trial.same("watch", told if told.status == FAULT else good, seen, "check and watch")
 
 
+def shown(trial, told):
+    """show: each message has its line, the first fault of `check` is the first code that one tells, and those that are chosen have the
+    same lines."""
+    lines = trial.ask("show", *trial.chance.choice(((), ("--whole",)))).output.splitlines()
+    signs = [b"!" if line.split(b" ", 2)[1] == b"!" else b"<" if record.direction else b">" for line, record in zip(lines, trial.records)]
+    signs += [b"!"] * (len(lines) - len(signs))
+    begun = all(line.startswith(b"%d %b " % (number, sign)) for number, (line, sign) in enumerate(zip(lines, signs)))
+    trial.holds("show", begun and b"!" not in signs[:-1], f"{len(lines)} lines of {len(trial.records)} messages", told)
+    refused = next(((number, code) for number, code in enumerate(map(REFUSED.search, lines)) if code), None)
+    first = refused and (refused[0], int(refused[1][1]))
+    fault = (at_message(told), code_of(told)) if told.status == FAULT else None
+    trial.holds("show", first == fault, f"the first code of the lines, {first}", told)
+    chosen = trial.ask("show", *trial.chance.choice(CHOICES)).output.splitlines()
+    trial.holds("show", set(chosen) <= set(lines) or b"\"..\"" in b"".join(lines), "lines that are chosen", told)
+    trial.ask("show", "--summary")
+
+
 def plainly(trial, told):
     """plain: the plain judge tells the same, and of a search too."""
     try:
@@ -291,7 +315,7 @@ def plainly(trial, told):
 def checks_of(trial, told):
     """The checks that an input may be put to, and how often each of them is."""
     in_library = trial.driver is not trial.driver.program
-    found = {timed: 20 if in_library else 1, judged: 20 if in_library else 1, migrated: 2, searched: 6, alone: 2, watched: 2}
+    found = {timed: 20 if in_library else 1, judged: 20 if in_library else 1, migrated: 2, searched: 6, alone: 2, watched: 2, shown: 2}
     if in_library:
         found[in_process] = 1
     if len(trial.given.capture) < drivers.PIPE_BYTES:
