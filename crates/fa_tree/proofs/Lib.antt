@@ -43,6 +43,7 @@ pub mod StoredChangeLemmas
 pub mod StoredLemmas
 pub mod TakeLemmas
 pub mod TallyLemmas
+pub mod TellingLemmas
 pub mod TreeLemmas
 pub mod ViewLemmas
 pub mod WalkLemmas

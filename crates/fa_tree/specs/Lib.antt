@@ -40,6 +40,8 @@ pub mod Steps
 pub mod Refusals
 -- trees that are put together
 pub mod Building
+-- what a tree tells of itself
+pub mod Telling
 -- what makes them trees
 pub mod Shape
 -- what follows from the definitions alone

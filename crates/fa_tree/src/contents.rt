@@ -1,6 +1,6 @@
 //! The bytes of a file.
 
-ghost use Rattle.std.specs.Prelude.{◌≡◌, ◌↔◌, ◌+◌, ◌^◌, ◌<◌, [], length, IsTrue, IfOk, OnOk, OnErr};
+ghost use Rattle.std.specs.Prelude.{◌≡◌, ◌↔◌, ◌+◌, ◌^◌, ◌<◌, [], length, slice_get, IsTrue, IfOk, OnOk, OnErr};
 ghost use Rattle.fa_tree.specs.Contents.{IsReadAs, readable, resized, written};
 ghost use Rattle.fa_tree.specs.parts.PageParts.{page_of, IsZeroFrom, SameBytes, IsStored, AreNear, AreFrom, AreWritten, AreCut};
 
@@ -96,6 +96,19 @@ impl Contents {
         ensures { result ≡ length self.now }
     {
         self.len
+    }
+
+    /// The byte at an offset, if there is one. Takes no memory, in constant time, for a far page in the logarithm of those that are
+    /// there.
+    pub fn byte(&self, offset: u64) -> Option<u8>
+        ensures { result ≡ slice_get self.now offset }
+    {
+        let at = offset as usize;
+        if at < self.len {
+            Some(self.pages.byte(at / PAGE, at % PAGE))
+        } else {
+            None
+        }
     }
 
     /// Whether they are these. Takes no memory, and time in their number, for each far page in the logarithm of those that are there.

@@ -1,6 +1,7 @@
 //! The tree machine: what a POSIX-like tree answers to each tree request.
 #![tactic(auto)]
 
+mod allowed;
 mod causes;
 mod changes;
 mod conditions;
@@ -27,6 +28,7 @@ mod named;
 mod names;
 mod nodes;
 mod open;
+mod opened;
 mod orderly;
 mod page;
 mod pages;
@@ -39,10 +41,14 @@ mod so_far;
 mod step;
 mod stored;
 mod tally;
+mod telling;
 mod tree;
+mod would;
 
 pub use error::StepError;
 pub use fa_bodies::Kind;
 pub use id::FileId;
+pub use opened::OpenedDirectory;
 pub use replay::Replay;
+pub use telling::FileFacts;
 pub use tree::Tree;

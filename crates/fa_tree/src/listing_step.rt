@@ -45,7 +45,7 @@ impl Tree {
     }
 
     /// The files that a call names, and the open directory that it lists, if the tree knows all of them.
-    fn directory_named(&self, call: &Call<'_>) -> Option<NamedDirectory<'_>>
+    pub(crate) fn directory_named(&self, call: &Call<'_>) -> Option<NamedDirectory<'_>>
         requires { call.now.listing ≢ None }
         ensures found { IfSome result (λ at. resolved self.now (call_shown call.now) ≡ Some (directory_shown at)) }
         ensures none { IfNone result (resolved self.now (call_shown call.now) ≡ None) }
@@ -79,14 +79,14 @@ impl Tree {
     }
 
     /// Whether a request that lists may succeed.
-    fn may_list(&self, at: &NamedDirectory<'_>) -> bool
+    pub(crate) fn may_list(&self, at: &NamedDirectory<'_>) -> bool
         ensures { IsTrue result ↔ IsDirectory self.now.store (directory_shown at.now).node }
     {
         self.stored.is_directory(at.named.node)
     }
 
     /// Whether a request that lists may be refused so.
-    fn may_refuse(&self, at: &NamedDirectory<'_>, error: i32) -> bool
+    pub(crate) fn may_refuse(&self, at: &NamedDirectory<'_>, error: i32) -> bool
         ensures { IsTrue result ↔ HasCause (directory_rule self.now.store (directory_shown at.now).node) error }
     {
         self.stored.may_refuse_to_list(at.named.node, error)
@@ -190,7 +190,7 @@ impl Tree {
     }
 
     /// Judges a call that lists, whether the tree knows what it names too: the names of nodes that come with it, each with its file.
-    fn judge_named(
+    pub(crate) fn judge_named(
         &self,
         replay: &mut Replay<'_>,
         k: usize,

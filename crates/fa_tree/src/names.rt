@@ -1,10 +1,12 @@
 //! Which file each name of a directory is, and the directories that are open.
 
-ghost use Rattle.std.specs.Prelude.{◌≡◌, ◌≢◌, ◌↔◌, ◌∷◌, [], ℕ, List, count_by, IsTrue, Some, None, IfOk, OnOk, OnErr};
+ghost use Rattle.std.specs.Prelude.{◌≡◌, ◌≢◌, ◌↔◌, ◌∷◌, [], ℕ, List, count_by, IsTrue, Some, None, IfSome, IfNone, IfOk, OnOk, OnErr};
 ghost use Rattle.fa_tree.specs.declared.id.FileId.{FileId};
 ghost use Rattle.std.specs.FinMap.{get, entries};
 ghost use Rattle.std.specs.Option.{option_map};
-ghost use Rattle.fa_tree.specs.State.{file_eq};
+ghost use Rattle.std.specs.declared.cmp.Ordering.TheVariants.{Greater};
+ghost use Rattle.fa_tree.specs.State as state;
+ghost use Rattle.fa_tree.specs.State.{file_eq, place_cmp};
 ghost use Rattle.fa_tree.specs.Edits.Edit.{Added, Removed};
 ghost use Rattle.fa_tree.specs.Renaming.{moved, exchanged};
 ghost use Rattle.fa_tree.specs.parts.NameParts.{NamesShown, no_names, edited, opened_by};
@@ -145,6 +147,29 @@ impl Names {
         ensures { result ≡ count_by (λ entry. file_eq entry.1 file) (entries self.now.names) }
     {
         self.holders.get(file).links
+    }
+
+    /// How many names are in a directory.
+    ///
+    /// Takes no memory, in expected constant time.
+    pub fn inside(&self, directory: FileId) -> usize
+        ensures { result ≡ count_by (λ entry. file_eq entry.0.0 directory) (entries self.now.names) }
+    {
+        self.holders.get(directory).inside
+    }
+
+    /// The least place that has a name for a file, if one has: in the order of directories, and in a directory of names.
+    ///
+    /// Takes no memory, and time in the places that ever had a name, and in the bytes of the names for the file.
+    pub fn least_of(&self, file: FileId) -> Option<(FileId, &[u8])>
+        ensures found { IfSome result (λ place. get self.now.names (place.0, place.1.now) ≡ Some file) }
+        ensures least { IfSome result (λ place. (other : state.Place) → get self.now.names other ≡ Some file → place_cmp (place.0, place.1.now) other ≢ Greater) }
+        ensures none { IfNone result ((place : state.Place) → get self.now.names place ≡ Some file → ⊥) }
+    {
+        match self.slots.least_of(file) {
+            Some(place) => Some((place.directory, place.name.as_slice())),
+            None => None,
+        }
     }
 
     /// Puts a name into a directory, for a file. A name that is there already is another's from then on. An error says that

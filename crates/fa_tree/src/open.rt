@@ -1,6 +1,6 @@
 //! Directories that are open: all openings, and what was in a directory since one of them.
 
-ghost use Rattle.std.specs.Prelude.{◌≡◌, ◌∷◌, ◌++◌, [], ℕ, List, Some, true, false, length, slice_get, IsTrue, IsFalse, IsSome, IfOk, OnOk, OnErr};
+ghost use Rattle.std.specs.Prelude.{◌≡◌, ◌∷◌, ◌++◌, [], ℕ, List, None, Some, true, false, length, slice_get, IsTrue, IsFalse, IsSome, IfSome, IfNone, IfOk, OnOk, OnErr};
 ghost use Rattle.fa_tree.specs.declared.id.FileId.{FileId};
 ghost use Rattle.fa_tree.specs.declared.slots.Place.{Place};
 ghost use Rattle.fa_tree.specs.declared.slots.Slot.{Slot};
@@ -296,6 +296,42 @@ impl OpenNames<'_> {
         match slot {
             Slot::There { file, born } => { if born <= self.at { Some(file) } else { None } }
             Slot::Gone { .. } => None,
+        }
+    }
+}
+
+impl<'t> OpenNames<'t> {
+    /// A name of which this test holds, and whose file stayed in the directory since it was opened, if there is one.
+    ///
+    /// Takes no memory, and time in the places that the directory ever had and in the tests.
+    pub fn find_stayed<F: Fn(&[u8]) -> bool>(&self, is_sought: F) -> Option<&'t [u8]>
+        requires { F.IsAlwaysCallable is_sought }
+        ensures found { IfSome result (λ name. (file : FileId) × (get (open_of self.now).stayed name.now ≡ Some file) × FnReturnsAt F.Fn is_sought name.now true) }
+        ensures none { IfNone result ((name : List ℕ) (file : FileId) → get (open_of self.now).stayed name ≡ Some file → FnReturnsAt F.Fn is_sought name false) }
+    {
+        for index in self.slots.members.of(self.directory) {
+            if let Some(name) = self.name_stayed(*index) {
+                if is_sought(name) {
+                    return Some(name);
+                }
+            }
+        }
+        None
+    }
+
+    /// The name of a place of the table, if it is one of the directory and its file stayed since that was opened.
+    ///
+    /// Takes no memory, in constant time.
+    fn name_stayed(&self, index: usize) -> Option<&'t [u8]>
+        ensures stayed { IfSome result (λ name. (file : FileId) × (get (open_of self.now).stayed name.now ≡ Some file)) }
+        ensures named { IfSome result (λ name. (place : Place) (slot : Slot) → slice_get self.now.slots.now.table.entries index ≡ Some (place, slot) → place.name.items ≡ name.now) }
+        ensures none { IfNone result ((place : Place) (slot : Slot) → slice_get self.now.slots.now.table.entries index ≡ Some (place, slot) → place.directory ≡ self.now.directory → has_stayed self.now.at slot ≡ None) }
+    {
+        let (place, slot) = self.slots.table.get_index(index)?;
+        if place.directory == self.directory && self.file_stayed(*slot).is_some() {
+            Some(place.name.as_slice())
+        } else {
+            None
         }
     }
 }

@@ -127,6 +127,16 @@ impl Page {
         self.bytes.is_empty()
     }
 
+    /// The byte at a place. Takes no memory, in constant time.
+    pub fn byte(&self, at: usize) -> u8
+        ensures { result ≡ get_or self.now at 0 }
+    {
+        match self.bytes.get(at) {
+            Some(byte) => *byte,
+            None => 0,
+        }
+    }
+
     /// Whether these are the bytes from this place on. Takes no memory, and time in their number.
     pub fn has(&self, at: usize, part: &[u8]) -> bool
         ensures { IsTrue result ↔ IsPart self.now at part.now }

@@ -165,6 +165,21 @@ impl Pages {
         }
     }
 
+    /// The byte at this place of the page at a place of the list; zero where there is none. Takes no memory, in constant time, for a
+    /// far page in the logarithm of those that are there.
+    pub fn byte(&self, place: usize, at: usize) -> u8
+        ensures { result ≡ get_or (page_of self.now place) at 0 }
+    {
+        match &self.list {
+            PageList::One(page) if place == 0 => page.byte(at),
+            PageList::One(_) => 0,
+            PageList::Many(many) => match many.get(place) {
+                Some(page) => page.byte(at),
+                None => 0,
+            },
+        }
+    }
+
     /// Makes the page at a place store so many bytes at least, as `Page::store` does. A far page is made where it is not there, and
     /// has no place before its memory is.
     pub fn store(&mut self, alloc: Global, place: usize, size: usize) -> Result<(), AllocError>

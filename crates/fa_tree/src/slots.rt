@@ -1,12 +1,15 @@
 //! The table of places: for each place that a name was put at, the slot that says what is there.
 
-ghost use Rattle.std.specs.Prelude.{◌≡◌, ◌<◌, ◌^◌, [], ℕ, List, length, ◌==◌, IsTrue, Some, None, IfOk, OnOk, OnErr};
+ghost use Rattle.std.specs.Prelude.{◌≡◌, ◌≢◌, ◌↔◌, ◌<◌, ◌^◌, [], ℕ, List, length, ◌==◌, IsTrue, Some, None, IfSome, IfNone, IfOk, OnOk, OnErr};
 ghost use Rattle.fa_tree.specs.declared.id.FileId.{FileId};
 ghost use Rattle.fa_tree.specs.declared.slots.Slot.TheVariants.{There};
 ghost use Rattle.std.specs.FinMap as map;
 ghost use Rattle.std.specs.Map.{keys_of};
 ghost use Rattle.std.specs.Option.{option_map};
-ghost use Rattle.fa_tree.specs.parts.SlotParts.{place_of, slot_at, gone_at, file_in, names_shown, IsChangedAt, HaveSameSlots, AreAllThere};
+ghost use Rattle.std.specs.declared.cmp.Ordering.TheVariants.{Less, Greater};
+ghost use Rattle.fa_tree.specs.State as state;
+ghost use Rattle.fa_tree.specs.State.{place_cmp};
+ghost use Rattle.fa_tree.specs.parts.SlotParts.{place_of, slot_at, gone_at, file_in, names_shown, IsChangedAt, HaveSameSlots, AreAllThere, IsBefore};
 ghost use Rattle.fa_tree.specs.parts.MemberParts.{AreMembers};
 ghost use Rattle.fa_tree.specs.parts.SameParts.{IsMapWithin};
 
@@ -115,6 +118,30 @@ impl Equivalent<Place> for &PlaceAt<'_> {
     }
 }
 
+/// Whether a place comes before another, if there is another.
+fn comes_before(place: &Place, other: Option<&Place>) -> bool
+    ensures { IsTrue result ↔ IsBefore place.now (option_map (λ p. p.now) other.entry) }
+{
+    match other {
+        Some(other) => is_less(place, other),
+        None => true,
+    }
+}
+
+/// Whether a place is less than another: its directory is, or that is the same and its name is.
+fn is_less(place: &Place, other: &Place) -> bool
+    ensures { IsTrue result ↔ (place_cmp (place_of place.now) (place_of other.now) ≡ Less) }
+{
+    let (made_by, number) = place.directory.rank();
+    let (other_made_by, other_number) = other.directory.rank();
+    let name = place.name.as_slice();
+    made_by
+        .cmp(&other_made_by)
+        .then(number.cmp(&other_number))
+        .then(name.cmp(other.name.as_slice()))
+        .is_lt()
+}
+
 impl Slots {
     /// No place has a slot. The table takes memory from `alloc` later.
     pub fn new(alloc: Global) -> Self
@@ -185,6 +212,27 @@ impl Slots {
         ensures { result ≡ map.get (names_shown self.now.table.entries) (directory, name.now) }
     {
         self.get(directory, name)?.file()
+    }
+
+    /// The least place that has a name for a file, if one has: in the order of directories, and in a directory of names. Takes no
+    /// memory, and time in the places, and in the bytes of the names for the file.
+    pub fn least_of(&self, file: FileId) -> Option<&Place>
+        ensures found { IfSome result (λ place. map.get (names_shown self.now.table.entries) (place_of place.now) ≡ Some file) }
+        ensures least { IfSome result (λ place. (other : state.Place) → map.get (names_shown self.now.table.entries) other ≡ Some file → place_cmp (place_of place.now) other ≢ Greater) }
+        ensures none { IfNone result ((place : state.Place) → map.get (names_shown self.now.table.entries) place ≡ Some file → ⊥) }
+    {
+        let mut least: Option<&Place> = None;
+        for index in 0..self.table.len() {
+            match self.table.get_index(index) {
+                Some((place, slot)) => {
+                    if slot.is_for(file) && comes_before(place, least) {
+                        least = Some(place);
+                    }
+                }
+                None => {}
+            }
+        }
+        least
     }
 
     /// A number for the names and their files, the same for the same ones, whatever was at their places before. Takes no memory, and
@@ -324,6 +372,13 @@ impl Slot {
             Slot::There { file, .. } => Some(file),
             Slot::Gone { .. } => None,
         }
+    }
+
+    /// Whether there is a name, for this file.
+    fn is_for(self, file: FileId) -> bool
+        ensures { IsTrue result ↔ (file_in self ≡ Some file) }
+    {
+        self.file() == Some(file)
     }
 
     /// The name goes, if there is one.

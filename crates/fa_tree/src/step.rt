@@ -131,9 +131,12 @@ impl Tree {
         }
     }
 
-    /// The file that the name of a node stands for, if it stands for one.
+    /// The file that the name of a node stands for, if a step gave it one. It stands for that for good, also when the last name that a
+    /// directory has for the file goes.
+    ///
+    /// Takes no memory, in expected constant time.
     #[inline(always)]
-    fn file_of(&self, name: &NodeName) -> Option<FileId>
+    pub fn file_of(&self, name: &NodeName) -> Option<FileId>
         ensures { result ≡ file_of self.now name.now }
     {
         match name {
@@ -168,7 +171,7 @@ impl Tree {
 
     /// The files that a call names that does not list, if the tree knows all of them.
     #[inline(always)]
-    fn named(&self, call: &Call<'_>) -> Option<Named>
+    pub(crate) fn named(&self, call: &Call<'_>) -> Option<Named>
         requires { call.now.listing ≡ None }
         ensures found { IfSome result (λ named. resolved self.now (call_shown call.now) ≡ Some (named_shown named None)) }
         ensures none { IfNone result (resolved self.now (call_shown call.now) ≡ None) }
@@ -257,14 +260,19 @@ impl Tree {
     }
 
     /// Whether an error has its cause.
-    fn has_cause(&self, named: &Named, action: &Action<'_>, error: i32) -> bool
+    pub(crate) fn has_cause(&self, named: &Named, action: &Action<'_>, error: i32) -> bool
         ensures { IsTrue result ↔ HasCause (action_rule self.now.store (named_shown named.now None) (action_shown action.now)) error }
     {
         self.stored.has_cause(named, action, error)
     }
 
     /// Judges what came of a call that names these files.
-    fn judge(&self, named: &Named, call: &Call<'_>, action: &Action<'_>) -> Result<(), u16>
+    pub(crate) fn judge(
+        &self,
+        named: &Named,
+        call: &Call<'_>,
+        action: &Action<'_>,
+    ) -> Result<(), u16>
         ensures ok { OnOk result ((count : ℕ) (so_far : List PlainDirent) → AllHold (operation_checks self.now.nodes (setting self.now.store (named_shown named.now None) (call_shown call.now) (Acts (action_shown action.now)) count so_far) (call_shown call.now) (Acts (action_shown action.now)))) }
         ensures fault { IfErr result (λ code. (count : ℕ) (so_far : List PlainDirent) → FirstFailure (operation_checks self.now.nodes (setting self.now.store (named_shown named.now None) (call_shown call.now) (Acts (action_shown action.now)) count so_far) (call_shown call.now) (Acts (action_shown action.now))) code) }
     {

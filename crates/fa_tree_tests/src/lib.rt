@@ -14,4 +14,6 @@ mod same;
 #[cfg(test)]
 mod steps;
 #[cfg(test)]
+mod telling;
+#[cfg(test)]
 mod trees;

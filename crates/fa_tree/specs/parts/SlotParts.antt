@@ -6,6 +6,7 @@ use Rattle.std.specs.Map.{lookup}
 use Rattle.std.specs.Option.{option_and_then}
 use Rattle.std.specs.Ordering.{eq_by_cmp}
 use Rattle.std.specs.declared.cmp.Ordering.{Ordering}
+use Rattle.std.specs.declared.cmp.Ordering.TheVariants.{Less}
 use Rattle.fa_tree.specs.declared.id.FileId.{FileId}
 use Rattle.fa_tree.specs.State as state
 use Rattle.fa_tree.specs.State.{place_cmp}
@@ -57,3 +58,8 @@ put_or_not m k (Some x) = map.insert m k x
 abbrev pub names_shown : List (Place × Slot) → FinMap place_cmp FileId
 names_shown [] = map.empty
 names_shown (e ∷ slots) = put_or_not (names_shown slots) (place_of e.0) (file_in e.1)
+
+-- a place comes before another, if there is another
+abbrev pub IsBefore : Place → Option Place → Type 0
+IsBefore key None = Unit {0}
+IsBefore key (Some other) = place_cmp (place_of key) (place_of other) ≡ Less
