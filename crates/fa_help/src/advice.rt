@@ -52,7 +52,7 @@ pub(crate) fn lines_of(code: u16) -> Option<&'static str>
         codes::LENGTH_FIELD => {
             "told of  a request\n\
              fails    where len is not the length of the message\n\
-             look at  The size of the buffer was recorded in place of what read(2) returned.\n\
+             look at  The record has not the length that read(2) returned: the size of the buffer was recorded, or a part of the request.\n\
              told of  a message of the server\n\
              fails    where len is not the length of the message\n\
              look at  len of struct fuse_out_header has to count header and body: look where it is set. Or the parts of a writev(2) were recorded one by one.\n"
@@ -60,12 +60,13 @@ pub(crate) fn lines_of(code: u16) -> Option<&'static str>
         codes::OPERATION => {
             "told of  a request\n\
              fails    where the opcode is 0, 7, 19, 41 or above 47\n\
-             look at  The kernel is newer than 7.31. `fuse-record` answers such operations with ENOSYS in the server's place; a recorder of your own has to.\n"
+             look at  The kernel is newer than 7.31, or asks for what is not judged here. `fuse-record` answers such operations with ENOSYS in the server's place; a recorder of your own has to.\n"
         }
         codes::REQUEST_BODY => {
             "told of  a request\n\
              fails    where the body is not one that the operation has\n\
-             look at  The buffer was used again before it was recorded: record a request before the server works in it. Names `.` and `..` are looked up for NFS exports and open_by_handle_at(2): do not export the mount.\n"
+             look at  The buffer was used again before it was recorded: record a request before the server works in it.\n\
+             look at  Names `.` and `..` are looked up for NFS exports and open_by_handle_at(2): do not export the mount.\n"
         }
         codes::PROFILE_LIMIT => {
             "told of  a request\n\
@@ -80,7 +81,8 @@ pub(crate) fn lines_of(code: u16) -> Option<&'static str>
         codes::REPLY_BODY => {
             "told of  a message of the server\n\
              fails    where an error other than 0 has a body, or a success has one that the operation does not have\n\
-             look at  The server answers with the struct of another operation or protocol version, sends an error with a body, or more bytes than were asked for: look where it builds this answer.\n"
+             look at  The server answers with the struct of another operation or protocol version, sends an error with a body, or more bytes than were asked for: look where it builds this answer.\n\
+             look at  An entry is struct fuse_dirent, the name and padding to 8 bytes, with struct fuse_entry_out in front for READDIRPLUS: look at namelen and the padding; what does not fit whole waits for the next answer.\n"
         }
         codes::NOTIFICATION => {
             "told of  a message of the server\n\
@@ -112,14 +114,14 @@ pub(crate) fn lines_of(code: u16) -> Option<&'static str>
         }
         codes::VERSION => {
             "told of  a message of the server\n\
-             fails    where it answers INIT, and a major is not 7, or the least of the two minors is not 31\n\
-             look at  The server answers the minor of a newer or older fuse.h. `fuse-record` shows it 7.31.\n\
-             look at  Or the kernel is older than 7.31.\n"
+             fails    where it answers INIT, and a major is not 7, or the lesser of the two minors is not 31\n\
+             look at  The server answers the minor of a newer or older fuse.h. `fuse-record` shows the server a kernel of 7.31.\n\
+             look at  The kernel is older than 7.31.\n"
         }
         codes::NEGOTIATED_FLAGS => {
             "told of  a message of the server\n\
              fails    where it answers INIT, and WRITEBACK_CACHE or POSIX_ACL is set in both INIT messages\n\
-             look at  The server copies the flags of the kernel, or asks for what is not judged here. `fuse-record` clears both flags.\n"
+             look at  The server copies the flags of the kernel, or asks for what is not judged here. `fuse-record` clears WRITEBACK_CACHE and POSIX_ACL.\n"
         }
         codes::UNIQUE_IN_USE => {
             "told of  a request\n\
@@ -151,12 +153,12 @@ pub(crate) fn lines_of(code: u16) -> Option<&'static str>
         codes::FORGOTTEN_NODE => {
             "told of  a request\n\
              fails    where it names a node, in the header, as the new directory of RENAME or RENAME2 or as the file of LINK, that is not the root and whose lookup count is 0\n\
-             look at  Linux names a node only after an answer gave it: an answer is missing from the capture (a thread or a process that was not recorded), or two mounts stand in one file. A server in which the node is gone too counts lookups otherwise than the kernel.\n"
+             look at  Linux names a node only after an answer gave it: an answer is missing from the capture (a thread or a process that was not recorded), or two mounts stand in one file. A server that has forgotten the node too counts lookups otherwise than the kernel.\n"
         }
         codes::FORGOTTEN_TOO_OFTEN => {
             "told of  a request\n\
              fails    where a FORGET, or an item of a BATCH_FORGET after those before it, takes more lookups than the node has\n\
-             look at  An answer that gave the node is missing from the capture. Each success of LOOKUP, CREATE, MKNOD, MKDIR, SYMLINK and LINK and each entry of READDIRPLUS counts one: does the server count so?\n"
+             look at  An answer that gave the node is missing from the capture. Each success of LOOKUP, CREATE, MKNOD, MKDIR, SYMLINK and LINK and each entry of READDIRPLUS but `.`, `..` and those with node 0 counts one: does the server count so?\n"
         }
         codes::NODE_ID_NOT_ALLOWED => {
             "told of  a message of the server\n\
@@ -172,7 +174,7 @@ pub(crate) fn lines_of(code: u16) -> Option<&'static str>
         codes::NOT_AN_ORDER_TEXT => {
             "told of  a line of an order text\n\
              fails    where it is the first that does not fit the format\n\
-             look at  A carriage return, a blank or an empty line, or no line feed behind `end`. `fa_audit propose` writes texts that fit.\n"
+             look at  A carriage return, a blank or an empty line, a number with a sign or a zero in front or above 4,294,967,295, another first line than `fuse-order 1`, or something behind `end`, which needs its line feed. `fa_audit propose` writes texts that fit.\n"
         }
         codes::NOT_A_TREE_TEXT => {
             "told of  a line of a tree text\n\
@@ -252,7 +254,7 @@ pub(crate) fn lines_of(code: u16) -> Option<&'static str>
         }
         codes::LISTING => {
             "told of  an entry of an order, or the request of a reply that no order explains\n\
-             fails    where an answer of READDIR or READDIRPLUS breaks the rule of listings: each name that stayed in the directory since the opening is listed once, and none that was not in it since then\n\
+             fails    where an answer of READDIR or READDIRPLUS breaks the rule of listings: each name that stayed in the directory since the opening is listed once, and none that was at no time in it since then\n\
              look at  a name is missing: The loop that fills the answer: what it passes over, where it goes on (the off of an entry is the place behind it), and what a name that comes or goes does to the places of the others.\n\
              look at  a name stands twice: The off of the entries: the place behind an entry has to stay, whatever comes or goes; an index into a list that shifts does not.\n\
              look at  a name that was never there: What the server lists from: a name that was renamed or removed before the opening is in it.\n\
