@@ -22,6 +22,7 @@ pub struct Line<'a> {
     /// The number of the message.
     pub number: u32,
     pub packet: Packet<'a>,
+    /// What came of it. Of a reply the number in it is not looked at.
     pub fate: Fate,
     /// The message that goes with it, with its number.
     pub partner: Option<(u32, Packet<'a>)>,

@@ -17,7 +17,8 @@ const LONG_DATA: usize = 16;
 
 /// Text in room of a fixed size. What finds no room is lost, and noted to be.
 ///
-/// All that is written goes through its methods, and each of them writes printing ASCII, whatever it is handed.
+/// All that is written goes through its methods, and each of them writes printing ASCII, whatever it is handed. Writing takes no memory,
+/// and time linear in what is handed over.
 #[derive(Drop)]
 pub struct Text {
     /// The text, and spaces behind it.
@@ -45,7 +46,11 @@ impl Model for Text {
 }
 
 impl Text {
-    /// No text, with room for so many bytes.
+    /// No text, with room for so many bytes. Names and data are shortened as they are written, unless all of it is to be `whole`.
+    ///
+    /// # Errors
+    ///
+    /// [`AllocError`] where memory for the room was refused.
     pub fn new(alloc: Global, room: usize, whole: bool) -> Result<Text, AllocError> {
         let room = vec![in alloc; b' '; room]?;
         Ok(Text {

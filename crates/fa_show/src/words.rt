@@ -204,7 +204,9 @@ pub(crate) fn operation_name(opcode: u32) -> Option<&'static str> {
     named(&OPERATIONS, opcode as usize)
 }
 
-/// Writes an operation.
+/// Writes an operation: its name, or its number where it has none.
+///
+/// Takes no memory, in constant time.
 pub fn operation(text: &mut Text, opcode: u32) {
     match operation_name(opcode) {
         Some(name) => text.word(name),
@@ -213,6 +215,8 @@ pub fn operation(text: &mut Text, opcode: u32) {
 }
 
 /// The name of an error that a reply has, which is its negated number, if it is known by one.
+///
+/// Takes no memory, in constant time.
 pub fn error_name(error: i32) -> Option<&'static str> {
     match error {
         -61 => Some("ENODATA"),
@@ -227,6 +231,8 @@ pub fn error_name(error: i32) -> Option<&'static str> {
 }
 
 /// Writes a number that may be below zero.
+///
+/// Takes no memory, in constant time.
 pub fn signed(text: &mut Text, number: i32) {
     if number < 0 {
         text.word("-");
@@ -282,6 +288,8 @@ pub(crate) fn mode(text: &mut Text, bits: u32) {
 }
 
 /// Writes the names of the flags that are set, and what is left in hexadecimal.
+///
+/// Takes no memory, in time linear in the names.
 pub fn flags(text: &mut Text, bits: u32, names: &[Flag]) {
     let mut left = bits;
     for (flag, name) in names {

@@ -1,0 +1,148 @@
+//! What replies give, and open.
+
+use fa_bodies::{Dirent, Entries, EntryOut, Reply, Request, RequestBody};
+
+/// The nodes that a reply gives: each of them stands for one lookup.
+#[derive(Clone, Copy)]
+pub(crate) enum Given<'a> {
+    Nothing,
+    One(u64),
+    /// Those of the entries that have one.
+    Listed(Entries<'a>),
+}
+
+impl<'a> Given<'a> {
+    /// The nodes that a reply to a request gives.
+    pub fn by(asked: &RequestBody<'_>, reply: &Reply<'a>) -> Self {
+        match reply {
+            Reply::Entry(entry) => Given::looked_up(asked, entry),
+            Reply::Created { entry, .. } => Given::One(entry.nodeid),
+            Reply::Listed(entries) => {
+                if entries.is_plus() {
+                    Given::Listed(*entries)
+                } else {
+                    Given::Nothing
+                }
+            }
+            _ => Given::Nothing,
+        }
+    }
+
+    /// The node of a name: to LOOKUP 0 stands for none.
+    fn looked_up(asked: &RequestBody<'_>, entry: &EntryOut) -> Self {
+        match asked {
+            RequestBody::Lookup { .. } => {
+                if entry.nodeid == 0 {
+                    Given::Nothing
+                } else {
+                    Given::One(entry.nodeid)
+                }
+            }
+            _ => Given::One(entry.nodeid),
+        }
+    }
+}
+
+/// The node that an entry of a READDIRPLUS gives, if any: the entries `.` and `..` give none.
+///
+/// Takes no memory, in constant time.
+pub fn node_listed(dirent: &Dirent<'_>) -> Option<u64> {
+    let entry = dirent.entry.as_ref()?;
+    if dirent.name == b".".as_slice() || dirent.name == b"..".as_slice() || entry.nodeid == 0 {
+        return None;
+    }
+    Some(entry.nodeid)
+}
+
+/// As what a file handle is opened and used.
+#[derive(Clone, Copy, PartialEq, Eq)]
+pub(crate) enum HandleKind {
+    File,
+    Directory,
+}
+
+impl HandleKind {
+    /// The other one.
+    pub fn other(self) -> Self {
+        match self {
+            HandleKind::File => HandleKind::Directory,
+            HandleKind::Directory => HandleKind::File,
+        }
+    }
+
+    /// The word for it.
+    pub fn word(self) -> &'static str {
+        match self {
+            HandleKind::File => "file",
+            HandleKind::Directory => "directory",
+        }
+    }
+}
+
+/// A file handle: its number, and as what and for which node it is opened or used.
+#[derive(Clone, Copy)]
+pub(crate) struct Handle {
+    pub fh: u64,
+    pub kind: HandleKind,
+    pub node: u64,
+}
+
+/// The file handle that a success opens.
+#[derive(Clone, Copy)]
+pub(crate) enum Opened {
+    /// On a node that its request named.
+    Named(Handle),
+    /// On a node that it gives.
+    Given(Handle),
+}
+
+impl Opened {
+    /// The file handle that a reply to a request opens, if any.
+    pub fn by(asked: &Request<'_>, reply: &Reply<'_>) -> Option<Self> {
+        match reply {
+            Reply::Opened(open) => Some(Opened::Named(Handle {
+                fh: open.fh,
+                kind: match &asked.body {
+                    RequestBody::Opendir(_) => HandleKind::Directory,
+                    _ => HandleKind::File,
+                },
+                node: asked.node,
+            })),
+            Reply::Created { entry, open } => Some(Opened::Given(Handle {
+                fh: open.fh,
+                kind: HandleKind::File,
+                node: entry.nodeid,
+            })),
+            _ => None,
+        }
+    }
+
+    /// The handle.
+    pub fn handle(self) -> Handle {
+        match self {
+            Opened::Named(handle) | Opened::Given(handle) => handle,
+        }
+    }
+}
+
+/// The file handle of a request that is refused for it. A GETATTR or a SETATTR that uses none is not, so its flag is not looked at.
+pub(crate) fn handle_used(asked: &Request<'_>) -> Option<Handle> {
+    let (fh, kind) = match &asked.body {
+        RequestBody::Getattr(getattr) => (getattr.fh, HandleKind::File),
+        RequestBody::Setattr(setattr) => (setattr.fh, HandleKind::File),
+        RequestBody::Read(read) => (read.fh, HandleKind::File),
+        RequestBody::Write { fh, .. } => (*fh, HandleKind::File),
+        RequestBody::Release(release) => (release.fh, HandleKind::File),
+        RequestBody::Flush(flush) => (flush.fh, HandleKind::File),
+        RequestBody::Readdir(read) | RequestBody::Readdirplus(read) => {
+            (read.fh, HandleKind::Directory)
+        }
+        RequestBody::Releasedir(release) => (release.fh, HandleKind::Directory),
+        _ => return None,
+    };
+    Some(Handle {
+        fh,
+        kind,
+        node: asked.node,
+    })
+}
