@@ -1,0 +1,321 @@
+//! Attributes that are not those of the file: code 83.
+
+use crate::holding::{facts_and_changes, place, tree_name, tree_node};
+use crate::rules::{ATTRIBUTES, ENTRY_TYPES, rule_line};
+use crate::scene::Scene;
+use crate::wording::{self, comma, numbered_kind};
+use bitflags::Flags;
+use fa_bodies::{Attributes, FattrFlags, Mode};
+use fa_ledger::Action;
+use fa_refusal::{Case, Expected, ListedType, NamedPlace, OtherAttributes};
+use fa_show::Text;
+use fa_tree::FileId;
+use std::alloc::AllocError;
+
+/// Writes which attributes are not those of the file: which of the lines of what to look at fits.
+pub(crate) fn explain(
+    text: &mut Text,
+    scene: &Scene<'_>,
+    other: &OtherAttributes<'_>,
+) -> Result<&'static str, AllocError> {
+    match other {
+        OtherAttributes::Told { told, expected, .. } => told_lines(text, scene, told, expected),
+        OtherAttributes::Listed(listed) => listed_lines(text, scene, listed),
+    }
+}
+
+/// Writes which entry of a READDIRPLUS has the type of another file.
+fn listed_lines(
+    text: &mut Text,
+    scene: &Scene<'_>,
+    listed: &ListedType<'_>,
+) -> Result<&'static str, AllocError> {
+    rule_line(text, ENTRY_TYPES);
+    text.word("differs  type of ");
+    text.name(listed.name);
+    text.word(": answered ");
+    mode_type(text, listed.mode);
+    text.word(", expected ");
+    text.word(wording::kind(listed.kind));
+    text.end_line();
+    text.word("tree     ");
+    place(text, scene, listed.file)?;
+    text.word(": ");
+    facts_and_changes(text, scene, listed.file)?;
+    text.end_line();
+    Ok("type")
+}
+
+/// Writes the type that a mode tells.
+fn mode_type(text: &mut Text, mode: Mode) {
+    numbered_kind(text, (mode.bits() >> 12) & 15);
+}
+
+/// Writes which attributes of an action's answer are not those of the file.
+fn told_lines(
+    text: &mut Text,
+    scene: &Scene<'_>,
+    told: &Attributes,
+    expected: &Expected,
+) -> Result<&'static str, AllocError> {
+    rule_line(text, ATTRIBUTES);
+    file_line(text, scene, expected)?;
+    differing(text, scene, told, expected)?;
+    same_line(text, told, expected);
+    Ok(key(told, expected))
+}
+
+/// Writes the line of the file whose attributes are told.
+fn file_line(text: &mut Text, scene: &Scene<'_>, expected: &Expected) -> Result<(), AllocError> {
+    let named = scene.case.first_place();
+    if expected.file.is_none() {
+        made_line(text, named);
+        return Ok(());
+    }
+    if is_link(&scene.case) {
+        return match scene.case.call.other {
+            Some(other) => tree_node(text, scene, other),
+            None => Ok(()),
+        };
+    }
+    match named {
+        Some(place) => tree_name(text, scene, &place),
+        None => tree_node(text, scene, scene.case.call.node),
+    }
+}
+
+/// Writes that a name is made by the request.
+fn made_line(text: &mut Text, named: Option<NamedPlace<'_>>) {
+    text.word("tree     ");
+    if let Some(place) = named {
+        text.name(place.name);
+    }
+    text.word(" is made by this request");
+    text.end_line();
+}
+
+/// Which of the lines of what to look at fits: that of the type first, then of the last attribute that differs.
+fn key(told: &Attributes, expected: &Expected) -> &'static str {
+    if !expected.has_kind(told) {
+        "type"
+    } else if !expected.has_links(told) {
+        "links"
+    } else if !expected.has_size(told) {
+        "size"
+    } else {
+        "permission bits"
+    }
+}
+
+/// Writes a line for each attribute that differs.
+fn differing(
+    text: &mut Text,
+    scene: &Scene<'_>,
+    told: &Attributes,
+    expected: &Expected,
+) -> Result<(), AllocError> {
+    if !expected.has_kind(told) {
+        kind_line(text, told, expected);
+    }
+    if !expected.has_bits(told) {
+        bits_line(text, scene, told, expected);
+    }
+    if !expected.has_size(told) {
+        size_line(text, scene, told, expected);
+    }
+    if !expected.has_links(told) {
+        links_line(text, scene, told, expected)?;
+    }
+    Ok(())
+}
+
+/// Writes that the type differs.
+fn kind_line(text: &mut Text, told: &Attributes, expected: &Expected) {
+    text.word("differs  type: answered ");
+    mode_type(text, told.mode);
+    text.word(", expected ");
+    text.word(wording::kind(expected.kind));
+    if expected.file.is_none() {
+        text.word(", as it is made");
+    }
+    text.end_line();
+}
+
+/// Writes that the permission bits differ.
+fn bits_line(text: &mut Text, scene: &Scene<'_>, told: &Attributes, expected: &Expected) {
+    text.word("differs  bits: answered ");
+    text.octal(told.mode.bits() & 0o777, 4);
+    text.word(", expected ");
+    text.octal(expected.bits, 4);
+    bits_origin(text, scene, expected);
+    text.end_line();
+}
+
+/// Writes that the size differs.
+fn size_line(text: &mut Text, scene: &Scene<'_>, told: &Attributes, expected: &Expected) {
+    text.field("differs  size: answered ", told.size);
+    text.field(", expected ", expected.size);
+    size_origin(text, scene, expected);
+    text.end_line();
+}
+
+/// Writes that the links differ.
+fn links_line(
+    text: &mut Text,
+    scene: &Scene<'_>,
+    told: &Attributes,
+    expected: &Expected,
+) -> Result<(), AllocError> {
+    text.field("differs  nlink: answered ", u64::from(told.nlink));
+    text.field(", expected ", expected.links);
+    links_origin(text, scene, expected)?;
+    text.end_line();
+    Ok(())
+}
+
+/// Writes why permission bits are expected.
+fn bits_origin(text: &mut Text, scene: &Scene<'_>, expected: &Expected) {
+    let Some(file) = expected.file else {
+        return asked_for(text, scene);
+    };
+    if sets(scene, FattrFlags::MODE) {
+        return text.word(", as this request sets it");
+    }
+    let by = match scene.history.file(file) {
+        Some(known) => known.bits_by,
+        None => None,
+    };
+    since_made(text, scene, file, by);
+}
+
+/// Writes which mode and umask a request that makes a file asks for.
+fn asked_for(text: &mut Text, scene: &Scene<'_>) {
+    if let Some(
+        Action::Create { mode, umask, .. }
+        | Action::Mkdir { mode, umask, .. }
+        | Action::Mknod { mode, umask, .. },
+    ) = scene.case.action()
+    {
+        text.word(", as mode ");
+        text.octal(mode.bits() & 0o7777, 4);
+        text.word(" less umask ");
+        text.octal(*umask, 3);
+        text.word(" asks");
+    }
+}
+
+/// Writes why a size is expected.
+fn size_origin(text: &mut Text, scene: &Scene<'_>, expected: &Expected) {
+    let Some(file) = expected.file else {
+        return text.word(", as it is made");
+    };
+    if sets(scene, FattrFlags::SIZE) || empties(&scene.case) {
+        return text.word(", as this request sets it");
+    }
+    let by = match scene.history.file(file) {
+        Some(known) => known.bytes_by,
+        None => None,
+    };
+    since_made(text, scene, file, by);
+}
+
+/// Whether the request is a SETATTR that sets these.
+fn sets(scene: &Scene<'_>, flags: FattrFlags) -> bool {
+    match scene.case.action() {
+        Some(Action::Setattr { setattr, .. }) => setattr.valid.contains(flags),
+        _ => false,
+    }
+}
+
+/// Whether the request is a CREATE that empties a file that is there.
+fn empties(case: &Case<'_>) -> bool {
+    matches!(case.action(), Some(Action::Create { .. })) && case.call.truncates
+}
+
+/// Writes since which request an attribute is so: since that which changed it last, or else since that which made the file.
+fn since_made(text: &mut Text, scene: &Scene<'_>, file: FileId, by: Option<u32>) {
+    text.word(", ");
+    let asked = match (by, file) {
+        (Some(asked), _) => Some(asked),
+        (None, FileId::Made(asked)) => Some(asked),
+        _ => None,
+    };
+    wording::since(text, scene.calls, asked);
+}
+
+/// Writes for which names a number of links is expected.
+fn links_origin(text: &mut Text, scene: &Scene<'_>, expected: &Expected) -> Result<(), AllocError> {
+    let Some(file) = expected.file else {
+        text.word(", as it is made");
+        return Ok(());
+    };
+    match scene.path(file)? {
+        Some(path) => {
+            text.word(", for ");
+            text.name(&path);
+            further_names(text, scene, file);
+        }
+        None => text.word(", as it has no name any more"),
+    }
+    Ok(())
+}
+
+/// Writes how many names a file has beside its least one.
+fn further_names(text: &mut Text, scene: &Scene<'_>, file: FileId) {
+    if let Some(facts) = scene.tree.facts(file) {
+        if facts.names > 1 {
+            text.field(", ", (facts.names - 1) as u64);
+            text.word(" more");
+        }
+    }
+    if is_link(&scene.case) {
+        text.word(" and the new name");
+    }
+}
+
+/// Writes the line of the attributes that are told rightly, if there are some.
+fn same_line(text: &mut Text, told: &Attributes, expected: &Expected) {
+    let bits = expected.tells_bits() && expected.has_bits(told);
+    let size = expected.tells_size() && expected.has_size(told);
+    let links = expected.tells_links() && expected.has_links(told);
+    let kind = expected.has_kind(told);
+    if !(kind || bits || size || links) {
+        return;
+    }
+    text.word("same     ");
+    if kind {
+        text.word("type ");
+        text.word(wording::kind(expected.kind));
+    }
+    if bits {
+        comma(text, !kind);
+        text.word("bits ");
+        text.octal(expected.bits, 4);
+    }
+    if size {
+        comma(text, !(kind || bits));
+        text.field("size ", expected.size);
+    }
+    if links {
+        comma(text, !(kind || bits || size));
+        text.field("nlink ", expected.links);
+    }
+    text.end_line();
+}
+
+/// Whether a request gives a file a further name.
+fn is_link(case: &Case<'_>) -> bool {
+    matches!(case.action(), Some(Action::Link { .. }))
+}
+
+/// Whether the attributes that were told are those of the file before the request.
+pub(crate) fn are_those_before(other: &OtherAttributes<'_>) -> bool {
+    match other {
+        OtherAttributes::Told {
+            told,
+            before: Some(before),
+            ..
+        } => before.are_in(told),
+        _ => false,
+    }
+}

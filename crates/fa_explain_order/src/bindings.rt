@@ -1,0 +1,43 @@
+//! Nodes that are given for another file: code 84.
+
+use crate::holding::{facts_and_changes, place};
+use crate::rules::{NODES, rule_line};
+use crate::scene::Scene;
+use crate::wording::{self, node_number};
+use fa_refusal::Binding;
+use fa_show::Text;
+use std::alloc::AllocError;
+
+/// Writes which node is given for two files: which of the lines of what to look at fits, which is the only one.
+pub(crate) fn explain(
+    text: &mut Text,
+    scene: &Scene<'_>,
+    binding: &Binding<'_>,
+) -> Result<&'static str, AllocError> {
+    rule_line(text, NODES);
+    let number = node_number(&binding.node);
+    text.field("given    node ", number);
+    match scene.history.node_by {
+        Some(asked) => {
+            text.word(" by ");
+            wording::request(text, scene.calls, asked);
+        }
+        None => text.word(" by this answer"),
+    }
+    text.word(", for ");
+    place(text, scene, binding.other)?;
+    text.word(": ");
+    facts_and_changes(text, scene, binding.other)?;
+    text.end_line();
+    text.word("here     ");
+    text.name(binding.name);
+    text.word(" is ");
+    match binding.file {
+        Some(file) => facts_and_changes(text, scene, file)?,
+        None => text.word("made by this request"),
+    }
+    text.field(", and is given node ", number);
+    text.word(" too");
+    text.end_line();
+    Ok("")
+}

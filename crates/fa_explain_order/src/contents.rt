@@ -1,0 +1,137 @@
+//! Bytes and targets that are not those of the file: code 85.
+
+use crate::holding::node_lines;
+use crate::rules::{BYTES, DIRECT, TARGETS, rule_line};
+use crate::scene::Scene;
+use crate::wording;
+use fa_refusal::{Difference, Reading};
+use fa_show::Text;
+use std::alloc::{AllocError, Global};
+
+/// So many bytes are written from the first that differs on: one more than are shown.
+const SHOWN: u64 = 17;
+
+/// Writes which bytes are not those of the file: which of the lines of what to look at fits.
+pub(crate) fn explain(
+    text: &mut Text,
+    scene: &Scene<'_>,
+    reading: &Reading<'_>,
+) -> Result<&'static str, AllocError> {
+    rule(text, scene, reading);
+    node_lines(text, scene)?;
+    if reading.answered.len() as u64 != reading.expected {
+        lengths_line(text, scene, reading);
+    }
+    let difference = reading.difference(scene.tree);
+    if let Some(difference) = &difference {
+        first_line(text, scene, reading, difference)?;
+    }
+    Ok(key(reading, difference.is_some()))
+}
+
+/// Writes the rule of the bytes.
+fn rule(text: &mut Text, scene: &Scene<'_>, reading: &Reading<'_>) {
+    if reading.is_target {
+        return rule_line(text, TARGETS);
+    }
+    text.word("rule     ");
+    text.word(BYTES);
+    if scene.case.call.direct {
+        text.word(DIRECT);
+    }
+    text.end_line();
+}
+
+/// Writes how many bytes were answered, and how many were expected.
+fn lengths_line(text: &mut Text, scene: &Scene<'_>, reading: &Reading<'_>) {
+    let answered = reading.answered.len();
+    text.word("differs  ");
+    text.count(answered, " byte answered, ", " bytes answered, ");
+    if scene.case.call.direct && answered as u64 <= reading.expected {
+        text.word("at most ");
+    }
+    text.number(reading.expected);
+    text.word(" expected");
+    text.end_line();
+}
+
+/// Writes the first byte that differs, with which request set it, and how many differ.
+fn first_line(
+    text: &mut Text,
+    scene: &Scene<'_>,
+    reading: &Reading<'_>,
+    difference: &Difference,
+) -> Result<(), AllocError> {
+    text.word("differs  first at byte ");
+    if reading.is_target {
+        text.number(difference.first);
+    } else {
+        text.number(reading.offset.saturating_add(difference.first));
+        text.word(" of the file");
+        if let Some(asked) = scene.history.byte_by {
+            text.word(", set by ");
+            wording::request(text, scene.calls, asked);
+        }
+    }
+    text.word(": answered ");
+    text.data(&answered_from(scene.alloc, reading, difference.first)?);
+    text.word(", expected ");
+    text.data(&expected_from(scene, reading, difference.first)?);
+    text.word("; ");
+    text.number(difference.count);
+    let (of, differ) = if difference.count == 1 {
+        (" byte of ", " differs")
+    } else {
+        (" bytes of ", " differ")
+    };
+    text.field(of, reading.common());
+    text.word(differ);
+    text.end_line();
+    Ok(())
+}
+
+/// The first of the bytes that were answered, from a place on.
+fn answered_from(alloc: Global, reading: &Reading<'_>, place: u64) -> Result<Vec<u8>, AllocError> {
+    let mut bytes = Vec::new(alloc);
+    for byte in reading
+        .answered
+        .iter()
+        .skip(place as usize)
+        .take(SHOWN as usize)
+    {
+        bytes.push(*byte)?;
+    }
+    Ok(bytes)
+}
+
+/// The first of the bytes that were expected, from a place on.
+fn expected_from(
+    scene: &Scene<'_>,
+    reading: &Reading<'_>,
+    place: u64,
+) -> Result<Vec<u8>, AllocError> {
+    let mut bytes = Vec::new(scene.alloc);
+    for behind in 0..SHOWN {
+        let place = place.saturating_add(behind);
+        if place < reading.expected {
+            if let Some(byte) = reading.byte(scene.tree, place) {
+                bytes.push(byte)?;
+            }
+        }
+    }
+    Ok(bytes)
+}
+
+/// Which of the lines of what to look at fits.
+fn key(reading: &Reading<'_>, differs: bool) -> &'static str {
+    let answered = reading.answered.len() as u64;
+    if reading.is_target {
+        "READLINK"
+    } else if differs {
+        "READ, other bytes"
+    } else if answered < reading.expected {
+        "READ, too short"
+    } else {
+        "READ, too long"
+    }
+}

@@ -1,0 +1,207 @@
+//! Listings that are not those of the directory: code 86.
+
+use crate::holding::{facts, place, taken_by};
+use crate::rules::{LISTINGS, rule_line};
+use crate::scene::Scene;
+use crate::wording::{self, comma, numbered_kind};
+use fa_refusal::Listing;
+use fa_show::Text;
+use std::alloc::AllocError;
+
+/// Writes what is wrong with a listing: which of the lines of what to look at fits.
+pub(crate) fn explain(
+    text: &mut Text,
+    scene: &Scene<'_>,
+    listing: &Listing<'_, '_>,
+) -> Result<&'static str, AllocError> {
+    rule_line(text, LISTINGS);
+    directory_line(text, scene, listing)?;
+    listing_line(text, listing);
+    missing_line(text, scene, listing);
+    twice_line(text, listing);
+    never_line(text, scene, listing);
+    types_line(text, listing);
+    gone_line(text, scene, listing);
+    Ok(key(listing))
+}
+
+/// Writes the line of the directory.
+fn directory_line(
+    text: &mut Text,
+    scene: &Scene<'_>,
+    listing: &Listing<'_, '_>,
+) -> Result<(), AllocError> {
+    text.word("tree     ");
+    place(text, scene, listing.directory)?;
+    if let Some(asked) = scene.case.call.handle {
+        text.word(", opened by ");
+        wording::request(text, scene.calls, asked);
+    }
+    text.word(": ");
+    facts(text, scene, listing.directory)?;
+    text.end_line();
+    Ok(())
+}
+
+/// Writes the line of how far the directory was listed.
+fn listing_line(text: &mut Text, listing: &Listing<'_, '_>) {
+    text.word("listing  ");
+    if listing.pieces.is_empty() {
+        text.word("begins here");
+    } else {
+        text.word("goes on from ");
+        let mut is_first = true;
+        for asked in listing.pieces.iter().rev() {
+            comma(text, is_first);
+            text.number(u64::from(*asked));
+            is_first = false;
+        }
+        text.word(": ");
+        text.count(listing.listed, " entry so far", " entries so far");
+    }
+    text.word("; this answer has ");
+    if listing.entries == 0 {
+        text.word("none");
+    } else {
+        text.number(listing.entries as u64);
+    }
+    text.end_line();
+}
+
+/// Writes how many more there are of a kind than those that are written, and ends the line.
+fn more(text: &mut Text, written: usize, count: usize) {
+    if count > written {
+        text.field(", and ", (count - written) as u64);
+        text.word(" more");
+    }
+    text.end_line();
+}
+
+/// Writes the line of the names that are missing.
+fn missing_line(text: &mut Text, scene: &Scene<'_>, listing: &Listing<'_, '_>) {
+    if listing.missing.count == 0 {
+        return;
+    }
+    text.word("missing  ");
+    let mut is_first = true;
+    for name in &listing.missing.first {
+        comma(text, is_first);
+        text.name(name);
+        missing_name(text, scene, listing, name);
+        is_first = false;
+    }
+    more(text, listing.missing.first.len(), listing.missing.count);
+}
+
+/// Writes of a name that is missing what it is, and since when it is there.
+fn missing_name(text: &mut Text, scene: &Scene<'_>, listing: &Listing<'_, '_>, name: &[u8]) {
+    text.word(" (");
+    if let Some(file) = scene.tree.find(listing.directory, name) {
+        if let Some(facts) = scene.tree.facts(file) {
+            text.word(wording::kind(facts.kind));
+            text.word(", ");
+        }
+    }
+    text.word("in it ");
+    let by = match scene.history.place(listing.directory, name) {
+        Some(place) => place.named_by,
+        None => None,
+    };
+    wording::since(text, scene.calls, by);
+    text.word(")");
+}
+
+/// Writes the line of the names that are listed twice.
+fn twice_line(text: &mut Text, listing: &Listing<'_, '_>) {
+    if listing.twice.count == 0 {
+        return;
+    }
+    text.word("twice    ");
+    let mut is_first = true;
+    for twice in &listing.twice.first {
+        comma(text, is_first);
+        text.name(twice.name);
+        text.field(" (by ", u64::from(twice.first));
+        text.field(" and by ", u64::from(twice.second));
+        text.word(")");
+        is_first = false;
+    }
+    more(text, listing.twice.first.len(), listing.twice.count);
+}
+
+/// Writes the line of the names that were never there since the opening.
+fn never_line(text: &mut Text, scene: &Scene<'_>, listing: &Listing<'_, '_>) {
+    if listing.never.count == 0 {
+        return;
+    }
+    text.word("never    ");
+    let mut is_first = true;
+    for name in &listing.never.first {
+        comma(text, is_first);
+        text.name(name);
+        match taken_by(scene, listing.directory, name) {
+            Some(asked) => {
+                text.word(" (taken away by ");
+                wording::request(text, scene.calls, asked);
+                text.word(", before the opening)");
+            }
+            None => text.word(" (was never in it)"),
+        }
+        is_first = false;
+    }
+    more(text, listing.never.first.len(), listing.never.count);
+}
+
+/// Writes the line of the entries with other types.
+fn types_line(text: &mut Text, listing: &Listing<'_, '_>) {
+    if listing.types.count == 0 {
+        return;
+    }
+    text.word("type     ");
+    let mut is_first = true;
+    for other in &listing.types.first {
+        comma(text, is_first);
+        text.name(other.name);
+        text.word(": answered ");
+        numbered_kind(text, other.answered);
+        text.word(", expected ");
+        numbered_kind(text, other.expected);
+        is_first = false;
+    }
+    more(text, listing.types.first.len(), listing.types.count);
+}
+
+/// Writes the line of the names that are gone and have nodes.
+fn gone_line(text: &mut Text, scene: &Scene<'_>, listing: &Listing<'_, '_>) {
+    if listing.gone.count == 0 {
+        return;
+    }
+    text.word("gone     ");
+    let mut is_first = true;
+    for name in &listing.gone.first {
+        comma(text, is_first);
+        text.name(name);
+        text.word(" has a node here");
+        if let Some(asked) = taken_by(scene, listing.directory, name) {
+            text.word(", and was taken away by ");
+            wording::request(text, scene.calls, asked);
+        }
+        is_first = false;
+    }
+    more(text, listing.gone.first.len(), listing.gone.count);
+}
+
+/// Which of the lines of what to look at fits.
+fn key(listing: &Listing<'_, '_>) -> &'static str {
+    if listing.missing.count > 0 {
+        "a name is missing"
+    } else if listing.twice.count > 0 {
+        "a name stands twice"
+    } else if listing.never.count > 0 {
+        "a name that was never there"
+    } else if listing.types.count > 0 {
+        "the type of an entry"
+    } else {
+        "a node of a name that is gone"
+    }
+}

@@ -1,0 +1,270 @@
+//! What a tree holds: names, nodes and files.
+
+use crate::scene::Scene;
+use crate::wording::{self, node_number};
+use fa_ledger::NodeName;
+use fa_refusal::NamedPlace;
+use fa_show::Text;
+use fa_tree::{FileFacts, FileId, Kind};
+use std::alloc::AllocError;
+
+/// A target has at most so many bytes.
+const MOST_TARGET: u64 = 65_536;
+
+/// Writes the lines of the nodes and names of the request: what each of them is. A directory is told by the lines of its names,
+/// unless it is none or has no name itself.
+pub(crate) fn tree_lines(text: &mut Text, scene: &Scene<'_>) -> Result<(), AllocError> {
+    node_lines(text, scene)?;
+    name_lines(text, scene)
+}
+
+/// Writes the lines of the nodes that are told by no name.
+pub(crate) fn node_lines(text: &mut Text, scene: &Scene<'_>) -> Result<(), AllocError> {
+    let node = scene.case.call.node;
+    if !is_told_by_names(scene, node) {
+        tree_node(text, scene, node)?;
+    }
+    match scene.case.call.other {
+        Some(other) if other != node => {
+            if !is_told_by_names(scene, other) {
+                tree_node(text, scene, other)?;
+            }
+            Ok(())
+        }
+        _ => Ok(()),
+    }
+}
+
+/// Writes the lines of names in directories that are told by them.
+fn name_lines(text: &mut Text, scene: &Scene<'_>) -> Result<(), AllocError> {
+    if let Some(place) = scene.case.first_place() {
+        if is_told_by_names(scene, place.node) {
+            tree_name(text, scene, &place)?;
+        }
+    }
+    if let Some(place) = scene.case.second_place() {
+        if is_told_by_names(scene, place.node) {
+            tree_name(text, scene, &place)?;
+        }
+    }
+    Ok(())
+}
+
+/// Whether a node is that of a directory with a name, in which the request has a name.
+fn is_told_by_names(scene: &Scene<'_>, node: NodeName) -> bool {
+    has_name_in(scene, node)
+        && match scene.tree.file_of(&node) {
+            Some(file) => scene.is_of(file, Kind::Directory) && scene.tree.is_linked(file),
+            None => false,
+        }
+}
+
+/// Whether the request has a name in the directory of a node.
+fn has_name_in(scene: &Scene<'_>, node: NodeName) -> bool {
+    is_in(scene.case.first_place(), node) || is_in(scene.case.second_place(), node)
+}
+
+/// Whether a place is in the directory of a node.
+fn is_in(place: Option<NamedPlace<'_>>, node: NodeName) -> bool {
+    match place {
+        Some(place) => place.node == node,
+        None => false,
+    }
+}
+
+/// Writes the line of a node.
+pub(crate) fn tree_node(
+    text: &mut Text,
+    scene: &Scene<'_>,
+    node: NodeName,
+) -> Result<(), AllocError> {
+    let Some(file) = scene.tree.file_of(&node) else {
+        return Ok(());
+    };
+    text.field("tree     node ", node_number(&node));
+    text.word(" is ");
+    place(text, scene, file)?;
+    text.word(": ");
+    facts(text, scene, file)?;
+    if file != scene.tree.root() {
+        text.word(", ");
+        changes(text, scene, file);
+    }
+    text.end_line();
+    Ok(())
+}
+
+/// Writes the line of a name: what it is, or since when it is not there.
+pub(crate) fn tree_name(
+    text: &mut Text,
+    scene: &Scene<'_>,
+    named: &NamedPlace<'_>,
+) -> Result<(), AllocError> {
+    let Some(directory) = scene.tree.file_of(&named.node) else {
+        return Ok(());
+    };
+    text.word("tree     ");
+    text.name(named.name);
+    text.word(" in ");
+    place(text, scene, directory)?;
+    text.field(" (node ", node_number(&named.node));
+    text.word(") is ");
+    match scene.tree.find(directory, named.name) {
+        Some(file) => {
+            facts_and_changes(text, scene, file)?;
+            named_by(text, scene, directory, named.name, file);
+        }
+        None => not_there(text, scene, directory, named.name),
+    }
+    text.end_line();
+    Ok(())
+}
+
+/// Writes which request named a file so, if it is not the one that made it.
+fn named_by(text: &mut Text, scene: &Scene<'_>, directory: FileId, name: &[u8], file: FileId) {
+    let Some(place) = scene.history.place(directory, name) else {
+        return;
+    };
+    if let Some(asked) = place.named_by {
+        if file != FileId::Made(asked) {
+            text.word(", named so by ");
+            wording::request(text, scene.calls, asked);
+        }
+    }
+}
+
+/// Writes since when a name is not there.
+fn not_there(text: &mut Text, scene: &Scene<'_>, directory: FileId, name: &[u8]) {
+    text.word("not there");
+    match taken_by(scene, directory, name) {
+        Some(asked) => {
+            text.word(": taken away by ");
+            wording::request(text, scene.calls, asked);
+        }
+        None => text.word(", and never was"),
+    }
+}
+
+/// The request that took a name away last, if one did.
+pub(crate) fn taken_by(scene: &Scene<'_>, directory: FileId, name: &[u8]) -> Option<u32> {
+    scene.history.place(directory, name)?.taken_by
+}
+
+/// Writes where a file is: its path, or the one that it had last.
+pub(crate) fn place(text: &mut Text, scene: &Scene<'_>, file: FileId) -> Result<(), AllocError> {
+    match scene.path(file)? {
+        Some(path) => text.name(&path),
+        None => nameless(text, scene, file),
+    }
+    Ok(())
+}
+
+/// Writes of a file without a name the path that it had last.
+fn nameless(text: &mut Text, scene: &Scene<'_>, file: FileId) {
+    text.word("a file without a name");
+    let Some(known) = scene.history.file(file) else {
+        return;
+    };
+    if let Some(asked) = known.unnamed_by {
+        text.word(" (");
+        text.name(&known.last_path);
+        text.word(" until ");
+        wording::request(text, scene.calls, asked);
+        text.word(")");
+    }
+}
+
+/// Writes what a file is, and which requests made and changed it.
+pub(crate) fn facts_and_changes(
+    text: &mut Text,
+    scene: &Scene<'_>,
+    file: FileId,
+) -> Result<(), AllocError> {
+    facts(text, scene, file)?;
+    text.word(", ");
+    changes(text, scene, file);
+    Ok(())
+}
+
+/// Writes what a file is: of a directory how many names it has, of a symbolic link its target.
+pub(crate) fn facts(text: &mut Text, scene: &Scene<'_>, file: FileId) -> Result<(), AllocError> {
+    let Some(facts) = scene.tree.facts(file) else {
+        return Ok(());
+    };
+    text.word(wording::kind(facts.kind));
+    match facts.kind {
+        Kind::Directory => directory(text, scene, file, &facts),
+        Kind::Symlink => {
+            target(text, scene, file, &facts)?;
+            links(text, &facts);
+        }
+        kind => {
+            bits(text, &facts);
+            if kind == Kind::Regular {
+                text.field(" size ", facts.size);
+            }
+            links(text, &facts);
+        }
+    }
+    Ok(())
+}
+
+/// Writes the permission bits of a file.
+fn bits(text: &mut Text, facts: &FileFacts) {
+    text.word(" ");
+    text.octal(facts.bits, 4);
+}
+
+/// Writes how many names a file has.
+fn links(text: &mut Text, facts: &FileFacts) {
+    text.field(" nlink ", facts.names as u64);
+}
+
+/// Writes the permission bits of a directory, and how many names are in it.
+fn directory(text: &mut Text, scene: &Scene<'_>, file: FileId, facts: &FileFacts) {
+    bits(text, facts);
+    text.word(" with ");
+    text.count(scene.tree.count_names_in(file), " name", " names");
+}
+
+/// Writes the target of a symbolic link.
+fn target(
+    text: &mut Text,
+    scene: &Scene<'_>,
+    file: FileId,
+    facts: &FileFacts,
+) -> Result<(), AllocError> {
+    let mut bytes = Vec::new(scene.alloc);
+    for offset in 0..facts.size.min(MOST_TARGET) {
+        if let Some(byte) = scene.tree.byte(file, offset) {
+            bytes.push(byte)?;
+        }
+    }
+    text.word(" to ");
+    text.name(&bytes);
+    Ok(())
+}
+
+/// Writes by which requests a file was made and changed.
+pub(crate) fn changes(text: &mut Text, scene: &Scene<'_>, file: FileId) {
+    match file {
+        FileId::Made(asked) => {
+            text.word("made by ");
+            wording::request(text, scene.calls, asked);
+        }
+        FileId::Root | FileId::Added(_) => text.word("there from the start"),
+    }
+    let Some(known) = scene.history.file(file) else {
+        return;
+    };
+    changed_by(text, scene, ", bytes by ", known.bytes_by);
+    changed_by(text, scene, ", bits by ", known.bits_by);
+}
+
+/// Writes which request changed something, if one did.
+fn changed_by(text: &mut Text, scene: &Scene<'_>, what: &str, asked: Option<u32>) {
+    if let Some(asked) = asked {
+        text.word(what);
+        wording::request(text, scene.calls, asked);
+    }
+}

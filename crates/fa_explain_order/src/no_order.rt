@@ -1,0 +1,393 @@
+//! Replies past which no order goes: what the trees that were alive there hold.
+
+use crate::answers::{exchange, printed};
+use crate::stepping::{because, look_at_line};
+use crate::wording::{self, comma};
+use fa_capture::{Capture, codes};
+use fa_ledger::Calls;
+use fa_order::Entry;
+use fa_refusal::{Case, Finding, Placed, Reached, Refused};
+use fa_show::Text;
+use fa_tree::Tree;
+use std::alloc::{AllocError, Global};
+
+/// How many bytes of text there is room for.
+const ROOM: usize = 65_536;
+
+/// How many bytes of text there is room for in the lines of one tree.
+const ROOM_OF_A_TREE: usize = 32_768;
+
+/// So many different reasons are written.
+const MOST_REASONS: usize = 8;
+
+/// So many of the last entries that lead to a tree are named.
+const LAST: usize = 3;
+
+/// So many requests that were not answered yet are named.
+const FEW: usize = 8;
+
+/// How many bytes a label has, with the blank behind it.
+const LABEL: usize = 9;
+
+/// The labels of lines that say what differs on a tree. The first that is there tells it.
+static TELLING: [&[u8]; 8] = [
+    b"differs ",
+    b"missing ",
+    b"twice ",
+    b"never ",
+    b"type ",
+    b"gone ",
+    b"here ",
+    b"tree ",
+];
+
+/// Orders that come to a reply past which no order goes.
+#[derive(Clone, Copy)]
+pub struct Coming<'a> {
+    /// Each leads to another tree. They explain all replies before it, and leave out the request that it answers.
+    pub orders: &'a [Vec<Entry>],
+    /// How many such trees there are, with those that are told by no order.
+    pub trees: usize,
+}
+
+/// Why no order goes past a reply: the lines behind the lines of a verdict that says so.
+///
+/// The calls are those of the capture, and `at` is the number of the reply. They say what its request asks for and what it was answered,
+/// which rule the answer breaks, which requests were not answered yet, and of each tree that is told by an order what differs there, those
+/// on which the same differs in one line, eight lines at most; and what to look at in a server. They are printing ASCII and line feeds
+/// alone, whatever the capture holds. Where the message answers no request that acts on the tree there are none.
+///
+/// # Errors
+///
+/// [`AllocError`] where memory was refused.
+///
+/// # Cost
+///
+/// For each order that of [`order_reasons`](crate::order_reasons) on it. Memory for two copies of the tree, and 32 KiB an order.
+pub fn no_order_reasons(
+    alloc: Global,
+    capture: &Capture<'_>,
+    calls: &Calls<'_>,
+    first: &Tree,
+    coming: &Coming<'_>,
+    at: u32,
+) -> Result<Text, AllocError> {
+    let mut text = Text::new(alloc, ROOM, false)?;
+    let Some(case) = answered_by(calls, at) else {
+        return Ok(text);
+    };
+    exchange(alloc, &mut text, capture, &case)?;
+    let reasons = Reasons::of(alloc, calls, first, coming, case.call.asked)?;
+    reasons.rule_line(&mut text);
+    beside_line(&mut text, calls, &case, at);
+    trees_line(&mut text, coming, at);
+    reasons.tree_lines(&mut text, calls, coming);
+    reasons.look_at(&mut text, &case);
+    Ok(text)
+}
+
+/// What is known where a search gave up at a message: the line behind the line of a verdict that says so.
+///
+/// # Errors
+///
+/// [`AllocError`] where memory was refused.
+pub fn gave_up_reasons(alloc: Global, at: u32) -> Result<Text, AllocError> {
+    let mut text = Text::new(alloc, ROOM, false)?;
+    text.field("order    all replies before message ", u64::from(at));
+    text.field(" can be explained; from ", u64::from(at));
+    text.word(" on nothing is known");
+    text.end_line();
+    Ok(text)
+}
+
+/// The request that a message answers, if it acts on the tree.
+fn answered_by<'c>(calls: &'c Calls<'_>, at: u32) -> Option<Case<'c>> {
+    for place in 0..calls.list.len() {
+        let case = Case::at(calls, place)?;
+        if case.call.answer.is_some_and(|answer| answer.at == at) {
+            return Some(case);
+        }
+    }
+    None
+}
+
+/// Writes which requests that an order may name were not answered yet where a request was answered.
+fn beside_line(text: &mut Text, calls: &Calls<'_>, case: &Case<'_>, at: u32) {
+    let mut told: usize = 0;
+    for place in 0..calls.list.len() {
+        let Some(other) = Case::at(calls, place) else {
+            break;
+        };
+        if other.place == case.place || !is_in_flight(&other, at) {
+            continue;
+        }
+        if told < FEW {
+            text.word(if told == 0 {
+                "beside   not answered yet: "
+            } else {
+                ", "
+            });
+            wording::request(text, calls, other.call.asked);
+        }
+        told = told.saturating_add(1);
+    }
+    if told > FEW {
+        text.field(", and ", (told - FEW) as u64);
+        text.word(" more");
+    }
+    if told > 0 {
+        text.end_line();
+    }
+}
+
+/// Whether a request that an order may name was sent before a message, and not answered before it.
+fn is_in_flight(case: &Case<'_>, at: u32) -> bool {
+    let is_answered = case.call.answer.is_some_and(|answer| answer.at < at);
+    case.call.asked < at && !is_answered && case.may_be_placed()
+}
+
+/// Writes how many trees there were, and of how many it is told what differs.
+fn trees_line(text: &mut Text, coming: &Coming<'_>, at: u32) {
+    text.word("trees    ");
+    if coming.trees == 1 {
+        text.field("1 tree explains all replies before message ", u64::from(at));
+        text.word(", and refuses this one");
+    } else {
+        text.number(coming.trees as u64);
+        text.field(" trees explain all replies before message ", u64::from(at));
+        text.word(", and each refuses this one");
+    }
+    if coming.orders.len() < coming.trees {
+        text.field("; of these were looked at ", coming.orders.len() as u64);
+    }
+    text.end_line();
+}
+
+/// Why a tree refuses the answer.
+#[derive(Drop)]
+struct Reason {
+    /// The number of the order that leads to the tree.
+    order: usize,
+    code: u16,
+    /// Which of the lines of what to look at fits.
+    key: &'static str,
+    /// The lines of it.
+    lines: Text,
+}
+
+impl Reason {
+    /// Why the tree to which an order leads refuses the answer that it leaves out.
+    fn of(
+        alloc: Global,
+        calls: &Calls<'_>,
+        first: &Tree,
+        entries: &[Entry],
+        order: usize,
+        asked: u32,
+    ) -> Result<Option<Self>, AllocError> {
+        let placed = Placed::by(alloc, calls, entries)?;
+        let refused = Refused {
+            alloc,
+            calls,
+            first,
+            entries,
+            before: entries,
+            placed: &placed,
+            entry: u32::try_from(entries.len()).unwrap_or(u32::MAX),
+            at: asked,
+            code: codes::ANSWERED_LEFT_OUT,
+        };
+        let mut tree = first.copy()?;
+        let reason = Reason::along(&refused, &mut tree, order);
+        // It has many tables: they are proved to go in one place.
+        drop(tree);
+        reason
+    }
+
+    /// The same with a tree that is lent, which becomes the one to which the order leads.
+    fn along(
+        refused: &Refused<'_>,
+        tree: &mut Tree,
+        order: usize,
+    ) -> Result<Option<Self>, AllocError> {
+        match refused.reach(tree)? {
+            Some(reached) => Reason::behind(refused, tree, order, &reached),
+            None => Ok(None),
+        }
+    }
+
+    /// The same with the tree to which the order leads.
+    fn behind<'a>(
+        refused: &Refused<'a>,
+        tree: &Tree,
+        order: usize,
+        reached: &Reached<'a>,
+    ) -> Result<Option<Self>, AllocError> {
+        let Some(code) = reached.code else {
+            return Ok(None);
+        };
+        let Some(finding) = Finding::of(refused, tree, &reached.case, code)? else {
+            return Ok(None);
+        };
+        let mut lines = Text::new(refused.alloc, ROOM_OF_A_TREE, false)?;
+        let key = because(&mut lines, refused, tree, &reached.case, &finding)?;
+        Ok(Some(Reason {
+            order,
+            code,
+            key,
+            lines,
+        }))
+    }
+
+    /// What differs on the tree.
+    fn telling(&self) -> &[u8] {
+        let lines = self.lines.as_bytes();
+        for label in &TELLING {
+            if let Some(line) = line_of(lines, label) {
+                return behind_label(line);
+            }
+        }
+        &[]
+    }
+
+    /// Whether the same differs on another tree.
+    fn is_same(&self, other: &Reason) -> bool {
+        self.code == other.code && self.telling() == other.telling()
+    }
+}
+
+/// The first line that begins with this label.
+fn line_of<'a>(lines: &'a [u8], label: &[u8]) -> Option<&'a [u8]> {
+    lines
+        .split(|byte| *byte == b'\n')
+        .find(|line| line.starts_with(label))
+}
+
+/// What stands behind the label of a line.
+fn behind_label(line: &[u8]) -> &[u8] {
+    let (_, behind) = line.split_at(LABEL.min(line.len()));
+    behind
+}
+
+/// Why the trees that were alive refuse the answer.
+#[derive(Drop)]
+struct Reasons {
+    list: Vec<Reason>,
+}
+
+impl Reasons {
+    /// Why each tree to which an order leads refuses the answer to a request.
+    fn of(
+        alloc: Global,
+        calls: &Calls<'_>,
+        first: &Tree,
+        coming: &Coming<'_>,
+        asked: u32,
+    ) -> Result<Self, AllocError> {
+        let mut list = Vec::new(alloc);
+        for (number, order) in coming.orders.iter().enumerate() {
+            if let Some(reason) = Reason::of(alloc, calls, first, order, number, asked)? {
+                list.push(reason)?;
+            }
+        }
+        Ok(Reasons { list })
+    }
+
+    /// One with the least code.
+    fn least(&self) -> Option<&Reason> {
+        self.list.iter().min_by_key(|reason| reason.code)
+    }
+
+    /// Writes the rule that the answer breaks.
+    fn rule_line(&self, text: &mut Text) {
+        let Some(least) = self.least() else {
+            return;
+        };
+        if let Some(line) = line_of(least.lines.as_bytes(), b"rule ") {
+            printed(text, line);
+            text.end_line();
+        }
+    }
+
+    /// Writes what to look at.
+    fn look_at(&self, text: &mut Text, case: &Case<'_>) {
+        if let Some(least) = self.least() {
+            look_at_line(text, least.code, least.key, case, false);
+        }
+    }
+
+    /// Writes what differs on each tree, those on which the same does in one line, by their codes.
+    fn tree_lines(&self, text: &mut Text, calls: &Calls<'_>, coming: &Coming<'_>) {
+        let mut told: usize = 0;
+        for code in codes::SUCCESS_NOT_ALLOWED..=codes::LISTING {
+            for (place, reason) in self.list.iter().enumerate() {
+                if reason.code != code || self.is_told_before(place, reason) {
+                    continue;
+                }
+                told = told.saturating_add(1);
+                if told <= MOST_REASONS {
+                    self.tree_line(text, calls, coming, reason, told);
+                }
+            }
+        }
+        if told > MOST_REASONS {
+            text.field("trees    and ", (told - MOST_REASONS) as u64);
+            text.word(" more reasons");
+            text.end_line();
+        }
+    }
+
+    /// Whether the same differs on a tree before this place.
+    fn is_told_before(&self, place: usize, reason: &Reason) -> bool {
+        let (before, _) = self.list.split_at(place.min(self.list.len()));
+        before.iter().any(|other| other.is_same(reason))
+    }
+
+    /// Writes what differs on a tree.
+    fn tree_line(
+        &self,
+        text: &mut Text,
+        calls: &Calls<'_>,
+        coming: &Coming<'_>,
+        reason: &Reason,
+        number: usize,
+    ) {
+        text.field("tree ", number as u64);
+        text.word(if number < 10 { "   " } else { "  " });
+        if let Some(order) = coming.orders.get(reason.order) {
+            way(text, calls, order);
+        }
+        if self.least().is_some_and(|least| least.code != reason.code) {
+            text.field("code ", u64::from(reason.code));
+            text.word(": ");
+        }
+        printed(text, reason.telling());
+        let same = self
+            .list
+            .iter()
+            .filter(|other| other.is_same(reason))
+            .count();
+        if same > 1 {
+            text.field("; and ", (same - 1) as u64);
+            text.word(" more with the same");
+        }
+        text.end_line();
+    }
+}
+
+/// Writes the last entries of an order.
+fn way(text: &mut Text, calls: &Calls<'_>, order: &[Entry]) {
+    let (_, last) = order.split_at(order.len().saturating_sub(LAST));
+    if last.is_empty() {
+        text.word("from the start: ");
+        return;
+    }
+    text.word("behind ");
+    let mut is_first = true;
+    for entry in last {
+        comma(text, is_first);
+        wording::request(text, calls, entry.at);
+        is_first = false;
+    }
+    text.word(": ");
+}

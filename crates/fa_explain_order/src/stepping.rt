@@ -1,0 +1,256 @@
+//! Entries whose step a tree refuses, and requests that an order leaves out: codes 73 and 81 to 86.
+
+use crate::allowed::allowed_line;
+use crate::another::order_line;
+use crate::answers::exchange;
+use crate::holding::tree_lines;
+use crate::rules::{error_line, is_never, never_lines};
+use crate::scene::Scene;
+use crate::{attributes, bindings, contents, directories, unmet, wording};
+use fa_capture::{Capture, codes};
+use fa_explain::advice_of;
+use fa_refusal::{Case, Earlier, Finding, Overlaps, Past, Reached, Refused};
+use fa_show::{Text, words};
+use fa_tree::Tree;
+use std::alloc::AllocError;
+
+/// Writes why the tree that the entries before one lead to refuses its step, or that of the request that is left out.
+pub(crate) fn explain(
+    text: &mut Text,
+    capture: &Capture<'_>,
+    refused: &Refused<'_>,
+) -> Result<(), AllocError> {
+    let mut tree = refused.first.copy()?;
+    let explained = explain_along(text, capture, refused, &mut tree);
+    // It has many tables: they are proved to go in one place.
+    drop(tree);
+    explained
+}
+
+/// The same with a tree that is lent, which becomes the one that the entries lead to.
+fn explain_along(
+    text: &mut Text,
+    capture: &Capture<'_>,
+    refused: &Refused<'_>,
+    tree: &mut Tree,
+) -> Result<(), AllocError> {
+    match refused.reach(tree)? {
+        Some(reached) => explain_reached(text, capture, refused, tree, &reached),
+        None => Ok(()),
+    }
+}
+
+/// Writes why this tree, to which the entries before one lead, refuses its step, or that of the request that is left out.
+fn explain_reached<'a>(
+    text: &mut Text,
+    capture: &Capture<'_>,
+    refused: &Refused<'a>,
+    tree: &Tree,
+    reached: &Reached<'a>,
+) -> Result<(), AllocError> {
+    exchange(refused.alloc, text, capture, &reached.case)?;
+    if refused.code == codes::ANSWERED_LEFT_OUT {
+        next_line(text, refused, reached);
+    }
+    match reached.code {
+        Some(code) => explain_at(text, refused, tree, &reached.case, code),
+        None => Ok(()),
+    }
+}
+
+/// Writes which code a request has that is left out, were it the next entry.
+fn next_line(text: &mut Text, refused: &Refused<'_>, reached: &Reached<'_>) {
+    text.field("next     as entry ", u64::from(refused.entry));
+    match reached.code {
+        Some(code) => {
+            text.field(" it has code ", u64::from(code));
+            text.word(": ");
+            text.word(codes::text(code).unwrap_or(""));
+        }
+        None => text.word(" it fits: the order only leaves it out"),
+    }
+    if reached.case.call.asked != refused.at {
+        text.word("; it is shown in place of ");
+        wording::request(text, refused.calls, refused.at);
+        text.word(", since its answer came first and is left out too");
+    }
+    text.end_line();
+    if reached.code.is_none() {
+        look_at_line(
+            text,
+            refused.code,
+            "it would fit as the next entry",
+            &reached.case,
+            false,
+        );
+    }
+}
+
+/// Writes why this tree refuses the step of a request with this code, and what was so before.
+fn explain_at<'a>(
+    text: &mut Text,
+    refused: &Refused<'a>,
+    tree: &Tree,
+    case: &Case<'a>,
+    code: u16,
+) -> Result<(), AllocError> {
+    match Finding::of(refused, tree, case, code)? {
+        Some(finding) => explain_finding(text, refused, tree, case, &finding),
+        None => Ok(()),
+    }
+}
+
+/// Writes why this tree refuses the step of a request, where that was found, and what was so before.
+fn explain_finding(
+    text: &mut Text,
+    refused: &Refused<'_>,
+    tree: &Tree,
+    case: &Case<'_>,
+    finding: &Finding<'_, '_>,
+) -> Result<(), AllocError> {
+    let key = because(text, refused, tree, case, finding)?;
+    if let Finding::WithoutCause(error) = finding {
+        if is_never(case, *error) {
+            never_lines(text, case, *error);
+            return Ok(());
+        }
+    }
+    let overlaps = Overlaps::of(refused, tree, case)?;
+    order_line(text, refused.calls, case.call.asked, &overlaps);
+    look_at_line(text, finding.code(), key, case, overlaps.allow_another());
+    Ok(())
+}
+
+/// Writes which rule an answer breaks, what the tree holds and when the answer was right: which of the lines of what to look at fits.
+pub(crate) fn because(
+    text: &mut Text,
+    refused: &Refused<'_>,
+    tree: &Tree,
+    case: &Case<'_>,
+    finding: &Finding<'_, '_>,
+) -> Result<&'static str, AllocError> {
+    let past = Past::of(refused, tree, case, finding)?;
+    because_of(text, refused, tree, case, finding, &past)
+}
+
+/// The same with what came before.
+fn because_of(
+    text: &mut Text,
+    refused: &Refused<'_>,
+    tree: &Tree,
+    case: &Case<'_>,
+    finding: &Finding<'_, '_>,
+    past: &Past,
+) -> Result<&'static str, AllocError> {
+    let scene = Scene {
+        alloc: refused.alloc,
+        calls: refused.calls,
+        tree,
+        history: &past.history,
+        case: *case,
+    };
+    let key = why(text, &scene, finding)?;
+    earlier_line(text, &scene, finding, past.earlier);
+    Ok(key)
+}
+
+/// Writes which rule an answer breaks, and what the tree holds: which of the lines of what to look at fits.
+fn why(
+    text: &mut Text,
+    scene: &Scene<'_>,
+    finding: &Finding<'_, '_>,
+) -> Result<&'static str, AllocError> {
+    match finding {
+        Finding::NotAllowed(unmet) => unmet::explain(text, scene, unmet),
+        Finding::WithoutCause(error) => without_cause(text, scene, *error),
+        Finding::Attributes(other) => attributes::explain(text, scene, other),
+        Finding::Given(binding) => bindings::explain(text, scene, binding),
+        Finding::Read(reading) => contents::explain(text, scene, reading),
+        Finding::Listed(listing) => directories::explain(text, scene, listing),
+    }
+}
+
+/// Writes that an error has no cause: its name.
+fn without_cause(
+    text: &mut Text,
+    scene: &Scene<'_>,
+    error: i32,
+) -> Result<&'static str, AllocError> {
+    error_line(text, &scene.case, error);
+    tree_lines(text, scene)?;
+    allowed_line(text, scene);
+    Ok(words::error_name(error).unwrap_or(""))
+}
+
+/// Writes whether the answer was right before.
+fn earlier_line(text: &mut Text, scene: &Scene<'_>, finding: &Finding<'_, '_>, earlier: Earlier) {
+    if let Finding::Attributes(other) = finding {
+        if attributes::are_those_before(other) {
+            text.word("earlier  these are the attributes from before the request");
+            return text.end_line();
+        }
+    }
+    match earlier {
+        Earlier::Until(asked) => {
+            text.word("earlier  the same answer was right until ");
+            wording::request(text, scene.calls, asked);
+            text.end_line();
+        }
+        Earlier::Never => {
+            text.word("earlier  the same answer was never right before");
+            text.end_line();
+        }
+        Earlier::Unknown => {}
+    }
+}
+
+/// What stands in the line of code 82 for the operation.
+const THE_OPERATION: &str = "the operation";
+
+/// Writes the line of what to look at: with a condition, where another order may explain the answer.
+pub(crate) fn look_at_line(
+    text: &mut Text,
+    code: u16,
+    key: &str,
+    case: &Case<'_>,
+    may_be_other: bool,
+) {
+    let Some(advice) = advice_of(code, key) else {
+        return;
+    };
+    text.word("look at  ");
+    if may_be_other {
+        text.word("If no order explains it: ");
+    }
+    match parted(code, advice) {
+        Some((before, behind)) => {
+            begun(text, before, may_be_other);
+            wording::operation(text, case);
+            text.word(behind);
+        }
+        None => begun(text, advice, may_be_other),
+    }
+    text.end_line();
+}
+
+/// The line of code 82, parted where the operation is to stand.
+fn parted(code: u16, advice: &str) -> Option<(&str, &str)> {
+    if code == codes::ERROR_WITHOUT_CAUSE {
+        advice.split_once(THE_OPERATION)
+    } else {
+        None
+    }
+}
+
+/// Writes words that go on in a sentence, or begin one.
+fn begun(text: &mut Text, sentence: &str, goes_on: bool) {
+    let mut is_first = goes_on;
+    for byte in sentence.as_bytes() {
+        if is_first {
+            text.character(byte.to_ascii_lowercase());
+        } else {
+            text.character(*byte);
+        }
+        is_first = false;
+    }
+}

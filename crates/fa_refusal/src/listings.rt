@@ -1,0 +1,408 @@
+//! Listings that are not those of the directory: code 86.
+
+use crate::case::Case;
+use crate::found::Found;
+use crate::history::History;
+use fa_bodies::{Dirent, Entries, MAX_NAME};
+use fa_ledger::{Calls, List, Operation, Outcome};
+use fa_tree::{FileId, Kind, OpenedDirectory, Tree};
+use indexmap::IndexMap;
+use std::alloc::{AllocError, Global};
+
+/// So many names that are missing are sought at most.
+const MOST_MISSING: u32 = 4_096;
+
+/// A READDIR or READDIRPLUS without entries says that all is listed where it asked for this size at least: so much room the entry of
+/// the longest name takes in a READDIRPLUS.
+const ROOM_FOR_ANY: usize = 128 + 24 + MAX_NAME;
+
+/// So many answers are kept from which a listing goes on.
+const LAST_PIECES: usize = 4;
+
+/// A name that is listed twice, with both requests.
+#[derive(Clone, Copy)]
+pub struct Twice<'a> {
+    /// The name.
+    pub name: &'a [u8],
+    /// The number of the request whose answer lists it first,
+    pub first: u32,
+    /// and of the one whose answer lists it again.
+    pub second: u32,
+}
+
+/// An entry with another type than that of its file, both as numbers of `struct fuse_dirent`.
+#[derive(Clone, Copy)]
+pub struct OtherType<'a> {
+    /// The name.
+    pub name: &'a [u8],
+    /// The type that it has,
+    pub answered: u32,
+    /// and that of the file.
+    pub expected: u32,
+}
+
+/// What is wrong with a listing: of names in messages, and of names in the tree.
+#[derive(Drop)]
+pub struct Listing<'a, 't> {
+    /// The directory.
+    pub directory: FileId,
+    /// The last four requests from whose answers it goes on, the last first.
+    pub pieces: Vec<u32>,
+    /// How many entries all of these answers have that count.
+    pub listed: usize,
+    /// How many entries the answer has.
+    pub entries: usize,
+    /// Names that stayed and are not listed, where it has come to its end.
+    pub missing: Found<&'t [u8]>,
+    /// Names that are listed twice,
+    pub twice: Found<Twice<'a>>,
+    /// that were never in the directory since it was opened,
+    pub never: Found<&'a [u8]>,
+    /// whose files have another type,
+    pub types: Found<OtherType<'a>>,
+    /// that give a node, and are not in the directory any more.
+    pub gone: Found<&'a [u8]>,
+}
+
+/// What is listed so far: each name whose file stayed, with the request whose answer lists it last.
+#[derive(Drop)]
+struct SoFar<'a> {
+    names: IndexMap<&'a [u8], u32>,
+}
+
+impl<'a> SoFar<'a> {
+    /// Notes an entry of an answer: the request whose answer lists its name already, if one does.
+    fn note(
+        &mut self,
+        opened: &OpenedDirectory<'_>,
+        name: &'a [u8],
+        asked: u32,
+    ) -> Result<Option<u32>, AllocError> {
+        if opened.stayed(name).is_none() {
+            return Ok(None);
+        }
+        Ok(self.names.insert(name, asked)?)
+    }
+
+    /// Notes the entries of an answer that count.
+    fn note_answer(
+        &mut self,
+        opened: &OpenedDirectory<'_>,
+        piece: &Piece<'a>,
+    ) -> Result<(), AllocError> {
+        for dirent in piece.entries.take(piece.count as usize) {
+            self.note(opened, dirent.name, piece.asked)?;
+        }
+        Ok(())
+    }
+}
+
+/// An answer from which a listing goes on.
+#[derive(Clone, Copy)]
+struct Piece<'a> {
+    asked: u32,
+    entries: Entries<'a>,
+    /// So many of them count.
+    count: u32,
+}
+
+/// The entries that the answer to a request lists.
+fn entries_of<'a>(case: &Case<'a>) -> Option<(List<'a>, Entries<'a>)> {
+    match &case.operation {
+        Operation::List(list) => match &list.outcome {
+            Outcome::Succeeds(entries) => Some((*list, *entries)),
+            _ => None,
+        },
+        Operation::Act(_) => None,
+    }
+}
+
+/// The answer from which the listing of a request goes on.
+fn piece_before<'a>(calls: &'a Calls<'_>, case: &Case<'a>) -> Option<(Case<'a>, Piece<'a>)> {
+    let (asked, count) = case.call.listing?.before?;
+    let before = Case::of(calls, asked)?;
+    let (_, entries) = entries_of(&before)?;
+    Some((
+        before,
+        Piece {
+            asked,
+            entries,
+            count,
+        },
+    ))
+}
+
+/// The answers from which the listing of a request goes on, the last first.
+fn pieces_before<'a>(
+    alloc: Global,
+    calls: &'a Calls<'_>,
+    case: &Case<'a>,
+) -> Result<Vec<Piece<'a>>, AllocError> {
+    let mut pieces = Vec::new(alloc);
+    let mut at = *case;
+    for _ in 0..calls.list.len() {
+        let Some((before, piece)) = piece_before(calls, &at) else {
+            break;
+        };
+        pieces.push(piece)?;
+        at = before;
+    }
+    Ok(pieces)
+}
+
+/// What is wrong with the listing that answers a request.
+pub(crate) fn listing_of<'a, 't>(
+    alloc: Global,
+    calls: &'a Calls<'_>,
+    tree: &Tree,
+    opened: &OpenedDirectory<'t>,
+    case: &Case<'a>,
+) -> Result<Listing<'a, 't>, AllocError> {
+    let pieces = pieces_before(alloc, calls, case)?;
+    let mut listing = Listing::empty(alloc, opened.directory());
+    let mut so_far = SoFar {
+        names: IndexMap::new(alloc),
+    };
+    match listing.note_all(alloc, tree, opened, case, &pieces, &mut so_far) {
+        Ok(()) => Ok(listing),
+        Err(error) => Err(error),
+    }
+}
+
+/// Whether it is known from where the listing of a request goes on, and its handle was open once alone.
+fn is_whole(case: &Case<'_>) -> bool {
+    match &case.call.listing {
+        Some(listing) => !listing.adrift && !listing.shared,
+        None => false,
+    }
+}
+
+impl<'a, 't> Listing<'a, 't> {
+    /// Of no entries.
+    fn empty(alloc: Global, directory: FileId) -> Self {
+        Listing {
+            directory,
+            pieces: Vec::new(alloc),
+            listed: 0,
+            entries: 0,
+            missing: Found::new(alloc),
+            twice: Found::new(alloc),
+            never: Found::new(alloc),
+            types: Found::new(alloc),
+            gone: Found::new(alloc),
+        }
+    }
+
+    /// Notes the answers from which it goes on, and the entries of its own.
+    fn note_all(
+        &mut self,
+        alloc: Global,
+        tree: &Tree,
+        opened: &OpenedDirectory<'t>,
+        case: &Case<'a>,
+        pieces: &[Piece<'a>],
+        so_far: &mut SoFar<'a>,
+    ) -> Result<(), AllocError> {
+        let Some((list, entries)) = entries_of(case) else {
+            return Ok(());
+        };
+        self.note_pieces(opened, pieces, so_far)?;
+        let is_judged = is_whole(case);
+        self.note_entries(tree, opened, case.call.asked, entries, is_judged, so_far)?;
+        if is_judged && self.entries == 0 && list.size as usize >= ROOM_FOR_ANY {
+            self.note_missing(alloc, so_far, opened)?;
+        }
+        Ok(())
+    }
+
+    /// Notes the answers from which it goes on.
+    fn note_pieces(
+        &mut self,
+        opened: &OpenedDirectory<'t>,
+        pieces: &[Piece<'a>],
+        so_far: &mut SoFar<'a>,
+    ) -> Result<(), AllocError> {
+        for piece in pieces {
+            self.note_piece(piece)?;
+        }
+        for piece in pieces.iter().rev() {
+            so_far.note_answer(opened, piece)?;
+        }
+        Ok(())
+    }
+
+    /// Notes the entries of its own answer, and where it is judged those whose names are listed already.
+    fn note_entries(
+        &mut self,
+        tree: &Tree,
+        opened: &OpenedDirectory<'t>,
+        asked: u32,
+        entries: Entries<'a>,
+        is_judged: bool,
+        so_far: &mut SoFar<'a>,
+    ) -> Result<(), AllocError> {
+        for dirent in entries {
+            self.note_entry(tree, opened, &dirent)?;
+            if is_judged {
+                self.note_again(so_far, opened, &dirent, asked)?;
+            }
+        }
+        Ok(())
+    }
+
+    /// Notes an answer from which it goes on.
+    fn note_piece(&mut self, piece: &Piece<'_>) -> Result<(), AllocError> {
+        let count = piece.entries.take(piece.count as usize).count();
+        self.listed = self.listed.saturating_add(count);
+        if self.pieces.len() < LAST_PIECES {
+            self.pieces.push(piece.asked)?;
+        }
+        Ok(())
+    }
+
+    /// Notes an entry of the answer.
+    fn note_entry(
+        &mut self,
+        tree: &Tree,
+        opened: &OpenedDirectory<'_>,
+        dirent: &Dirent<'a>,
+    ) -> Result<(), AllocError> {
+        self.entries = self.entries.saturating_add(1);
+        let name = dirent.name;
+        if is_dots(name) {
+            return Ok(());
+        }
+        if !opened.had(name) {
+            self.never.add(name)?;
+        }
+        if let Some(expected) = other_kind(tree, opened, dirent) {
+            self.types.add(OtherType {
+                name,
+                answered: dirent.kind,
+                expected,
+            })?;
+        }
+        if gives_node(dirent) && tree.find(self.directory, name).is_none() {
+            self.gone.add(name)?;
+        }
+        Ok(())
+    }
+
+    /// Notes an entry whose name is listed already.
+    fn note_again(
+        &mut self,
+        so_far: &mut SoFar<'a>,
+        opened: &OpenedDirectory<'_>,
+        dirent: &Dirent<'a>,
+        asked: u32,
+    ) -> Result<(), AllocError> {
+        if let Some(first) = so_far.note(opened, dirent.name, asked)? {
+            self.twice.add(Twice {
+                name: dirent.name,
+                first,
+                second: asked,
+            })?;
+        }
+        Ok(())
+    }
+
+    /// Notes the names that stayed and were not listed, the least first.
+    fn note_missing(
+        &mut self,
+        alloc: Global,
+        so_far: &SoFar<'_>,
+        opened: &OpenedDirectory<'t>,
+    ) -> Result<(), AllocError> {
+        let missing = missing_names(alloc, so_far, opened)?;
+        for name in &missing {
+            self.missing.add(*name)?;
+        }
+        Ok(())
+    }
+
+    /// Asks a history for the places of which the lines tell, and for the directory.
+    pub(crate) fn ask(&self, history: &mut History) -> Result<(), AllocError> {
+        history.ask_for_file(self.directory)?;
+        ask_for_places(history, self.directory, &self.missing.first)?;
+        ask_for_places(history, self.directory, &self.never.first)?;
+        ask_for_places(history, self.directory, &self.gone.first)
+    }
+}
+
+/// Asks for the places of these names.
+fn ask_for_places(
+    history: &mut History,
+    directory: FileId,
+    names: &[&[u8]],
+) -> Result<(), AllocError> {
+    for name in names {
+        history.ask_for_place(directory, name)?;
+    }
+    Ok(())
+}
+
+/// The names that stayed and are not listed, the least first.
+fn missing_names<'t>(
+    alloc: Global,
+    so_far: &SoFar<'_>,
+    opened: &OpenedDirectory<'t>,
+) -> Result<Vec<&'t [u8]>, AllocError> {
+    let mut missing = Vec::new(alloc);
+    let mut found = IndexMap::new(alloc);
+    for _ in 0..MOST_MISSING {
+        let Some(name) = next_missing(opened, so_far, &found) else {
+            break;
+        };
+        missing.push(name)?;
+        found.insert(name, ())?;
+    }
+    missing.sort_unstable();
+    Ok(missing)
+}
+
+/// A name that stayed and is neither listed nor found to be missing already, if there is one.
+fn next_missing<'t>(
+    opened: &OpenedDirectory<'t>,
+    so_far: &SoFar<'_>,
+    found: &IndexMap<&'t [u8], ()>,
+) -> Option<&'t [u8]> {
+    let names = &so_far.names;
+    opened.find_stayed(|name| !names.contains_key(&name) && !found.contains_key(&name))
+}
+
+/// The number of the type of a file that stayed, if an entry tells another.
+fn other_kind(tree: &Tree, opened: &OpenedDirectory<'_>, dirent: &Dirent<'_>) -> Option<u32> {
+    let file = opened.stayed(dirent.name)?;
+    let expected = kind_number(tree.facts(file)?.kind);
+    if dirent.kind == 0 || dirent.kind == expected {
+        None
+    } else {
+        Some(expected)
+    }
+}
+
+/// Whether an entry of a READDIRPLUS gives a node: the entries `.` and `..` give none.
+pub(crate) fn gives_node(dirent: &Dirent<'_>) -> bool {
+    match &dirent.entry {
+        Some(entry) => entry.nodeid != 0 && !is_dots(dirent.name),
+        None => false,
+    }
+}
+
+/// Whether a name is `.` or `..`.
+fn is_dots(name: &[u8]) -> bool {
+    name == b".".as_slice() || name == b"..".as_slice()
+}
+
+/// The number of a type of files in `struct fuse_dirent`.
+fn kind_number(kind: Kind) -> u32 {
+    match kind {
+        Kind::Fifo => 1,
+        Kind::CharDevice => 2,
+        Kind::Directory => 4,
+        Kind::BlockDevice => 6,
+        Kind::Regular => 8,
+        Kind::Symlink => 10,
+        Kind::Socket => 12,
+    }
+}
