@@ -16,23 +16,24 @@ use Rattle.fa_search.proofs.PendingLemmas.{one_answered, waits_still}
 use Rattle.fa_search.proofs.SettledLemmas.{all_waiting}
 
 -- entries that come to a configuration in which the request is not placed come to its reply
+pub reached_comes_by : (c : List Message) (first : TreeState) (at asked : ℕ) (x : PlainConfiguration) → IsTreeRequestAt c asked → IsAnsweredBy c asked at → (Contains x.placed asked → ⊥)
+    → (reached : IsReached c first at x) → ComesTo c first at reached.entries x.tree asked
+reached_comes_by c first at asked x tree by lacks reached = record {
+  explains = record {
+    placed = reached.rightly;
+    last = x.tree;
+    run = reached.run;
+    held = λ p request answered. (reached.exact p).1 (inl (request, answered));
+  };
+  leads = refl;
+  tree_request = tree;
+  answered = by;
+  left_out = λ has. waits_still c at asked x.placed by lacks ((reached.exact asked).0 has);
+}
+
 pub reached_comes : (c : List Message) (first : TreeState) (at asked : ℕ) (x : PlainConfiguration) → IsTreeRequestAt c asked → IsAnsweredBy c asked at → (Contains x.placed asked → ⊥)
     → IsReached c first at x → (es : List Entry) × ComesTo c first at es x.tree asked
-reached_comes c first at asked x tree by lacks reached = (
-  reached.entries,
-  record {
-    explains = record {
-      placed = reached.rightly;
-      last = x.tree;
-      run = reached.run;
-      held = λ p request answered. (reached.exact p).1 (inl (request, answered));
-    };
-    leads = refl;
-    tree_request = tree;
-    answered = by;
-    left_out = λ has. waits_still c at asked x.placed by lacks ((reached.exact asked).0 has);
-  },
-)
+reached_comes c first at asked x tree by lacks reached = (reached.entries, reached_comes_by c first at asked x tree by lacks reached)
 
 module _ (c : List Message) (first : TreeState) (at asked : ℕ) (tree : IsTreeRequestAt c asked) (by : IsAnsweredBy c asked at)
     (held work : List PlainConfiguration) (are : AreHeld c first at held) (settling : AreSettling c first at asked held work []) (spent : AreSpent c at work work []) where

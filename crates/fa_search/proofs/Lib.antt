@@ -21,4 +21,5 @@ pub mod SearchLemmas
 pub mod LoopLemmas
 pub mod ThereLemmas
 pub mod MergedLemmas
+pub mod ComingLemmas
 pub mod ToldLemmas

@@ -3,7 +3,7 @@ use Rattle.std.proofs.Common.{◌≡◌, ◌⊎◌, ℕ, ◌+◌, ◌<◌, ◌�
 use Rattle.std.specs.Prelude.{Contains, slice_get}
 use Rattle.std.proofs.lemmas.Bool.{cases_lt}
 use Rattle.std.proofs.lemmas.List.Elements.{Contains-append_cases, Contains-append_left, Contains-append_right, Contains-push, All-contains}
-use Rattle.std.proofs.lemmas.List.{take-append-le}
+use Rattle.std.proofs.lemmas.List.{append_assoc, take-append-le}
 use Rattle.std.proofs.lemmas.Option.{slice_get_within, same_Some}
 use Rattle.fa_capture.specs.Message.{Message}
 use Rattle.fa_capture.proofs.CallerLemmas.{take_one_more}
@@ -51,6 +51,7 @@ pub record IsSettledSoFar (c : List Message) (first : TreeState) (common : List 
   pub spent : AreSpent c at work work settled
   pub left_is : settled ≡ [] → left ≡ work
   pub traced : (x : PlainConfiguration) → Contains settled x → IsTraced c first common at x
+  pub left_traced : (x : PlainConfiguration) → Contains left x → IsTraced c first common at x
 
 module _ (c : List Message) (first : TreeState) (common : List Entry) (at asked : ℕ) where
   -- before any is taken
@@ -61,6 +62,7 @@ module _ (c : List Message) (first : TreeState) (common : List Entry) (at asked 
     spent = λ x has. absurd (omega (arith, has.1));
     left_is = λ none. refl;
     traced = λ x has. absurd (omega (arith, has.1));
+    left_traced = λ x has. absurd (omega (arith, has.1));
   }
 
   -- where all that were held are taken it is settled
@@ -74,6 +76,7 @@ module _ (c : List Message) (first : TreeState) (common : List Entry) (at asked 
     spent = so_far.spent;
     left_is = so_far.left_is;
     traced = so_far.traced;
+    left_traced = so_far.left_traced;
   }
 
   module _ (only : IsOnlyPending c at asked) (taken left settled : List PlainConfiguration) (x : PlainConfiguration) (is : IsTraced c first common at x)
@@ -87,6 +90,7 @@ module _ (c : List Message) (first : TreeState) (common : List Entry) (at asked 
       spent = spent_still c at so_far.work so_far.work settled so_far.work (settled ++ x ∷ []) ((λ y there. there), (λ y there. still_there settled x y there)) so_far.spent;
       left_is = λ none. absurd (never_none settled x none);
       traced = each_of settled x (IsTraced c first common at) so_far.traced is;
+      left_traced = so_far.left_traced;
     }
 
     -- one more in which it is placed by its step
@@ -106,6 +110,7 @@ module _ (c : List Message) (first : TreeState) (common : List Entry) (at asked 
               (spent_still c at so_far.work so_far.work settled work (settled ++ y ∷ []) ((λ z there. still_there so_far.work x z there), (λ z there. still_there settled y z there)) so_far.spent);
           left_is = λ none. absurd (never_none settled y none);
           traced = each_of settled y (IsTraced c first common at) so_far.traced traced;
+          left_traced = so_far.left_traced;
         }
 
     -- one more in which it is not placed, and has no step
@@ -122,6 +127,7 @@ module _ (c : List Message) (first : TreeState) (common : List Entry) (at asked 
               (spent_still c at so_far.work so_far.work settled work settled ((λ z there. still_there so_far.work x z there), (λ z there. there)) so_far.spent);
           left_is = λ empty. ap (λ (xs : List PlainConfiguration). xs ++ x ∷ []) (so_far.left_is empty);
           traced = so_far.traced;
+          left_traced = each_of left x (IsTraced c first common at) so_far.left_traced is;
         }
 
     by_lists : (more further others beyond : List PlainConfiguration) → more ≡ others → further ≡ beyond
@@ -209,6 +215,7 @@ settled_among c first common at asked held work settled are taken settling spent
   spent = spent;
   left_is = λ none. refl;
   traced = λ x done. settling.traced x (inr done);
+  left_traced = λ x waits. settling.traced x (inl waits);
 }
 
 -- ---- where none has a step
@@ -247,6 +254,15 @@ least_more c asked those x least code now fits refused both so_far = record {
 
     is : (now ≡ least) ⊎ (now ≡ code)
     is = elim (cases_lt code least) [ inl less ↦ inr (omega (arith, both, less)) | inr most ↦ inl (omega (arith, both, most)) ]
+
+-- one more is kept behind the others, as it was
+pub kept_more : (old seen kept new : List PlainConfiguration) (x now : PlainConfiguration) → now ≡ x → new ≡ kept ++ now ∷ [] → kept ≡ old ++ seen → new ≡ old ++ (seen ++ x ∷ [])
+kept_more old seen kept new x now still behind before =
+    behind ∙ ap (λ (y : PlainConfiguration). kept ++ y ∷ []) still ∙ ap (λ (xs : List PlainConfiguration). xs ++ x ∷ []) before ∙ append_assoc old seen (x ∷ [])
+
+-- of none before, they are kept alone
+pub kept_alone : (old left new : List PlainConfiguration) → new ≡ old ++ left → old ≡ [] → new ≡ left
+kept_alone old left new behind none = behind ∙ ap (λ (xs : List PlainConfiguration). xs ++ left) none
 
 -- where there are some it is their least
 pub least_of_all : (c : List Message) (asked : ℕ) (those : List PlainConfiguration) (code : ℕ) → 0 < length those → IsLeastSoFar c asked those code → IsLeastOf c asked those code

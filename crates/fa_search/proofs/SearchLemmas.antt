@@ -28,14 +28,14 @@ use Rattle.fa_search.specs.declared.flight.Pending.{Pending}
 use Rattle.fa_search.specs.declared.flight.InFlight.{InFlight}
 use Rattle.fa_search.specs.parts.Configurations.{PlainConfiguration, IsDoneAt, IsPending, AnswersNone, IsAheadIfKnown, IsWithout, AreWithout}
 use Rattle.fa_search.specs.parts.Flight.{IsInFlight, IsFlight, IsDue, IsAlone}
-use Rattle.fa_search.specs.parts.Settling.{IsTraced, AreHeldBy, IsSettled, HaveNoStep, IsLeastOf, AreWithoutBy}
+use Rattle.fa_search.specs.parts.Settling.{IsTraced, AreHeldBy, IsSettled, AreLeft, HaveNoStep, IsLeastOf, AreWithoutBy}
 use Rattle.fa_search.proofs.StopLemmas.{none_placed}
 use Rattle.fa_search.proofs.PendingLemmas.{one_answered, done_still, done_answered, none_done, serial_alone}
 use Rattle.fa_search.proofs.FlightLemmas.{pending_by_call}
 use Rattle.fa_search.proofs.GivenLemmas.{knows_reached, knows_next}
 use Rattle.fa_search.proofs.HeldLemmas.{held_first, held_still, held_ahead, held_answered, none_held_stops}
 use Rattle.fa_search.proofs.SettlingLemmas.{one_of, still_there}
-use Rattle.fa_search.proofs.CodeLemmas.{reached_comes, tree_is_there}
+use Rattle.fa_search.proofs.CodeLemmas.{reached_comes, reached_comes_by, tree_is_there}
 use Rattle.fa_search.proofs.ReplyLemmas.{answer_tried, asked_answered}
 
 -- ---- without the request that was answered
@@ -195,11 +195,35 @@ module _ (c : List Message) (first : TreeState) (common : List Entry) (at asked 
         | inr done ↦ omega (arith, done.1)
       ]
 
-  -- So no order goes past the message, and the least code with which they refuse the request is that of the message.
+  -- So no order goes past the message,
+  none_goes_past : AreGood c → at < length c → IsStop c first at
+  none_goes_past good within =
+      none_held_stops c first at x held good within has are.are
+      (held_answered c first at asked is.held is.work [] [] tree by is.are_held is.settling is.spent (without_plain [] asked [] (without_none asked)))
+
+  -- each tree to which entries come is that of one which is left,
+  left_is_all : (es : List Entry) (last : TreeState) (request : ℕ) → ComesTo c first at es last request → (request ≡ asked) × ((y : PlainConfiguration) × Contains left y × (last ≡ y.tree))
+  left_is_all es last request comes =
+      let same : request ≡ asked = one_answered c request asked at comes.answered by in
+      let found = tree_is_there c first at asked tree by is.held is.work is.are_held is.settling is.spent es last (subst (ComesTo c first at es last) same comes) in
+      (same, (found.0, subst (λ (xs : List PlainConfiguration). Contains xs found.0) (sym left_is_work) found.1, found.2))
+
+  -- entries come to each,
+  pub are_left : AreGood c → at < length c → AreLeft c first common at left
+  are_left good within = record {
+    stop = none_goes_past good within;
+    some = some_left;
+    each = λ y there.
+        let waits : Contains is.work y = subst (λ (xs : List PlainConfiguration). Contains xs y) left_is_work there in
+        let traced = is.left_traced y there in
+        (asked, subst (λ (es : List Entry). ComesTo c first at es y.tree asked) traced.1 (reached_comes_by c first at asked y tree by (is.settling.waiting y waits) traced.0));
+    complete = λ es last request comes. (left_is_all es last request comes).1;
+  }
+
+  -- and the least code with which they refuse the request is that of the message.
   pub stops_here : (code : ℕ) → AreGood c → at < length c → IsLeastOf c asked left code → IsStop c first at × IsLeastCode c first at code
   stops_here code good within least = (
-    none_held_stops c first at x held good within has are.are
-        (held_answered c first at asked is.held is.work [] [] tree by is.are_held is.settling is.spent (without_plain [] asked [] (without_none asked))),
+    none_goes_past good within,
     record {
       refused =
           let y : PlainConfiguration = least.one.0 in
@@ -212,11 +236,10 @@ module _ (c : List Message) (first : TreeState) (common : List Entry) (at asked 
     where
       told : (other : ℕ) (es : List Entry) (last : TreeState) (request : ℕ) → ComesTo c first at es last request → IsRefusedFrom last c request other → code ≤ other
       told other es last request comes refused =
-          let same : request ≡ asked = one_answered c request asked at comes.answered by in
-          let found = tree_is_there c first at asked tree by is.held is.work is.are_held is.settling is.spent es last (subst (ComesTo c first at es last) same comes) in
-          let there : Contains left found.0 = subst (λ (xs : List PlainConfiguration). Contains xs found.0) (sym left_is_work) found.1 in
-          let here : IsRefusedFrom last c asked other = subst (λ (k : ℕ). IsRefusedFrom last c k other) same refused in
-          least.least found.0 other there (subst (λ (t : TreeState). IsRefusedFrom t c asked other) found.2 here)
+          let all = left_is_all es last request comes in
+          let found = all.1 in
+          let here : IsRefusedFrom last c asked other = subst (λ (k : ℕ). IsRefusedFrom last c k other) all.0 refused in
+          least.least found.0 other found.1 (subst (λ (t : TreeState). IsRefusedFrom t c asked other) found.2 here)
 
 -- whether any explain the reply of a request too or not
 pub explained_up_to : (c : List Message) (first : TreeState) (common : List Entry) (at : ℕ) (held : List PlainConfiguration) (x : PlainConfiguration) → Contains held x → AreHeldBy c first common at held

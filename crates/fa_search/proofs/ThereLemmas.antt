@@ -173,6 +173,10 @@ module _ (calls : Calls) where
   told Fact (inl is) by = is
   told Fact (inr none) by = absurd (never_none (λ c are. none (by c are)))
 
+  -- as that there are some
+  pub some_by : (n : ℕ) → ((c : List Message) → AreMessagesOf calls c → 0 < n) → 0 < n
+  some_by n by = told (0 < n) (less_decided 0 n) by
+
   module _ (flight : InFlight) (by : (c : List Message) → AreMessagesOf calls c → IsFlight calls.list flight) where
     -- one that is in flight, with its call
     one_there : (e : Due × Pending) → Contains flight.requests.entries e → (call : PlainCall) → slice_get calls.list e.1.place ≡ Some call

@@ -1,5 +1,5 @@
 -- What a search of all orders finds: the message past which none goes where none is legal, and why; how far it came; and an order.
-use Rattle.std.specs.Prelude.{◌≡◌, ℕ, ◌+◌, ◌<◌, ◌≤◌, List, length, take, Contains, Option, None}
+use Rattle.std.specs.Prelude.{◌≡◌, ℕ, ◌+◌, ◌<◌, ◌≤◌, List, length, take, Contains, All, Option, None}
 use Rattle.std.specs.List.Sorted.{IsStrictlyIncreasing}
 use Rattle.fa_capture.specs.Message.{Message}
 use Rattle.fa_session.specs.Answers.{IsAnsweredBy}
@@ -11,6 +11,7 @@ use Rattle.fa_check.specs.Runs.{HasOrder}
 use Rattle.fa_check.specs.Faults.{StepFails}
 use Rattle.fa_check.specs.Cuts.{Explains}
 use Rattle.fa_check.specs.Verdicts.{IsLegalWith}
+use Rattle.fa_search.specs.declared.coming.Alternatives.{Alternatives}
 use Rattle.fa_search.specs.declared.finding.Finding.{Finding}
 use Rattle.fa_search.specs.declared.finding.Finding.TheVariants.{Found}
 
@@ -66,6 +67,21 @@ pub record AreCodesAt (c : List Message) (first : TreeState) (at : ℕ) (codes :
 pub record IsLeastCode (c : List Message) (first : TreeState) (at code : ℕ) : Type 0 where
   pub refused : IsRefusedWith c first at code
   pub least : (other : ℕ) → IsRefusedWith c first at other → code ≤ other
+
+-- ---- what was alive where no order goes on
+
+-- each of these orders comes to the reply at this message, to some tree
+abbrev pub EachComesTo : List Message → (first : TreeState) → (at : ℕ) → Alternatives → Type 0
+EachComesTo c first at found = All (λ order. (tree : TreeState) × (asked : ℕ) × ComesTo c first at order.items tree asked) found.orders.items
+
+-- These are all trees to which entries come at this message, some of them more than once.
+pub record AreTreesTo (c : List Message) (first : TreeState) (at : ℕ) (trees : List TreeState) : Type 0 where
+  pub each : (tree : TreeState) → Contains trees tree → (es : List Entry) × (asked : ℕ) × ComesTo c first at es tree asked
+  pub complete : (es : List Entry) (tree : TreeState) (asked : ℕ) → ComesTo c first at es tree asked → Contains trees tree
+
+-- entries come to so many trees at this message, or to fewer where some of these are the same
+abbrev pub ComeToSoMany : List Message → (first : TreeState) → (at count : ℕ) → Type 0
+ComeToSoMany c first at count = (trees : List TreeState) × AreTreesTo c first at trees × (length trees ≡ count)
 
 -- ---- how far a search has come
 

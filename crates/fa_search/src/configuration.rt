@@ -131,6 +131,16 @@ impl Configuration {
         mem::replace(&mut self.entries, Vec::new(self.alloc))
     }
 
+    /// An order that leads to it: the entries that all configurations have in common, and then its own.
+    pub fn order(&self, common: &[Entry]) -> Result<Vec<Entry>, AllocError>
+        ensures { IfOk result (λ order. order.items ≡ common.now ++ self.now.entries) }
+    {
+        let mut order = Vec::new(self.alloc);
+        order.extend_from_slice(common)?;
+        order.extend_from_slice(&self.entries)?;
+        Ok(order)
+    }
+
     /// Reckons the number by which the same ones are found, and about how many bytes it holds.
     ///
     /// Takes no memory, and time of [`Tree::digest`] and [`Tree::weight`].

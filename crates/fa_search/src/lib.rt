@@ -3,6 +3,7 @@
 #![tactic(auto)]
 
 mod budget;
+mod coming;
 mod configuration;
 mod finding;
 mod flight;
@@ -12,6 +13,7 @@ mod searching;
 mod settling;
 
 pub use budget::Budget;
+pub use coming::{Alternatives, orders_to};
 pub use finding::Finding;
 pub use listener::{Listener, Nobody, SoFar};
 pub use searching::search;

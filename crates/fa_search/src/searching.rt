@@ -15,7 +15,7 @@ ghost use Rattle.fa_search.specs.declared.searching.Ended.TheVariants.{Stop};
 ghost use Rattle.fa_search.specs.declared.searching.Ended.TheVariants as Ended;
 ghost use Rattle.fa_search.specs.parts.Configurations.{PlainConfiguration};
 ghost use Rattle.fa_search.specs.parts.Flight.{IsInFlight, IsFlight};
-ghost use Rattle.fa_search.specs.parts.Settling.{AreHeldBy, AreMerged, AreWithoutBy, IsSearching, IfOrder};
+ghost use Rattle.fa_search.specs.parts.Settling.{AreHeldBy, AreMerged, AreWithoutBy, IsSearching, AreLeft, IfOrder, EndsEarly};
 
 use crate::budget::{Budget, Halt, Spending};
 use crate::configuration::{Configuration, Known};
@@ -174,7 +174,7 @@ fn found_by(
 
 /// How a search of all orders ends.
 #[derive(Drop)]
-enum Ended {
+pub(crate) enum Ended {
     /// This order is legal.
     Order(Vec<Entry>),
     /// No order goes past this message, and its request is refused with this code.
@@ -204,13 +204,13 @@ fn search_all<L: Listener>(
 
 /// A search of all orders, so far.
 #[derive(Drop)]
-struct Progress<'c> {
-    tries: Tries<'c>,
+pub(crate) struct Progress<'c> {
+    pub tries: Tries<'c>,
     flight: InFlight,
     /// The entries that all configurations have in common, before their own.
-    common: Vec<Entry>,
-    /// What is held: never none.
-    held: Vec<Configuration>,
+    pub common: Vec<Entry>,
+    /// What is held: never none. Where no order goes on, those in which the request is not placed.
+    pub held: Vec<Configuration>,
     lull: Lull,
 }
 
@@ -240,7 +240,7 @@ impl Lull {
 
 impl<'c> Progress<'c> {
     /// Before the first message.
-    fn new(
+    pub fn new(
         alloc: Global,
         calls: &'c Calls<'c>,
         tree: Tree,
@@ -279,18 +279,44 @@ impl<'c> Progress<'c> {
             IsExplainedUpTo c first at × (AreSerialBefore c at → ⊥) }
     {
         let messages = self.tries.replay.calls().messages;
+        match self.pass_until(alloc, messages, listener)? {
+            Some(ended) => Ok(ended),
+            None => Ok(Ended::Order(self.take_order(alloc)?)),
+        }
+    }
+
+    /// Passes the messages before this one: how it ends, if it ends before. After that and after an error it is of no use any more.
+    pub fn pass_until<L: Listener>(
+        &mut self,
+        alloc: Global,
+        until: u32,
+        listener: &mut L,
+    ) -> Result<Option<Ended>, AllocError>
+        requires behind { self.old.flight.at ≤ until }
+        requires within { until ≤ self.old.tries.replay.messages }
+        requires flight { IsFlight self.old.tries.replay.list self.old.flight }
+        requires some { 0 < length self.old.held.items }
+        ensures ended { IfOk result (λ ended. IfSome ended (λ ended. (c : List Message) (first : TreeState) → AreMessagesOf self.old.tries.replay c → IsSearching c first self.old →
+            EndsEarly c first self.new ended)) }
+        ensures at { IfOk result (λ ended. IsNone ended → self.new.flight.at ≡ until) }
+        ensures flight { IfOk result (λ ended. IsNone ended → IsFlight self.old.tries.replay.list self.new.flight) }
+        ensures some { IfOk result (λ ended. IsNone ended → 0 < length self.new.held.items) }
+        ensures on { IfOk result (λ ended. IsNone ended → (c : List Message) (first : TreeState) → AreMessagesOf self.old.tries.replay c → IsSearching c first self.old →
+            IsSearching c first self.new) }
+        ensures same { IfOk result (λ ended. IsNone ended → self.new.tries.replay ≡ self.old.tries.replay) }
+    {
         let mut told = self.tries.spending.steps_left();
-        while self.flight.at < messages {
+        while self.flight.at < until {
             let at = self.flight.at;
             match self.pass_next(alloc) {
                 Ok(None) => {}
-                Ok(Some(code)) => return Ok(Ended::Stop { at, code }),
-                Err(Halt::Spent) => return Ok(Ended::Spent { at }),
+                Ok(Some(code)) => return Ok(Some(Ended::Stop { at, code })),
+                Err(Halt::Spent) => return Ok(Some(Ended::Spent { at })),
                 Err(Halt::Memory) => return Err(AllocError),
             }
             told = self.tell_if_due(listener, told);
         }
-        Ok(Ended::Order(self.take_order(alloc)?))
+        Ok(None)
     }
 
     /// Tells how far it has come, if many steps were spent since so many were left: how many were left when that was told last.
@@ -320,6 +346,8 @@ impl<'c> Progress<'c> {
             IsSearching c first self.new) }
         ensures stop { IfOk result (λ code. IfSome code (λ code. (c : List Message) (first : TreeState) → AreMessagesOf self.old.tries.replay c → IsSearching c first self.old →
             IsStop c first self.old.flight.at × IsLeastCode c first self.old.flight.at code)) }
+        ensures left { IfOk result (λ code. IfSome code (λ code. (c : List Message) (first : TreeState) → AreMessagesOf self.old.tries.replay c → IsSearching c first self.old →
+            AreLeft c first self.new.common.items self.old.flight.at self.new.held.items)) }
         ensures spent { IsErrOf result Spent → (c : List Message) (first : TreeState) → AreMessagesOf self.old.tries.replay c → IsSearching c first self.old →
             IsExplainedUpTo c first self.old.flight.at × (AreSerialBefore c self.old.flight.at → ⊥) }
         ensures same { IfOk result (λ code. IsNone code → self.new.tries.replay ≡ self.old.tries.replay) }
@@ -347,6 +375,8 @@ impl<'c> Progress<'c> {
             IsSearching c first self.new) }
         ensures stop { IfOk result (λ code. IfSome code (λ code. (c : List Message) (first : TreeState) → AreMessagesOf self.old.tries.replay c → IsSearching c first self.old →
             IsStop c first self.old.flight.at × IsLeastCode c first self.old.flight.at code)) }
+        ensures left { IfOk result (λ code. IfSome code (λ code. (c : List Message) (first : TreeState) → AreMessagesOf self.old.tries.replay c → IsSearching c first self.old →
+            AreLeft c first self.new.common.items self.old.flight.at self.new.held.items)) }
         ensures spent { IsErrOf result Spent → (c : List Message) (first : TreeState) → AreMessagesOf self.old.tries.replay c → IsSearching c first self.old →
             IsExplainedUpTo c first self.old.flight.at × (AreSerialBefore c self.old.flight.at → ⊥) }
         ensures same { IfOk result (λ code. IsNone code → self.new.tries.replay ≡ self.old.tries.replay) }
@@ -355,7 +385,8 @@ impl<'c> Progress<'c> {
         let held = mem::replace(&mut self.held, Vec::new(alloc));
         let settling = settle(alloc, &mut self.tries, held, &self.flight, asked)?;
         if settling.settled.is_empty() {
-            let code = least_code(&mut self.tries.replay, settling.work, asked)?;
+            let replay = &mut self.tries.replay;
+            let code = least_code(replay, settling.work, asked, &mut self.held)?;
             return Ok(Some(code));
         }
         self.flight.answer(self.tries.replay.calls(), &asked);
@@ -395,7 +426,7 @@ fn without(
 
 /// The configurations, each once, if that is to be looked at and there are several.
 #[tactic(auto, using(crate::proofs::MergedLemmas::merged_same))]
-fn merged_if_due(
+pub(crate) fn merged_if_due(
     alloc: Global,
     spending: &mut Spending,
     held: Vec<Configuration>,

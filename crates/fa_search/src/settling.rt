@@ -523,21 +523,23 @@ fn place_if_it_steps(
     }
 }
 
-/// The least code with which the request is refused from these configurations, where it has a step from none of them.
+/// The least code with which the request is refused from these configurations, where it has a step from none of them. They are kept behind
+/// those that are.
 pub(crate) fn least_code(
     replay: &mut Replay<'_>,
     work: Vec<Configuration>,
     asked: Pending,
+    kept: &mut Vec<Configuration>,
 ) -> Result<u16, AllocError>
     requires { MayBePlacedAt replay.old.list asked.place (record { at = asked.asked; wrote = None }) }
     ensures least { IfOk result (λ code. (c : List Message) → AreMessagesOf replay.old c → 0 < length work.items → HaveNoStep c asked.asked work.items → IsLeastOf c asked.asked work.items code) }
+    ensures kept { OnOk result ((c : List Message) → AreMessagesOf replay.old c → HaveNoStep c asked.asked work.items → kept.new.items ≡ kept.old.items ++ work.items) }
     ensures same { replay.new ≡ replay.old }
 {
     let mut least = u16::MAX;
     for mut one in work {
         let code = code_from(replay, &mut one, asked);
-        // It has many tables: they are proved to go in one place.
-        drop(one);
+        push(kept, one)?;
         least = least.min(code?);
     }
     Ok(least)
@@ -551,6 +553,7 @@ fn code_from(
 ) -> Result<u16, AllocError>
     requires { MayBePlacedAt replay.old.list asked.place (record { at = asked.asked; wrote = None }) }
     ensures refused { IfOk result (λ code. (c : List Message) → AreMessagesOf replay.old c → HasNoStep c asked.asked one.old → IsRefusedFrom one.old.tree c asked.asked code) }
+    ensures still { OnOk result ((c : List Message) → AreMessagesOf replay.old c → HasNoStep c asked.asked one.old → one.new ≡ one.old) }
     ensures same { replay.new ≡ replay.old }
 {
     let entry = Entry {

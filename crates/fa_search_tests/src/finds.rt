@@ -3,7 +3,7 @@
 use fa_bodies::ROOT_ID as ROOT;
 use fa_capture::codes::{ATTRIBUTES, BYTES_READ};
 use fa_order::Entry;
-use fa_search::{Budget, Finding, Nobody, search};
+use fa_search::{Alternatives, Budget, Finding, Nobody, orders_to, search};
 use fa_tests::messages::begun;
 use fa_tests::paired::calls_in;
 use fa_tests::sent::Sent::{self, *};
@@ -134,6 +134,39 @@ fn is_given_up(finding: &Finding, message: u32) -> bool {
     matches!(finding, Finding::GaveUp { at } if *at == message)
 }
 
+/// The orders that come to a message, of eight trees at most.
+fn orders_found(
+    rt: &impl Abort,
+    alloc: Global,
+    messages: &[Sent],
+    at: u32,
+    budget: Budget,
+) -> Option<Alternatives> {
+    let bytes = with_all(begun(alloc, (0, 0)), messages)
+        .capture()
+        .expect(rt, "memory");
+    let calls = calls_in(alloc, &bytes).expect(rt, "calls");
+    let tree = Tree::empty(alloc, 0o755).expect(rt, "memory");
+    let found = orders_to(alloc, &calls, tree, at, budget, 8, &mut Nobody).expect(rt, "memory");
+    drop(calls);
+    found
+}
+
+/// Whether there are as many trees as these orders, and each order is told.
+fn are_orders(found: &Option<Alternatives>, orders: &[&[Entry]]) -> bool {
+    match found {
+        Some(found) => {
+            found.trees == orders.len()
+                && found.orders.len() == orders.len()
+                && orders.iter().all(|order| found
+                    .orders
+                    .iter()
+                    .any(|told| told.as_slice() == *order))
+        }
+        None => false,
+    }
+}
+
 #[test]
 fn orders_that_are_proposed(rt: HostRuntime) {
     let finding = found(&rt, rt.alloc(), NO_BYTE, Budget::default());
@@ -175,4 +208,37 @@ fn budgets_that_are_spent(rt: HostRuntime) {
         let finding = found(&rt, rt.alloc(), SERIAL_SIZE, budget);
         assert!(rt; is_none(&finding, 7, ATTRIBUTES));
     }
+}
+
+/// The CREATE, message 2.
+const CREATE: Entry = Entry { at: 2, wrote: None };
+/// The WRITE, message 4, as it was answered.
+const WRITE: Entry = Entry { at: 4, wrote: None };
+/// The same with its byte written, where it was never answered.
+const WRITE_OF_ONE: Entry = Entry {
+    at: 4,
+    wrote: Some(1),
+};
+/// The message 5: the SETATTR, or the READ.
+const FIFTH: Entry = Entry { at: 5, wrote: None };
+
+/// The WRITE before the SETATTR, message 5, which takes its byte away, and behind it.
+static EITHER: [&[Entry]; 2] = [&[CREATE, WRITE, FIFTH], &[CREATE, FIFTH, WRITE]];
+
+/// The WRITE before the READ of its byte.
+static WRITTEN_FIRST: [&[Entry]; 1] = [&[CREATE, WRITE_OF_ONE, FIFTH]];
+
+#[test]
+fn orders_that_come_to_a_message(rt: HostRuntime) {
+    let budget = Budget::default();
+    let found = orders_found(&rt, rt.alloc(), ANOTHER_BYTE, 9, budget);
+    assert!(rt; are_orders(&found, &EITHER));
+    let found = orders_found(&rt, rt.alloc(), UNDONE, 8, budget);
+    assert!(rt; are_orders(&found, &WRITTEN_FIRST));
+    // A request, behind the last message, an answer that an order explains.
+    assert!(rt; orders_found(&rt, rt.alloc(), ANOTHER_BYTE, 8, budget).is_none());
+    assert!(rt; orders_found(&rt, rt.alloc(), ANOTHER_BYTE, 10, budget).is_none());
+    assert!(rt; orders_found(&rt, rt.alloc(), ONE_BYTE, 9, budget).is_none());
+    let spent = Budget { steps: 0, ..budget };
+    assert!(rt; orders_found(&rt, rt.alloc(), ANOTHER_BYTE, 9, spent).is_none());
 }

@@ -1,5 +1,6 @@
 -- What a search holds, with the entries that lead to it, while a request is settled.
-use Rattle.std.specs.Prelude.{◌≡◌, ◌⊎◌, ℕ, ◌<◌, ◌≤◌, List, [], ◌∷◌, ◌++◌, length, Contains, None}
+use Rattle.std.specs.Prelude.{◌≡◌, ◌⊎◌, ℕ, ◌<◌, ◌≤◌, List, [], ◌∷◌, ◌++◌, length, Contains, All, None, Vec}
+use Rattle.std.specs.declared.alloc.Global.{Global}
 use Rattle.fa_capture.specs.Message.{Message}
 use Rattle.fa_tree.specs.State.{TreeState}
 use Rattle.fa_order.specs.declared.entry.Entry.{Entry}
@@ -8,10 +9,11 @@ use Rattle.fa_ledger.specs.declared.calls.Calls.{Calls}
 use Rattle.fa_check.specs.Orders.{IsTreeRequestAt}
 use Rattle.fa_check.specs.Runs.{EntrySteps}
 use Rattle.fa_check.specs.Verdicts.{AreMessagesOf}
-use Rattle.fa_search.specs.Searches.{IsRefusedFrom, AreSerialBefore}
+use Rattle.fa_search.specs.Searches.{IsStop, IsLeastCode, ComesTo, IsRefusedFrom, EachComesTo, ComeToSoMany, IsExplainedUpTo, AreSerialBefore}
+use Rattle.fa_search.specs.declared.coming.Alternatives.{Alternatives}
 use Rattle.fa_search.specs.declared.searching.Progress.{Progress}
 use Rattle.fa_search.specs.declared.searching.Ended.{Ended}
-use Rattle.fa_search.specs.declared.searching.Ended.TheVariants.{Order}
+use Rattle.fa_search.specs.declared.searching.Ended.TheVariants.{Order, Stop, Spent}
 use Rattle.fa_search.specs.parts.Flight.{IsFlight}
 use Rattle.fa_search.specs.parts.Placed.{IsPlacedIn, IsSameAs}
 use Rattle.fa_search.specs.parts.Configurations.{PlainConfiguration, IsPending, IsReached, AreHeld, IsAheadIfKnown, AreSettling, AreSpent, IsWithout}
@@ -45,6 +47,25 @@ pub record IsSettled (c : List Message) (first : TreeState) (common : List Entry
   pub spent : AreSpent c at work work settled
   pub left_is : settled ≡ [] → left ≡ work
   pub traced : (x : PlainConfiguration) → Contains settled x → IsTraced c first common at x
+  pub left_traced : (x : PlainConfiguration) → Contains left x → IsTraced c first common at x
+
+-- These are left where a request is placed in none: no order goes past the message, entries come to each, and to no other tree.
+pub record AreLeft (c : List Message) (first : TreeState) (common : List Entry) (at : ℕ) (left : List PlainConfiguration) : Type 0 where
+  pub stop : IsStop c first at
+  pub some : 0 < length left
+  pub each : (x : PlainConfiguration) → Contains left x → (asked : ℕ) × ComesTo c first at (common ++ x.entries) x.tree asked
+  pub complete : (es : List Entry) (tree : TreeState) (request : ℕ) → ComesTo c first at es tree request → (x : PlainConfiguration) × Contains left x × (tree ≡ x.tree)
+
+-- each of these orders is the entries that all have in common, and then those of one of the configurations
+abbrev pub EachLeadsTo : (common : List Entry) → (left : List PlainConfiguration) → List (Vec Entry Global) → Type 0
+EachLeadsTo common left orders = All (λ order. (x : PlainConfiguration) × Contains left x × (order.items ≡ common ++ x.entries)) orders
+
+-- no order goes past the message, and these come to it, of so many trees
+pub record CameTo (c : List Message) (first : TreeState) (at : ℕ) (found : Alternatives) : Type 0 where
+  pub stop : IsStop c first at
+  pub orders : EachComesTo c first at found
+  pub trees : ComeToSoMany c first at found.trees
+  pub some : 0 < found.trees
 
 -- The configuration is ahead of another, if the tree of that knows what was given, and what came to that comes to it.
 pub record IsFurther (c : List Message) (at : ℕ) (old new : PlainConfiguration) : Type 0 where
@@ -115,6 +136,12 @@ pub record IsSearching (c : List Message) (first : TreeState) (progress : Progre
   pub held : AreHeldBy c first progress.common.items progress.flight.at progress.held.items
   pub some : 0 < length progress.held.items
   pub serial : AreSerialBefore c progress.flight.at → length progress.held.items ≤ 1
+
+-- A search ended so before all messages were passed: no order is found there, and where none goes on it holds what is left.
+abbrev pub EndsEarly : List Message → (first : TreeState) → Progress → Ended → Type 0
+EndsEarly c first progress (Order order) = ⊥
+EndsEarly c first progress (Stop at code) = IsStop c first at × IsLeastCode c first at code × AreLeft c first progress.common.items at progress.held.items
+EndsEarly c first progress (Spent at) = IsExplainedUpTo c first at × (AreSerialBefore c at → ⊥)
 
 -- the order in which it ended, if it did in one, is such
 abbrev pub IfOrder : Ended → (List Entry → Type 0) → Type 0

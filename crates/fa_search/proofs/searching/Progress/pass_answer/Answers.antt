@@ -9,11 +9,11 @@ use Rattle.fa_search.specs.Searches.{AreSerialBefore}
 use Rattle.fa_search.specs.parts.Configurations.{PlainConfiguration}
 use Rattle.fa_search.specs.parts.Flight.{IsFlight}
 use Rattle.fa_search.specs.parts.Placed.{MayBePlacedAt}
-use Rattle.fa_search.specs.parts.Settling.{AreHeldBy, IsSettled}
+use Rattle.fa_search.specs.parts.Settling.{AreHeldBy, IsSettled, AreLeft}
 use Rattle.fa_search.proofs.LoopLemmas.{empty_list, some_there}
 use Rattle.fa_search.proofs.ThereLemmas.{flight_there}
-use Rattle.fa_search.proofs.ReplyLemmas.{answered_placed, asked_answered}
-use Rattle.fa_search.proofs.SearchLemmas.{alone_by_serial, serial_before, explained_up_to, held_by_answered, left_have_no_step, some_left, stops_here}
+use Rattle.fa_search.proofs.ReplyLemmas.{answered_placed, asked_answered, kept_alone}
+use Rattle.fa_search.proofs.SearchLemmas.{alone_by_serial, serial_before, explained_up_to, held_by_answered, left_have_no_step, some_left, are_left, stops_here}
 use Rattle.fa_search.proofs.MergedLemmas.{held_by_merged, merged_some}
 use Rattle.fa_search.proofs.searching.Progress.pass_answer.Goals as goal
 
@@ -81,6 +81,26 @@ returns-then-is_empty-clause-stop c = λ m first are is.
     (left_have_no_step m first common at c.args.asked.asked by.0 by.1 progress.held.items left one.0 one.1 is.held none) in
     stops_here m first common at c.args.asked.asked by.0 by.1 progress.held.items left one.0 one.1 is.held none c.in_ok-code.code are.good
     (let next = c.requires.next in let counted = are.counted in omega (arith, next, counted)) least
+
+pub returns-then-is_empty-clause-left : goal.returns-then-is_empty-clause-left
+returns-then-is_empty-clause-left c = λ m first are is.
+    let progress = c.args.self.now in
+    let common = progress.common.items in
+    let at = progress.flight.at in
+    let left = c.in_ok-settling.settling.work.items in
+    let settled = c.in_ok-settling.settling.settled.items in
+    let by = asked_answered m progress.tries.replay.list are.are at c.args.asked c.requires.in_flight c.requires.answered in
+    let empty : settled ≡ [] = empty_list settled (search (rules, tests)) in
+    let settling : IsSettled m first common at c.args.asked.asked left settled =
+    c.in_ok-settling.ensures.settled m first common are (rw c.replace-held.ensures.value is.held) in
+    let none : IsSettled m first common at c.args.asked.asked left [] = subst (λ (xs : List PlainConfiguration). IsSettled m first common at c.args.asked.asked left xs) empty settling in
+    let one = some_there progress.held.items is.some in
+    let here : AreMessagesOf c.settle.new.tries.replay m = subst (λ (calls : Calls). AreMessagesOf calls m) (sym c.settle.ensures.same) are in
+    let kept : c.least_code.new.kept.items ≡ left = kept_alone _ left _ (c.in_ok-code.ensures.kept m here
+    (left_have_no_step m first common at c.args.asked.asked by.0 by.1 progress.held.items left one.0 one.1 is.held none)) (search rules) in
+    subst (AreLeft m first common at) (sym kept)
+    (are_left m first common at c.args.asked.asked by.0 by.1 progress.held.items left one.0 one.1 is.held none are.good
+    (let next = c.requires.next in let counted = are.counted in omega (arith, next, counted)))
 
 pub returns-clause-flight : goal.returns-clause-flight
 returns-clause-flight c = λ none.
