@@ -1,6 +1,6 @@
 -- The messages of a capture, one after the other.
-use Rattle.std.proofs.Common.{◌≡◌, ℕ, ◌<◌, ◌+◌, List, [], ◌∷◌, ◌++◌, length, Some, None, refl, sym, subst, ap, ◌∙◌, append_assoc, arith}
-use Rattle.std.proofs.lemmas.List.{append-nil, length-append}
+use Rattle.std.proofs.Common.{◌≡◌, ℕ, zero, suc, ◌<◌, ◌+◌, List, [], ◌∷◌, ◌++◌, length, take, Some, None, refl, sym, subst, ap, ◌∙◌, append_assoc, arith}
+use Rattle.std.proofs.lemmas.List.{append-nil, length-append, take-append-le, take_all, take-map}
 use Rattle.fa_capture.specs.declared.capture.Capture.{Capture}
 use Rattle.fa_capture.specs.declared.fault.CaptureFault.{CaptureFault}
 use Rattle.fa_capture.specs.declared.limits.TheConstants.{MAX_MESSAGES}
@@ -18,7 +18,8 @@ use Rattle.fa_ledger.specs.Refusals.{IsNext}
 use Rattle.fa_ledger.proofs.CallerLemmas.{refused_is_first, framing_is_first, good_is_whole}
 use Rattle.fa_watch.specs.Refusals.{IsRefusal}
 use Rattle.fa_watch.specs.declared.message.MessageError.TheVariants.{Refused}
-use Rattle.fa_audit.specs.parts.Protocol.{ShowBoth}
+use Rattle.fa_check.specs.Verdicts.{AreMessagesOf}
+use Rattle.fa_audit.specs.parts.Protocol.{ShowBoth, messages_of}
 use Rattle.fa_audit.specs.parts.Answers.{AreCallsOf}
 use Rattle.fa_capture.proofs.CallerLemmas.{records_length, messages_on}
 
@@ -67,25 +68,47 @@ module _ (capture : Capture) (left rest : List Recorded) (r : Recorded) (next : 
       let read = subst (λ (rs : List Recorded). IsRecording bytes rs capture.fault) (next_there good.rs good.whole) is in
       subst (λ (n : ℕ). IsFirstFault bytes n code) good.many (refused_is_first bytes good.rs rest r capture.fault code read good.both.ledger.good refusal)
 
--- ---- all packets are taken
+-- ---- so many packets are taken, or all
 
--- all messages of the capture are shown
-pub all_shown : (capture : Capture) (left : List Recorded) (at : ℕ) (s : PlainSession) (l : PlainLedger) → IsGoodSoFar capture left at s l → left ≡ [] → ShowBoth (without_times (records_of capture)) s l
-all_shown capture left at s l good none =
-    let all : records_of capture ≡ good.rs = good.whole ∙ ap (λ (xs : List Recorded). good.rs ++ xs) none ∙ append-nil good.rs in
-    subst (λ (rs : List Recorded). ShowBoth (without_times rs) s l) (sym all) good.both
+-- those that were taken are the first so many, once as many were or none is left
+all_taken : (front left : List Recorded) (count : ℕ) → (0 < count → left ≡ []) → take (length front + count) (front ++ left) ≡ front
+all_taken front left zero ends =
+    let many : length front + zero ≡ length front = omega arith in
+    ap (λ (k : ℕ). take k (front ++ left)) many ∙ take-append-le (length front) front left (omega arith) ∙ take_all (length front) front (omega arith)
+all_taken front left (suc n) ends =
+    let none : front ++ left ≡ front = ap (λ (xs : List Recorded). front ++ xs) (ends (omega arith)) ∙ append-nil front in
+    ap (take (length front + suc n)) none ∙ take_all (length front + suc n) front (omega arith)
 
--- a framing fault behind messages that are shown
-pub framing_fault : (bytes : List ℕ) (capture : Capture) (fault : CaptureFault) (s : PlainSession) (l : PlainLedger) → ShowBoth (without_times (records_of capture)) s l → capture.fault ≡ Some fault
+-- the first messages of the capture are shown, once as many were taken or none is left
+pub front_shown : (capture : Capture) (messages : ℕ) (left : List Recorded) (at count : ℕ) (s : PlainSession) (l : PlainLedger)
+    → IsGoodSoFar capture left at s l → at + count ≡ messages → (0 < count → left ≡ []) → ShowBoth (take messages (messages_of capture)) s l
+front_shown capture messages left at count s l good counted ends =
+    let many : messages ≡ length good.rs + count = omega (arith, counted, good.many) in
+    let taken : take messages (records_of capture) ≡ good.rs =
+    ap (take messages) good.whole ∙ ap (λ (k : ℕ). take k (good.rs ++ left)) many ∙ all_taken good.rs left count ends in
+    let same : take messages (messages_of capture) ≡ without_times good.rs = take-map (λ (r : Recorded). r.message) messages (records_of capture) ∙ ap without_times taken in
+    subst (λ (c : List Message). ShowBoth c s l) (sym same) good.both
+
+-- the calls of messages that are shown
+pub calls_of_shown : (c : List Message) (s : PlainSession) (l : PlainLedger) (calls : Calls) → ShowBoth c s l → (calls.messages ≡ length c) × AreCalls c calls.list → AreMessagesOf calls c
+calls_of_shown c s l calls both are = record { good = both.ledger.good; counted = are.0; are = are.1 }
+
+-- ---- all are taken
+
+-- as many first messages as a capture has are all
+pub all_messages : (capture : Capture) (calls : Calls) → AreMessagesOf calls (take capture.messages (messages_of capture)) → AreMessagesOf calls (messages_of capture)
+all_messages capture calls are =
+    subst (AreMessagesOf calls) (take_all capture.messages (messages_of capture) (omega (arith, capture.counted, records_length (records_of capture)))) are
+
+-- a framing fault behind messages that have calls
+pub framing_fault : (bytes : List ℕ) (capture : Capture) (fault : CaptureFault) (calls : Calls) → AreMessagesOf calls (messages_of capture) → capture.fault ≡ Some fault
     → IsCaptureOf bytes capture → IsFirstFault bytes fault.whole fault.code
-framing_fault bytes capture fault s l both told is =
-    framing_is_first bytes (records_of capture) fault (subst (IsRecording bytes (records_of capture)) told is) both.ledger.good
+framing_fault bytes capture fault calls are told is = framing_is_first bytes (records_of capture) fault (subst (IsRecording bytes (records_of capture)) told is) are.good
 
--- a capture whose messages are all shown is good, and has calls
-pub calls_of_good : (bytes : List ℕ) (capture : Capture) (s : PlainSession) (l : PlainLedger) (calls : Calls) → ShowBoth (without_times (records_of capture)) s l → capture.fault ≡ None
-    → (calls.messages ≡ length (without_times (records_of capture))) × AreCalls (without_times (records_of capture)) calls.list → IsCaptureOf bytes capture → AreCallsOf bytes calls
-calls_of_good bytes capture s l calls both whole are is = record {
-  messages = without_times (records_of capture);
-  good = good_is_whole bytes (records_of capture) (subst (IsRecording bytes (records_of capture)) whole is) both.ledger.good;
-  are = record { good = both.ledger.good; counted = are.0; are = are.1 };
+-- a capture whose messages have calls is good, if it has no framing fault
+pub calls_of_good : (bytes : List ℕ) (capture : Capture) (calls : Calls) → AreMessagesOf calls (messages_of capture) → capture.fault ≡ None → IsCaptureOf bytes capture → AreCallsOf bytes calls
+calls_of_good bytes capture calls are whole is = record {
+  messages = messages_of capture;
+  good = good_is_whole bytes (records_of capture) (subst (IsRecording bytes (records_of capture)) whole is) are.good;
+  are = are;
 }

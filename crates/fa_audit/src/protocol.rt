@@ -59,23 +59,29 @@ fn accept<'a>(
 ///
 /// # Errors
 ///
-/// - [`MessageError::Refused`] where one of them does not keep the protocol.
-/// - [`MessageError::Memory`] where memory was refused.
+/// - [`Broken::Fault`] where one of them does not keep the protocol. It is the first fault of the capture.
+/// - [`Broken::Memory`] where memory was refused.
 ///
 /// # Cost
 ///
-/// That of [`good_calls`] for these messages.
+/// One pass, at each message that of [`Session::accept`] and [`Ledger::accept`]; no list of the messages is made.
 pub(crate) fn calls_of_front<'a>(
     alloc: Global,
     capture: &Capture<'a>,
     messages: usize,
-) -> Result<Calls<'a>, MessageError>
-    ensures { IfOk result (λ calls. AreMessagesOf calls (take messages (messages_of capture.now))) }
+) -> Result<Calls<'a>, Broken>
+    ensures calls { IfOk result (λ calls. AreMessagesOf calls (take messages (messages_of capture.now))) }
+    ensures fault { IfErr result (λ broken. (bytes : List ℕ) → IsCaptureOf bytes capture.now → IsCaptureRefused bytes broken) }
 {
     let mut session = Session::new(alloc);
     let mut ledger = Ledger::new(alloc);
+    let mut at = 0;
     for packet in capture.packets().take(messages) {
-        accept(&mut session, &mut ledger, &packet)?;
+        match accept(&mut session, &mut ledger, &packet) {
+            Ok(()) => at += 1,
+            Err(MessageError::Refused(code)) => return Err(Broken::Fault { at, code }),
+            Err(MessageError::Memory) => return Err(Broken::Memory),
+        }
     }
     Ok(ledger.into_calls())
 }
@@ -89,23 +95,14 @@ pub(crate) fn calls_of_front<'a>(
 ///
 /// # Cost
 ///
-/// One pass, at each message that of [`Session::accept`] and [`Ledger::accept`]; no list of the messages is made.
+/// That of [`calls_of_front`] for all messages.
 pub(crate) fn good_calls<'a>(alloc: Global, capture: &Capture<'a>) -> Result<Calls<'a>, Broken>
     ensures good { IfOk result (λ calls. (bytes : List ℕ) → IsCaptureOf bytes capture.now → AreCallsOf bytes calls) }
     ensures fault { IfErr result (λ broken. (bytes : List ℕ) → IsCaptureOf bytes capture.now → IsCaptureRefused bytes broken) }
 {
-    let mut session = Session::new(alloc);
-    let mut ledger = Ledger::new(alloc);
-    let mut at = 0;
-    for packet in capture.packets() {
-        match accept(&mut session, &mut ledger, &packet) {
-            Ok(()) => at += 1,
-            Err(MessageError::Refused(code)) => return Err(Broken::Fault { at, code }),
-            Err(MessageError::Memory) => return Err(Broken::Memory),
-        }
-    }
+    let calls = calls_of_front(alloc, capture, capture.messages as usize)?;
     match capture.fault {
         Some(CaptureFault { whole, code }) => Err(Broken::Fault { at: whole, code }),
-        None => Ok(ledger.into_calls()),
+        None => Ok(calls),
     }
 }

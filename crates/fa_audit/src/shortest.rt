@@ -15,14 +15,13 @@ ghost use Rattle.fa_audit.specs.parts.Protocol.{messages_of};
 ghost use Rattle.fa_audit.specs.parts.Searching.{known_by, IsKnownOf};
 
 use crate::judge::given_tree;
-use crate::protocol::calls_of_front;
+use crate::protocol::{Broken, calls_of_front};
 use crate::searching::found_from;
 use crate::verdict::StartError;
 use fa_capture::Capture;
 use fa_ledger::Calls;
 use fa_search::{Budget, Finding, Listener};
 use fa_tree::Tree;
-use fa_watch::MessageError;
 use std::alloc::{AllocError, Global};
 
 /// How many trees the search of some first messages may hold.
@@ -156,8 +155,8 @@ fn known_of_front<L: Listener>(
     match calls_of_front(alloc, capture, messages as usize) {
         Ok(calls) => known_of_calls(alloc, &calls, first, budget, listener),
         // Of a good capture each message keeps the protocol.
-        Err(MessageError::Refused(_)) => Ok(Known::Nothing),
-        Err(MessageError::Memory) => Err(AllocError),
+        Err(Broken::Fault { .. }) => Ok(Known::Nothing),
+        Err(Broken::Memory) => Err(AllocError),
     }
 }
 
