@@ -5,6 +5,7 @@ ghost use Rattle.std.specs.Option.{option_copied};
 ghost use Rattle.fa_audit_program.specs.CommandLine.{IsCheckOf, IsProposeOf, IsSearchCallOf, IsNoSearchCall, IsCutOf, IsFrontCallOf, IsMigrateCallOf, IsWatchOf, IsShowOf, IsNumberIfAny, IsNoNumber, IsHelpOf, IsCallOf, IsNumberText, IsNoCheck, IsNoPropose, IsNoCutCall, IsNoFrontCall, IsNoMigrateCall, IsNoWatch, IsNoShow, IsNoHelp};
 
 use crate::help_texts;
+use clap::builder::ValueParser;
 use clap::{Arg, ArgAction, ArgMatches, Command, value_parser};
 use fa_capture::limits::MAX_MESSAGES;
 use fa_show::Choice;
@@ -60,6 +61,54 @@ const WHOLE: &str = "whole";
 const SUMMARY: &str = "summary";
 /// The word of which help is asked.
 const TOPIC: &str = "topic";
+
+/// The operations that may be chosen, by their names in `enum fuse_opcode` of `fuse.h` 7.31.
+static OPERATIONS: [&str; 44] = [
+    "LOOKUP",
+    "FORGET",
+    "GETATTR",
+    "SETATTR",
+    "READLINK",
+    "SYMLINK",
+    "MKNOD",
+    "MKDIR",
+    "UNLINK",
+    "RMDIR",
+    "RENAME",
+    "LINK",
+    "OPEN",
+    "READ",
+    "WRITE",
+    "STATFS",
+    "RELEASE",
+    "FSYNC",
+    "SETXATTR",
+    "GETXATTR",
+    "LISTXATTR",
+    "REMOVEXATTR",
+    "FLUSH",
+    "INIT",
+    "OPENDIR",
+    "READDIR",
+    "RELEASEDIR",
+    "FSYNCDIR",
+    "GETLK",
+    "SETLK",
+    "SETLKW",
+    "ACCESS",
+    "CREATE",
+    "INTERRUPT",
+    "BMAP",
+    "DESTROY",
+    "IOCTL",
+    "POLL",
+    "BATCH_FORGET",
+    "FALLOCATE",
+    "READDIRPLUS",
+    "RENAME2",
+    "LSEEK",
+    "COPY_FILE_RANGE",
+];
 
 /// The name of the program, in its own texts.
 pub const PROGRAM: &str = "fa_audit";
@@ -542,11 +591,8 @@ fn show_choices<'a>(alloc: Global, shown: Command<'a>) -> Result<Command<'a>, Al
             "NAME",
             "Messages with this name, as it is printed between quotes",
         ))?
-        .arg(value_option(
-            alloc,
-            OPERATION,
-            "OP",
-            "Messages of this operation, as LOOKUP",
+        .arg(value_option(alloc, OPERATION, "OP", "Messages of this operation").value_parser(
+            ValueParser::Names(&OPERATIONS),
         ))
 }
 
