@@ -6,7 +6,7 @@ usage: .ci/words.py [PROGRAM]
 PROGRAM is crates/fa_audit_program/out/fa_audit_program of this repository unless it is named. What `help CODE` prints of each code of
 crates/fa_capture/src/codes.rt has to be what the rows of the code say in docs/formats.md, in printing ASCII. The commands that `--help`
 prints, with the options that the help of each prints, have to be those of the synopsis of man/fa_audit.1 and of completions/fa_audit.bash,
-and docs/using.md has to name them. Each difference is printed; the last line is 'N passed, M failed', and the status is 1 where
+and docs/using.md has to name them. The operations that `show` takes and that are completed have to be those that it shows. Each difference is printed; the last line is 'N passed, M failed', and the status is 1 where
 something differs.
 """
 import os
@@ -141,9 +141,18 @@ def word_faults(program):
         yield None if found == wanted else f"{name} and the program differ: {found} and {wanted}"
 
 
+def operation_faults(program):
+    """What differs of the operations that `show` shows, takes by --operation, and has completed."""
+    table = re.search(r"static OPERATIONS: .*?\[\n(.*?)\];", read("crates", "fa_show", "src", "words.rt"), re.S)[1]
+    wanted = set(re.findall(r'"(\w+)"', table))
+    taken = re.search(r"--operation .*?\[possible values: (.*?)\]", printed(program, "show", "--help")[0], re.S)[1]
+    for name, found in ("show --help", set(re.findall(r"\w+", taken))), ("completions/fa_audit.bash", completed("show", "--operation", "")):
+        yield None if found == wanted else f"the operations of {name} and of fa_show differ: {found ^ wanted}"
+
+
 def main():
     program = os.path.abspath(sys.argv[1]) if len(sys.argv) > 1 else PROGRAM
-    results = [*code_faults(program), *word_faults(program)]
+    results = [*code_faults(program), *word_faults(program), *operation_faults(program)]
     faults = [fault for fault in results if fault]
     for fault in faults:
         print(fault)
