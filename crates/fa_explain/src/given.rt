@@ -46,7 +46,7 @@ impl<'a> Given<'a> {
 /// The node that an entry of a READDIRPLUS gives, if any: the entries `.` and `..` give none.
 ///
 /// Takes no memory, in constant time.
-pub fn node_listed(dirent: &Dirent<'_>) -> Option<u64> {
+pub(crate) fn node_listed(dirent: &Dirent<'_>) -> Option<u64> {
     let entry = dirent.entry.as_ref()?;
     if dirent.name == b".".as_slice() || dirent.name == b"..".as_slice() || entry.nodeid == 0 {
         return None;

@@ -30,5 +30,4 @@ mod texts;
 pub use advice::{Advice, advice_of, look_at};
 pub use citing::{asked_before, cite};
 pub use explaining::fault_reasons;
-pub use given::node_listed;
 pub use texts::{order_text_reasons, tree_text_reasons};

@@ -32,20 +32,20 @@ pub(crate) fn is_of_entries(fault: &Fault<'_>, exchange: Option<Exchange<'_>>) -
     let (Some(told), Some(exchange)) = (message_in(&fault.packet), exchange) else {
         return false;
     };
-    match exchange.request() {
-        Some(asked) => told.error == 0 && told.behind.len() <= listed_at_most(&asked),
-        None => false,
-    }
+    let Some(most) = exchange.request().and_then(|asked| listed_at_most(&asked)) else {
+        return false;
+    };
+    told.error == 0 && told.behind.len() <= most
 }
 
 /// How many bytes a request asks for, if it lists.
-fn listed_at_most(asked: &Asked<'_>) -> usize {
+fn listed_at_most(asked: &Asked<'_>) -> Option<usize> {
     match &asked.request {
         Ok(request) => match &request.body {
-            RequestBody::Readdir(read) | RequestBody::Readdirplus(read) => read.size as usize,
-            _ => 0,
+            RequestBody::Readdir(read) | RequestBody::Readdirplus(read) => Some(read.size as usize),
+            _ => None,
         },
-        Err(_) => 0,
+        Err(_) => None,
     }
 }
 
