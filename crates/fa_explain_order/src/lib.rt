@@ -23,5 +23,5 @@ mod stepping;
 mod unmet;
 mod wording;
 
-pub use no_order::{Coming, gave_up_reasons, no_order_reasons};
+pub use no_order::{Coming, NoOrderReasons, gave_up_reasons, no_order_reasons};
 pub use ordering::order_reasons;

@@ -50,7 +50,16 @@ pub struct Coming<'a> {
     pub trees: usize,
 }
 
-/// Why no order goes past a reply: the lines behind the lines of a verdict that says so.
+/// Why no order goes past a reply.
+#[derive(Drop)]
+pub struct NoOrderReasons {
+    /// The lines behind the lines of a verdict that says so.
+    pub text: Text,
+    /// The place of the order that leads to the tree of which is told first, if there is one.
+    pub order: Option<usize>,
+}
+
+/// Why no order goes past a reply: the lines behind the lines of a verdict that says so, and which order leads to the first tree in them.
 ///
 /// The calls are those of the capture, and `at` is the number of the reply. They say what its request asks for and what it was answered,
 /// which rule the answer breaks, which requests were not answered yet, and of each tree that is told by an order what differs there, those
@@ -63,7 +72,8 @@ pub struct Coming<'a> {
 ///
 /// # Cost
 ///
-/// For each order that of [`order_reasons`](crate::order_reasons) on it. Memory for two copies of the tree, and 32 KiB an order.
+/// For each order that of [`order_reasons`](crate::order_reasons) on it, and for each two of them a look through the lines of both. Memory
+/// for two copies of the tree, and 32 KiB an order.
 pub fn no_order_reasons(
     alloc: Global,
     capture: &Capture<'_>,
@@ -71,10 +81,10 @@ pub fn no_order_reasons(
     first: &Tree,
     coming: &Coming<'_>,
     at: u32,
-) -> Result<Text, AllocError> {
+) -> Result<NoOrderReasons, AllocError> {
     let mut text = Text::new(alloc, ROOM, false)?;
     let Some(case) = answered_by(calls, at) else {
-        return Ok(text);
+        return Ok(NoOrderReasons { text, order: None });
     };
     exchange(alloc, &mut text, capture, &case)?;
     let reasons = Reasons::of(alloc, calls, first, coming, case.call.asked)?;
@@ -83,7 +93,8 @@ pub fn no_order_reasons(
     trees_line(&mut text, coming, at);
     reasons.tree_lines(&mut text, calls, coming);
     reasons.look_at(&mut text, &case);
-    Ok(text)
+    let order = reasons.least().map(|least| least.order);
+    Ok(NoOrderReasons { text, order })
 }
 
 /// What is known where a search gave up at a message: the line behind the line of a verdict that says so.
@@ -158,7 +169,8 @@ fn trees_line(text: &mut Text, coming: &Coming<'_>, at: u32) {
         text.word(", and each refuses this one");
     }
     if coming.orders.len() < coming.trees {
-        text.field("; of these were looked at ", coming.orders.len() as u64);
+        text.field("; ", coming.orders.len() as u64);
+        text.word(" of them were looked at");
     }
     text.end_line();
 }
@@ -293,7 +305,7 @@ impl Reasons {
         Ok(Reasons { list })
     }
 
-    /// One with the least code.
+    /// The first of those with the least code.
     fn least(&self) -> Option<&Reason> {
         self.list.iter().min_by_key(|reason| reason.code)
     }
