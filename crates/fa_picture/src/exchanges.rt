@@ -1,0 +1,153 @@
+//! Which message answers which.
+
+use crate::fault::Fault;
+use fa_bodies::{Request, opcodes};
+use fa_capture::{Capture, Direction, Packet};
+use fa_show::{Fate, Line, message_in, request_in};
+use indexmap::IndexMap;
+use std::alloc::{AllocError, Global};
+
+/// Of each message of a capture the one that goes with it.
+#[derive(Drop)]
+pub struct Exchanges {
+    /// By the numbers of messages: of a request its reply, of a reply its request.
+    partners: Vec<Option<u32>>,
+    fault: Fault,
+}
+
+impl Exchanges {
+    /// Which messages of a capture go together: a message of the server goes with the request that waits for its answer with the same
+    /// unique (`struct fuse_out_header` of `fuse.h`), and that one waits no longer.
+    ///
+    /// In a capture that keeps the protocol these are the replies with their requests. The message at fault is left out of what follows:
+    /// a request that is refused waits for no answer, and behind a reply that is refused its request waits on.
+    ///
+    /// # Errors
+    ///
+    /// [`AllocError`] where memory was refused.
+    ///
+    /// # Cost
+    ///
+    /// Expected the time of [`request_in`] for each message. Eight bytes for each, and an entry for each of the most requests that wait at
+    /// once.
+    pub fn of(alloc: Global, capture: &Capture<'_>, fault: Fault) -> Result<Exchanges, AllocError> {
+        let mut exchanges = Exchanges {
+            partners: Vec::new(alloc),
+            fault,
+        };
+        let mut waiting = IndexMap::new(alloc);
+        for packet in capture.packets() {
+            match packet.direction {
+                Direction::ToServer => exchanges.ask(&packet, &mut waiting)?,
+                Direction::FromServer => exchanges.answer(&packet, &mut waiting)?,
+            }
+        }
+        Ok(exchanges)
+    }
+
+    /// Takes in a request.
+    fn ask(
+        &mut self,
+        packet: &Packet<'_>,
+        waiting: &mut IndexMap<u64, u32>,
+    ) -> Result<(), AllocError> {
+        let number = self.begin(None)?;
+        if self.fault.refusal(number).is_some() {
+            return Ok(());
+        }
+        if let Some(unique) = unique_to_answer(packet) {
+            waiting.insert(unique, number)?;
+        }
+        Ok(())
+    }
+
+    /// Takes in a message of the server.
+    fn answer(
+        &mut self,
+        packet: &Packet<'_>,
+        waiting: &mut IndexMap<u64, u32>,
+    ) -> Result<(), AllocError> {
+        let Some(told) = message_in(packet) else {
+            self.begin(None)?;
+            return Ok(());
+        };
+        let asked = waiting.get(&told.unique).copied();
+        let number = self.begin(asked)?;
+        let Some(asked) = asked else {
+            return Ok(());
+        };
+        if let Some(partner) = self.partners.get_mut(asked as usize) {
+            *partner = Some(number);
+        }
+        if self.fault.refusal(number).is_none() {
+            let _ = waiting.swap_remove(&told.unique);
+        }
+        Ok(())
+    }
+
+    /// Takes in the next message, with the one that goes with it: its number.
+    fn begin(&mut self, partner: Option<u32>) -> Result<u32, AllocError> {
+        let number = u32::try_from(self.partners.len()).map_err(|_| AllocError)?;
+        self.partners.push(partner)?;
+        Ok(number)
+    }
+
+    /// The number of the message that goes with the one of this number, if there is one: of a request its reply, or the last that was
+    /// refused; of a reply its request.
+    ///
+    /// Takes no memory, in constant time.
+    pub fn partner(&self, number: u32) -> Option<u32> {
+        *self.partners.get(number as usize)?
+    }
+
+    /// Whether a request of this number that has no reply is taken to wait for one: not where it is refused, or is an INTERRUPT, which a
+    /// server need not answer.
+    ///
+    /// Takes no memory, in constant time.
+    pub(crate) fn waits(&self, number: u32, request: &Request<'_>) -> bool {
+        let is_due = request.body.may_be_answered() && request.opcode != opcodes::INTERRUPT;
+        is_due && self.fault.refusal(number).is_none()
+    }
+
+    /// The number of the request that ends with the message of this number, if it is the reply to one, and none came behind it.
+    ///
+    /// Takes no memory, in constant time.
+    pub fn ended_by(&self, number: u32) -> Option<u32> {
+        let asked = self.partner(number)?;
+        if self.partner(asked) == Some(number) {
+            Some(asked)
+        } else {
+            None
+        }
+    }
+
+    /// The line of a message, to be written as [`show`](fa_show::show) does: that of this number, with the request that it answers if it
+    /// is a reply.
+    ///
+    /// Takes no memory, in constant time.
+    pub fn line<'a>(
+        &self,
+        number: u32,
+        packet: Packet<'a>,
+        answered: Option<(u32, Packet<'a>)>,
+    ) -> Line<'a> {
+        Line {
+            number,
+            packet,
+            fate: Fate {
+                partner: self.partner(number),
+                code: self.fault.refusal(number),
+            },
+            partner: answered,
+        }
+    }
+}
+
+/// The unique with which a message is a request that may be answered, if it is one.
+fn unique_to_answer(packet: &Packet<'_>) -> Option<u64> {
+    let asked = request_in(packet)?;
+    match &asked.request {
+        Ok(request) if request.body.may_be_answered() => Some(request.unique),
+        _ => None,
+    }
+}

@@ -1,0 +1,231 @@
+//! What the looks of a picture mean.
+
+use crate::fault::Fault;
+use crate::layout::{MARK_HEIGHT, SIDE, WIDTH};
+use crate::scene::Scene;
+use crate::shapes::{Anchor, Area, rectangle, words};
+use fa_show::Text;
+
+/// How a bar may look.
+#[derive(Clone, Copy, PartialEq, Eq)]
+enum Look {
+    Leaves,
+    MayChange,
+    Apart,
+    Error,
+    Unanswered,
+    AtFault,
+}
+
+/// All looks, as they are explained.
+static LOOKS: [Look; 6] = [
+    Look::Leaves,
+    Look::MayChange,
+    Look::Apart,
+    Look::Error,
+    Look::Unanswered,
+    Look::AtFault,
+];
+
+impl Look {
+    /// The classes of the style sheet.
+    fn classes(self) -> &'static str {
+        match self {
+            Look::Leaves => "read",
+            Look::MayChange => "change",
+            Look::Apart => "other",
+            Look::Error => "read error",
+            Look::Unanswered => "read never",
+            Look::AtFault => "bad",
+        }
+    }
+
+    /// What it means.
+    fn meaning(self) -> &'static str {
+        match self {
+            Look::Leaves => "leaves the tree",
+            Look::MayChange => "may change it",
+            Look::Apart => "does not act on it",
+            Look::Error => "answered by an error",
+            Look::Unanswered => "never answered",
+            Look::AtFault => "at fault",
+        }
+    }
+
+    /// How wide its sample and its words are.
+    fn width(self) -> u64 {
+        width(self.meaning()).saturating_add(SAMPLE.0 + BESIDE + BETWEEN)
+    }
+}
+
+/// What a mark means.
+const MARK: &str = "entry of the order, where it may have taken effect";
+
+/// How wide a letter is.
+const LETTER: u64 = 59;
+
+/// How wide and how high the sample of a look is.
+const SAMPLE: (u64, u64) = (140, 110);
+
+/// How far below the top of a line the sample begins.
+const SAMPLE_TOP: u64 = 30;
+
+/// How round the corners of a sample are.
+const ROUNDING: u64 = 20;
+
+/// How wide the thick edge of a sample is.
+const EDGE: u64 = 40;
+
+/// How wide the sample of a mark is.
+const MARK_WIDTH: u64 = 160;
+
+/// How far below the top of a line the sample of a mark begins, and its number stands.
+const MARK_LINES: (u64, u64) = (20, 125);
+
+/// What is free between a sample and its words.
+const BESIDE: u64 = 50;
+
+/// What is free between words and the next sample.
+const BETWEEN: u64 = 150;
+
+/// How high a line is.
+const LINE: u64 = 180;
+
+/// What is free above and below the lines.
+const FREE: (u64, u64) = (20, 60);
+
+/// How far the words of a line stand below its top.
+const BASELINE: u64 = 130;
+
+/// How wide words are.
+fn width(words: &str) -> u64 {
+    (words.len() as u64).saturating_mul(LETTER)
+}
+
+/// Which looks are explained below a picture.
+#[derive(Clone, Copy)]
+pub(crate) struct Legend {
+    has_unanswered: bool,
+    has_fault: bool,
+    has_order: bool,
+}
+
+impl Legend {
+    /// The looks that a picture has.
+    pub fn of(scene: &Scene<'_>, fault: Fault, has_order: bool) -> Legend {
+        Legend {
+            has_unanswered: scene.has_unanswered(),
+            has_fault: scene.has(fault),
+            has_order,
+        }
+    }
+
+    /// Whether it explains a look.
+    fn explains(self, look: Look) -> bool {
+        match look {
+            Look::Leaves | Look::MayChange | Look::Apart | Look::Error => true,
+            Look::Unanswered => self.has_unanswered,
+            Look::AtFault => self.has_fault,
+        }
+    }
+
+    /// Where the words on marks begin, on the line of the looks.
+    fn end_of_looks(self) -> u64 {
+        let mut end = SIDE;
+        for look in LOOKS {
+            if self.explains(look) {
+                end = end.saturating_add(look.width());
+            }
+        }
+        end
+    }
+
+    /// Whether marks are explained on a line of their own.
+    fn has_two_lines(self) -> bool {
+        self.has_order
+            && self
+                .end_of_looks()
+                .saturating_add(MARK_WIDTH + BESIDE)
+                .saturating_add(width(MARK))
+                > WIDTH - SIDE
+    }
+
+    /// How high it is.
+    pub fn height(self) -> u64 {
+        let lines = if self.has_two_lines() { 2 } else { 1 };
+        FREE.0 + lines * LINE + FREE.1
+    }
+
+    /// Writes it, below this height.
+    pub fn write(self, text: &mut Text, top: u64) {
+        let top = top.saturating_add(FREE.0);
+        let mut left = SIDE;
+        for look in LOOKS {
+            if self.explains(look) {
+                write_look(text, look, left, top);
+                left = left.saturating_add(look.width());
+            }
+        }
+        if !self.has_order {
+            return;
+        }
+        if self.has_two_lines() {
+            write_mark(text, SIDE, top.saturating_add(LINE));
+        } else {
+            write_mark(text, left, top);
+        }
+    }
+}
+
+/// Writes a sample of a look, and what it means.
+fn write_look(text: &mut Text, look: Look, left: u64, top: u64) {
+    let mut area = Area {
+        x: left,
+        y: top.saturating_add(SAMPLE_TOP),
+        width: SAMPLE.0,
+        height: SAMPLE.1,
+    };
+    rectangle(text, look.classes(), &area, ROUNDING);
+    if look == Look::MayChange {
+        area.width = EDGE;
+        rectangle(text, "edge", &area, 0);
+    }
+    explain(
+        text,
+        left.saturating_add(SAMPLE.0 + BESIDE),
+        top,
+        look.meaning(),
+    );
+}
+
+/// Writes a mark, and what it means.
+fn write_mark(text: &mut Text, left: u64, top: u64) {
+    let area = Area {
+        x: left,
+        y: top.saturating_add(MARK_LINES.0),
+        width: MARK_WIDTH,
+        height: MARK_HEIGHT,
+    };
+    rectangle(text, "mark", &area, MARK_HEIGHT / 2);
+    words(
+        text,
+        "marked",
+        left.saturating_add(MARK_WIDTH / 2),
+        top.saturating_add(MARK_LINES.1),
+        Anchor::Start,
+        b"7",
+    );
+    explain(text, left.saturating_add(MARK_WIDTH + BESIDE), top, MARK);
+}
+
+/// Writes what a sample means.
+fn explain(text: &mut Text, left: u64, top: u64, meaning: &str) {
+    words(
+        text,
+        "s",
+        left,
+        top.saturating_add(BASELINE),
+        Anchor::Start,
+        meaning.as_bytes(),
+    );
+}

@@ -1,0 +1,84 @@
+//! Where an order places a request.
+
+ghost use Rattle.std.specs.Prelude.{◌≤◌, ◌<◌};
+
+use crate::layout::COLUMN;
+
+/// Which part of what is between two messages an entry of an order has.
+#[derive(Clone, Copy)]
+pub(crate) struct Share {
+    /// Its place among the entries that are there too, from 1 on.
+    pub place: u32,
+    /// How many entries are there.
+    pub entries: u32,
+    pub ghost among: { place ≤ entries },
+}
+
+impl Share {
+    /// The part of the entry of this number, which is placed behind a message: one of as many as are. `moments` has, for each entry, the
+    /// message behind which it is placed.
+    pub fn of(moments: &[u32], entry: u32, behind: u32) -> Share {
+        let before = moments.partition_point(|moment| *moment < behind);
+        let up_to = moments.partition_point(|moment| *moment <= behind);
+        let place = (entry as usize).saturating_sub(before).saturating_add(1);
+        let entries = up_to.saturating_sub(before).max(place);
+        Share {
+            place: u32::try_from(place).unwrap_or(u32::MAX),
+            entries: u32::try_from(entries).unwrap_or(u32::MAX),
+        }
+    }
+
+    /// How far behind the middle of the message's column it is, of the width of a column: rounded to the nearest.
+    fn length(&self) -> u64
+        ensures { result ≤ COLUMN }
+    {
+        let parts = u64::from(self.entries) + 1;
+        (u64::from(self.place) * COLUMN + parts / 2) / parts
+    }
+}
+
+/// The place in the picture at which a request may have taken effect: behind a message, before the next one.
+#[derive(Clone, Copy)]
+pub(crate) struct Mark {
+    /// The number of the request.
+    pub asked: u32,
+    /// The number of the message with which its bar ends.
+    pub ends: u32,
+    /// The number of the message behind which it is.
+    pub behind: u32,
+    /// Which part of what is between that message and the next one it has.
+    pub share: Share,
+    pub ghost not_before: { asked ≤ behind },
+    pub ghost not_after: { behind < ends },
+}
+
+impl Mark {
+    ghost use Rattle.fa_picture.specs.Columns.{column_middle};
+
+    /// The mark of a request, whose bar ends with a message, behind this message, if that is between them.
+    pub fn between(asked: u32, ends: u32, behind: u32, share: Share) -> Option<Mark> {
+        if behind < asked || behind >= ends {
+            return None;
+        }
+        Some(Mark {
+            asked,
+            ends,
+            behind,
+            share,
+        })
+    }
+
+    /// Where its middle is on the axis of messages, on which the column of the message `n` begins at `n` widths of a column: between the
+    /// request and its answer, of which each is in the middle of its column.
+    pub fn middle(&self) -> u64
+        ensures after_request { column_middle self.now.asked ≤ result }
+        ensures before_answer { result ≤ column_middle self.now.ends }
+    {
+        u64::from(self.behind) * COLUMN + COLUMN / 2 + self.share.length()
+    }
+
+    /// The number of the column in which its middle is.
+    pub fn column(&self) -> u64 {
+        self.middle() / COLUMN
+    }
+}

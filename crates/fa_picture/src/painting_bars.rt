@@ -1,0 +1,282 @@
+//! Bars, as they are drawn.
+
+ghost use Rattle.std.specs.Prelude.{◌≤◌};
+
+use crate::band::{Band, Extent};
+use crate::bars::Bar;
+use crate::escape::write_content;
+use crate::fitting::{Letters, write_fitted};
+use crate::layout::{
+    BAR, CODE_LINE, CODE_ROOM, DIGIT_HALF, MARK_HALF, MARK_HEIGHT, MARK_LINES, PADDING, SIDE,
+    WIDTH, WORD_LINES,
+};
+use crate::look::Look;
+use crate::mark::Mark;
+use crate::painting::Facts;
+use crate::painting_diamonds::paint_code;
+use crate::shapes::{
+    Anchor, Area, Stroke, close_line, close_rectangle, close_text, measure, open_group, open_text,
+    rectangle, words as write_words,
+};
+use crate::words::Words;
+use fa_show::Text;
+
+/// How wide the thick edge of a bar is.
+const EDGE: u64 = 40;
+
+/// How wide a letter of an operation is that is not squeezed.
+const OPERATION_LETTER: u64 = 77;
+
+/// How wide one is that is squeezed, at least.
+const SQUEEZED_LETTER: u64 = 50;
+
+/// How wide a letter of other words is.
+const LETTER: u64 = 62;
+
+/// How wide a letter of an error is.
+const ERROR_LETTER: u64 = 74;
+
+/// In more room than this an operation is squeezed.
+const LEAST_SQUEEZED: u64 = 200;
+
+/// In more room than this words stand beside an answer.
+const LEAST_BESIDE: u64 = 240;
+
+/// What is free between words and an answer beside them.
+const BETWEEN: u64 = 60;
+
+/// What a bar has inside for words.
+#[derive(Clone, Copy)]
+struct Inside {
+    left: u64,
+    right: u64,
+    top: u64,
+}
+
+impl Inside {
+    /// The room for words in a bar.
+    fn of(extent: &Extent, look: &Look, top: u64) -> Inside {
+        let edge = if look.has_edge() { EDGE / 2 } else { 0 };
+        Inside {
+            left: extent.left.saturating_add(edge).saturating_add(PADDING),
+            right: extent.right.saturating_sub(PADDING),
+            top,
+        }
+    }
+
+    /// How wide it is.
+    fn room(self) -> u64 {
+        self.right.saturating_sub(self.left)
+    }
+
+    /// Where the words of the first line stand.
+    fn first_line(self) -> u64 {
+        self.top.saturating_add(WORD_LINES.0)
+    }
+
+    /// Where those of the second line stand.
+    fn second_line(self) -> u64 {
+        self.top.saturating_add(WORD_LINES.1)
+    }
+}
+
+/// How wide words are, of letters of this width.
+fn width(words: &Text, letter: u64) -> u64 {
+    (words.len() as u64).saturating_mul(letter)
+}
+
+/// Writes what a bar has in a band, in a lane that begins there.
+pub(crate) fn paint_bar(
+    text: &mut Text,
+    words: &mut Words,
+    facts: Facts<'_>,
+    bar: &Bar<'_>,
+    band: &Band,
+    top: u64,
+) {
+    if !band.meets(bar.begins, bar.ends) {
+        return;
+    }
+    let look = Look::of(bar, band, facts.fault);
+    let extent = band.extent(bar.begins, bar.ends);
+    let inside = Inside::of(&extent, &look, top);
+    words.take_bar(facts.exchanges, bar, &look);
+    open_group(text, look.class);
+    write_content(text, words.title_lines());
+    text.word("</title>");
+    paint_body(text, &look, &extent, top);
+    paint_operation(text, words, bar, &look, inside);
+    paint_objects(text, words, bar, &look, inside);
+    if let Some(mark) = &bar.mark {
+        paint_mark(text, bar, mark, band, top);
+    }
+    if look.is_at_fault {
+        let left = inside.left.min(WIDTH - CODE_ROOM);
+        paint_code(
+            text,
+            facts,
+            left,
+            top.saturating_add(CODE_LINE),
+            Anchor::Start,
+        );
+    }
+    text.word("</g>");
+}
+
+/// Writes the rectangle of a bar, with lines at all sides but the open ones.
+fn paint_body(text: &mut Text, look: &Look, extent: &Extent, top: u64) {
+    let area = Area {
+        x: extent.left,
+        y: top,
+        width: extent.right.saturating_sub(extent.left),
+        height: BAR,
+    };
+    look.open(text, "rect");
+    if look.is_open() {
+        text.word(" open");
+    }
+    text.word("\"");
+    close_rectangle(text, &area, look.rounding());
+    if look.is_open() {
+        paint_sides(text, look, extent, top);
+    }
+    if look.has_edge() {
+        let edge = Area {
+            width: EDGE,
+            ..area
+        };
+        rectangle(text, "edge", &edge, look.rounding() / 2);
+    }
+}
+
+/// Writes the lines of a bar with open ends.
+fn paint_sides(text: &mut Text, look: &Look, extent: &Extent, top: u64) {
+    let bottom = top.saturating_add(BAR);
+    let (left, right) = (extent.left, extent.right);
+    paint_side(text, look, (left, top), (right, top));
+    paint_side(text, look, (left, bottom), (right, bottom));
+    if !look.is_begun {
+        paint_side(text, look, (left, top), (left, bottom));
+    }
+    if !look.goes_on {
+        paint_side(text, look, (right, top), (right, bottom));
+    }
+}
+
+/// Writes a line of a bar.
+fn paint_side(text: &mut Text, look: &Look, from: (u64, u64), to: (u64, u64)) {
+    look.open(text, "line");
+    text.word("\"");
+    close_line(text, &Stroke { from, to });
+}
+
+/// Writes the operation, squeezed where it fits so alone. Where not even this one is shown, but the number of a request in a band before
+/// is.
+fn paint_operation(text: &mut Text, words: &mut Words, bar: &Bar<'_>, look: &Look, inside: Inside) {
+    let room = inside.room();
+    let squeezes = width(&words.operation, OPERATION_LETTER) > room && room > LEAST_SQUEEZED;
+    let is_cut = width(&words.operation, SQUEEZED_LETTER) > room;
+    if is_cut && look.is_begun {
+        words.take_number(bar.begins);
+    }
+    text.word("<text class=\"op in\"");
+    measure(text, "x", inside.left);
+    measure(text, "y", inside.first_line());
+    if squeezes && !is_cut {
+        measure(text, "textLength", room);
+        text.word(" lengthAdjust=\"spacingAndGlyphs\"");
+    }
+    text.word(">");
+    if is_cut && !look.is_begun {
+        write_fitted(text, words.operation.as_bytes(), room, Letters::Bold);
+    } else {
+        write_content(text, words.operation.as_bytes());
+    }
+    close_text(text);
+}
+
+/// Writes what a request acts on, and at the right what came of it, where there is room for both; else the error, if it is one.
+fn paint_objects(text: &mut Text, words: &mut Words, bar: &Bar<'_>, look: &Look, inside: Inside) {
+    let room = inside.room();
+    let letter = if look.is_error { ERROR_LETTER } else { LETTER };
+    let beside = room
+        .saturating_sub(width(&words.result, letter))
+        .saturating_sub(BETWEEN);
+    if words.result.len() == 0 || look.goes_on {
+        return paint_fitted(text, "in", words.objects.as_bytes(), inside, room);
+    }
+    if beside > LEAST_BESIDE || words.objects.len() == 0 {
+        paint_result(text, words, look, inside);
+        if width(&words.objects, LETTER) > beside {
+            words.take_node(&bar.request);
+        }
+        paint_fitted(text, "in", words.objects.as_bytes(), inside, beside);
+    } else if look.is_error {
+        paint_fitted(text, "err in", words.result.as_bytes(), inside, room);
+    } else {
+        paint_fitted(text, "in", words.objects.as_bytes(), inside, room);
+    }
+}
+
+/// Writes what came of a request, at the right.
+fn paint_result(text: &mut Text, words: &Words, look: &Look, inside: Inside) {
+    let class = if look.is_error { "err in" } else { "s in" };
+    open_text(text, class, inside.right, inside.second_line(), Anchor::End);
+    write_fitted(text, words.result.as_bytes(), inside.room(), Letters::Small);
+    close_text(text);
+}
+
+/// Writes words in the second line, at the left, if there are any.
+fn paint_fitted(text: &mut Text, class: &str, words: &[u8], inside: Inside, room: u64) {
+    if words.is_empty() {
+        return;
+    }
+    open_text(
+        text,
+        class,
+        inside.left,
+        inside.second_line(),
+        Anchor::Start,
+    );
+    write_fitted(text, words, room, Letters::Small);
+    close_text(text);
+}
+
+/// Writes where the order places a request, with the place of its entry, if that is in the band.
+fn paint_mark(text: &mut Text, bar: &Bar<'_>, mark: &Mark, band: &Band, top: u64) {
+    let Some(entry) = bar.entry else {
+        return;
+    };
+    let Some(middle) = band.place_of(mark) else {
+        return;
+    };
+    let half = MARK_HALF + DIGIT_HALF * digits(entry);
+    let x = middle.max(SIDE + half).min(WIDTH - SIDE - half);
+    let area = Area {
+        x: x.saturating_sub(half),
+        y: top.saturating_add(MARK_LINES.0),
+        width: 2 * half,
+        height: MARK_HEIGHT,
+    };
+    rectangle(text, "mark", &area, MARK_HEIGHT / 2);
+    open_text(
+        text,
+        "marked",
+        x,
+        top.saturating_add(MARK_LINES.1),
+        Anchor::Start,
+    );
+    text.number(u64::from(entry));
+    close_text(text);
+}
+
+/// How many digits a number has.
+fn digits(number: u32) -> u64
+    ensures { result ≤ 10 }
+{
+    match number.checked_ilog10() {
+        // A number of 32 bits has ten at most.
+        Some(log) => u64::from(log.min(9)) + 1,
+        None => 1,
+    }
+}

@@ -1,0 +1,129 @@
+//! Which messages the page has.
+
+use fa_capture::{Capture, Packet};
+use fa_order::Entry;
+use fa_picture::{Exchanges, Subject, View, centre};
+use std::alloc::{AllocError, Global};
+
+/// A message of the table.
+#[derive(Clone, Copy)]
+pub(crate) struct Row<'a> {
+    /// Its number.
+    pub number: u32,
+    pub packet: Packet<'a>,
+    /// The place of its entry in the order, if it stands before what is at fault.
+    pub entry: Option<u32>,
+}
+
+/// The messages of the table, by rising numbers.
+#[derive(Drop)]
+pub(crate) struct Table<'a> {
+    pub rows: Vec<Row<'a>>,
+}
+
+impl<'a> Table<'a> {
+    /// So many messages around the one that the view says, as in a picture; and others that are named, each with the one that goes with it.
+    pub fn of(
+        alloc: Global,
+        subject: &Subject<'a, '_>,
+        exchanges: &Exchanges,
+        named: &[u32],
+        view: View,
+    ) -> Result<Table<'a>, AllocError> {
+        let numbers = numbers(alloc, subject, exchanges, named, view)?;
+        let mut table = Table {
+            rows: Vec::new(alloc),
+        };
+        table.take_messages(&subject.capture, &numbers)?;
+        table.take_order(subject.fault.entries_before(subject.order));
+        Ok(table)
+    }
+
+    /// Takes in the messages of these numbers, which rise.
+    fn take_messages(&mut self, capture: &Capture<'a>, numbers: &[u32]) -> Result<(), AllocError> {
+        let mut left = numbers.iter();
+        let mut next = left.next().copied();
+        let mut number: u32 = 0;
+        for packet in capture.packets() {
+            if next == Some(number) {
+                self.rows.push(Row {
+                    number,
+                    packet,
+                    entry: None,
+                })?;
+                next = left.next().copied();
+            }
+            number = number.saturating_add(1);
+        }
+        Ok(())
+    }
+
+    /// Takes in the entries of an order.
+    fn take_order(&mut self, order: &[Entry]) {
+        let mut place: u32 = 0;
+        for entry in order {
+            let at = self.rows.partition_point(|row| row.number < entry.at);
+            match self.rows.get_mut(at) {
+                Some(row) if row.number == entry.at => row.entry = Some(place),
+                _ => {}
+            }
+            place = place.saturating_add(1);
+        }
+    }
+
+    /// The row of the message of this number, if it is there.
+    pub fn row(&self, number: u32) -> Option<&Row<'a>> {
+        let at = self.rows.partition_point(|row| row.number < number);
+        let row = self.rows.get(at)?;
+        if row.number == number {
+            Some(row)
+        } else {
+            None
+        }
+    }
+
+    /// Whether the message of this number is there.
+    pub fn has(&self, number: u32) -> bool {
+        self.row(number).is_some()
+    }
+}
+
+/// The numbers of the messages that the table has, each once, rising.
+fn numbers(
+    alloc: Global,
+    subject: &Subject<'_, '_>,
+    exchanges: &Exchanges,
+    named: &[u32],
+    view: View,
+) -> Result<Vec<u32>, AllocError> {
+    let count = subject.capture.messages;
+    let most = view.messages.max(1);
+    let first = centre(subject, exchanges, view)
+        .saturating_sub(most / 2)
+        .min(count.saturating_sub(most));
+    let mut numbers = Vec::new(alloc);
+    for number in first..count.min(first.saturating_add(most)) {
+        take_exchange(&mut numbers, exchanges, number)?;
+    }
+    for number in named {
+        if *number < count {
+            take_exchange(&mut numbers, exchanges, *number)?;
+        }
+    }
+    numbers.sort_unstable();
+    numbers.dedup();
+    Ok(numbers)
+}
+
+/// Takes in the number of a message, and that of the one that goes with it.
+fn take_exchange(
+    numbers: &mut Vec<u32>,
+    exchanges: &Exchanges,
+    number: u32,
+) -> Result<(), AllocError> {
+    numbers.push(number)?;
+    if let Some(partner) = exchanges.partner(number) {
+        numbers.push(partner)?;
+    }
+    Ok(())
+}
