@@ -15,3 +15,5 @@ pub mod CutOrderLemmas
 pub mod TimeLemmas
 pub mod SeenLemmas
 pub mod ShortestLemmas
+pub mod ExplainedLemmas
+pub mod PageLemmas

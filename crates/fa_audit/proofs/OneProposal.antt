@@ -20,11 +20,11 @@ use Rattle.fa_audit.proofs.OneAnswer.{one_first_fault, good_no_fault, one_good_c
 -- ---- a start and its faults exclude one another
 
 -- where there is a start, the capture has no fault
-start_no_fault : (capture : List ℕ) (tree : Option (List ℕ)) (at code : ℕ) → IsStart capture tree → IsFirstFault capture at code → ⊥
+pub start_no_fault : (capture : List ℕ) (tree : Option (List ℕ)) (at code : ℕ) → IsStart capture tree → IsFirstFault capture at code → ⊥
 start_no_fault capture tree at code start fault = good_no_fault one_reading capture start.messages at code start.good fault
 
 -- nor has the tree text
-start_no_tree_fault : (capture : List ℕ) (tree : Option (List ℕ)) (line : ℕ) → IsStart capture tree → IsTreeTextAtFault capture tree line → ⊥
+pub start_no_tree_fault : (capture : List ℕ) (tree : Option (List ℕ)) (line : ℕ) → IsStart capture tree → IsTreeTextAtFault capture tree line → ⊥
 start_no_tree_fault capture tree line start fault = given_no_fault tree start.first capture line start.given fault
 
 -- an order that is proposed has a start

@@ -18,6 +18,10 @@ pub mod Migrated
 -- what a run writes that watches a stream, and one that shows messages
 pub mod Watching
 pub mod Showing
+-- what is answered where reasons are asked for, and what a run writes of it
+pub mod Explained
+-- what a run writes that draws a capture, or reports on it
+pub mod Pages
 -- the statements of the laws
 pub mod Laws
 -- the vocabulary of private contracts

@@ -14,7 +14,7 @@ ghost use Rattle.fa_audit.specs.Run.{IfHandedIn, IsHandedIn, IsSomeRead, IsReadI
 ghost use Rattle.fa_audit.specs.declared.running.TheConstants.{MAX_TEXT_INPUT_BYTES};
 ghost use Rattle.fa_audit.specs.Proposed.{IsStart, answer_of};
 ghost use Rattle.fa_audit.specs.Status.{status_number};
-ghost use Rattle.fa_audit.specs.Searched.{IsJudged, IsJudgementTold, IsJudgedFrom, judged_line, judged_status, told_shortest, shortest_part};
+ghost use Rattle.fa_audit.specs.Searched.{IsJudged, IsJudgementTold, IsJudgedFrom, judged_line, judged_lines, judged_status, told_shortest, shortest_part};
 ghost use Rattle.fa_audit.specs.parts.Answers.{IsNoStart};
 ghost use Rattle.fa_audit.specs.parts.Searching.{IsFindingIn, IsJudgedIn};
 
@@ -78,7 +78,7 @@ pub fn judge_capture(
 }
 
 /// What is judged of a capture that was read: where no order is legal, with how many of the first messages alone have none.
-fn judged<L: Listener>(
+pub(crate) fn judged<L: Listener>(
     alloc: Global,
     capture: &Capture<'_>,
     tree: Option<&[u8]>,
@@ -199,8 +199,27 @@ fn shortest_part(alloc: Global, shortest: Option<u32>) -> Result<String, AllocEr
     Ok(line)
 }
 
-/// Writes the line of what is judged and a line feed, and behind `no order` the line of the first messages alone: the status of the
-/// answer.
+/// The lines of what is judged, each with a line feed, and the status of the answer: its line, and behind `no order` the line of the first
+/// messages alone.
+pub(crate) fn judged_lines_and_status(
+    alloc: Global,
+    answer: Result<Judgement, StartError>,
+) -> Result<(String, Status), RunFault>
+    requires coded { IfOk answer IsCodedJudgement }
+    requires coded_fault { IfErr answer (λ error. IfOk (answer_of error) IsCoded) }
+    ensures lines { IfOk result (λ told. string_bytes told.0 ≡ judged_lines answer) }
+    ensures status { IfOk result (λ told. status_number told.1 ≡ judged_status answer) }
+    ensures answered { OnOk result (answer ≢ Err StartError.Memory) }
+    ensures memory { IfErr result (λ fault. fault ≡ RunFault.Memory) }
+{
+    let shortest = shortest_of(&answer);
+    let (mut lines, status) = judged_line_and_status(alloc, answer)?;
+    lines.push('\n')?;
+    lines.push_str(&shortest_part(alloc, shortest)?)?;
+    Ok((lines, status))
+}
+
+/// Writes the lines of what is judged: the status of the answer.
 pub(crate) fn tell_judgement<W: Output>(
     alloc: Global,
     answer: Result<Judgement, StartError>,
@@ -216,10 +235,7 @@ pub(crate) fn tell_judgement<W: Output>(
     ensures read { IsErrOf result RunFault.Read → ⊥ }
     ensures write { IsErrOf result RunFault.Write ↔ (W.is_broken out.new ≡ true) }
 {
-    let shortest = shortest_of(&answer);
-    let (mut lines, status) = judged_line_and_status(alloc, answer)?;
-    lines.push('\n')?;
-    lines.push_str(&shortest_part(alloc, shortest)?)?;
+    let (lines, status) = judged_lines_and_status(alloc, answer)?;
     out.put(lines.as_bytes())?;
     Ok(status.number())
 }

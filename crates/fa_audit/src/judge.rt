@@ -158,7 +158,7 @@ pub(crate) fn start<'a>(
 }
 
 /// The entries of an order text.
-fn entries_of(alloc: Global, order: &[u8]) -> Result<Vec<Entry>, AuditError>
+pub(crate) fn entries_of(alloc: Global, order: &[u8]) -> Result<Vec<Entry>, AuditError>
     requires { length order.now ≤ MAX_TEXT_BYTES }
     ensures text { IfOk result (λ entries. IsOrderText order.now entries.items) }
     ensures refused { IfErr result (IsOrderRefused order.now) }

@@ -57,7 +57,7 @@ pub fn proposal(alloc: Global, capture: &[u8], tree: Option<&[u8]>) -> Result<Ve
 }
 
 /// The text of an order that is proposed for a capture that was read.
-fn proposed(
+pub(crate) fn proposed(
     alloc: Global,
     capture: &Capture<'_>,
     tree: Option<&[u8]>,

@@ -21,8 +21,9 @@ use fa_check::Verdict;
 use std::alloc::{AllocError, AllocFailed, Global};
 use thiserror::Error;
 
-/// How many bytes the input of a capture may have that is read whole before it is looked at, as [`run_front`](crate::run_front) and
-/// [`run_migrate`](crate::run_migrate) do: as many as a capture has at most with times, which do not count for its limit.
+/// How many bytes the input of a capture may have that is read whole before it is looked at, as [`run_front`](crate::run_front),
+/// [`run_migrate`](crate::run_migrate), [`run_show`](crate::run_show) and those runs do that say why or draw: as many as a capture has at
+/// most with times, which do not count for its limit.
 pub const MAX_CAPTURE_INPUT_BYTES: usize = 402_653_184;
 
 /// How many bytes the input of a tree text or of an order text may have.

@@ -5,8 +5,9 @@ ghost use Rattle.fa_capture.specs.Device.{device_failed, device_interrupted};
 
 use crate::answers::{NO_ORDER, NO_TREE, NONE, ROOT, SECOND, not_found};
 use fa_audit::{
-    Budget, Nobody, RunFault, run, run_cut, run_front, run_judge, run_migrate, run_propose,
-    run_search, run_watch,
+    Budget, Nobody, OrderPage, ReportView, RunFault, View, run, run_cut, run_explain,
+    run_explained_judge, run_front, run_judge, run_migrate, run_order_page, run_propose,
+    run_report, run_search, run_watch,
 };
 use fa_capture::{Device, Output};
 use std::alloc::Global;
@@ -21,6 +22,11 @@ enum Call {
     Cut(u32),
     Front(u32),
     Watch,
+    Explain,
+    ExplainProposal,
+    ExplainedJudge,
+    OrderPicture,
+    Report,
 }
 
 /// A call, a tree text, if one is handed in, an order text, the status, and what is written, all of a LOOKUP that finds nothing.
@@ -32,7 +38,7 @@ type Row = (
     &'static [u8],
 );
 
-static ROWS: [Row; 13] = [
+static ROWS: [Row; 20] = [
     (
         Call::Check,
         None,
@@ -82,7 +88,49 @@ static ROWS: [Row; 13] = [
     (Call::Cut(4), None, SECOND, 0, SECOND),
     (Call::Front(0), None, NONE, 0, b"FUSECAP1"),
     (Call::Watch, None, NONE, 0, b"good: 4 messages\n"),
+    (Call::Explain, Some(ROOT), NONE, 2, LEFT_OUT),
+    (Call::Explain, None, NO_ORDER, 3, AFTER_THE_END),
+    (
+        Call::ExplainProposal,
+        None,
+        NO_ORDER,
+        0,
+        b"legal: 4 messages, 1 placed, 0 left out\n",
+    ),
+    (
+        Call::ExplainedJudge,
+        Some(ROOT),
+        NONE,
+        0,
+        b"legal: 4 messages, 1 placed, 0 left out\n",
+    ),
+    (Call::ExplainedJudge, Some(NO_TREE), NONE, 3, SLASH),
+    (Call::OrderPicture, None, NO_ORDER, 3, AFTER_THE_END),
+    (Call::Report, Some(NO_TREE), NONE, 3, SLASH),
 ];
+
+/// Why the order of no entry explains nothing.
+const LEFT_OUT: &[u8] = b"\
+not shown: entry 0: message 2: code 73: answered request left out
+request  2 > unique 4 LOOKUP node 1 \"a\"
+answer   3 < unique 4 ENOENT
+next     as entry 0 it fits: the order only leaves it out
+look at  Each answered request that acts on the tree stands in an order, one that was answered with an error too.
+";
+
+/// Why the order text that ends without `end` is none.
+const AFTER_THE_END: &[u8] = b"\
+order: line 3: code 60: not an order text
+line     \"\", where the text ends
+look at  A carriage return, a blank or an empty line, a number with a sign or a zero in front or above 4,294,967,295, another first line than `fuse-order 1`, or something behind `end`, which needs its line feed. `fa_audit propose` writes texts that fit.
+";
+
+/// Why the tree text that has a slash in a name is none.
+const SLASH: &[u8] = b"\
+tree: line 3: code 61: not a tree text
+line     \"f 644 x/y -\"
+look at  A name before its directory, a blank in a name that is not spelled %20, or a file above the limit. `fuse-tree` writes texts that fit.
+";
 
 /// A text that may be handed in, as an input.
 fn input_of(text: Option<&[u8]>) -> Option<Device<&[u8]>>
@@ -122,6 +170,35 @@ fn made<'x, W: Output>(
         Call::Cut(at) => run_cut(alloc, &mut capture, &mut order, at, out),
         Call::Front(at) => run_front(alloc, &mut capture, at, out),
         Call::Watch => run_watch(alloc, &mut capture, out),
+        Call::Explain => {
+            let mut order = Some(order);
+            run_explain(alloc, &mut capture, tree.as_mut(), order.as_mut(), out)
+        }
+        Call::ExplainProposal => run_explain(alloc, &mut capture, tree.as_mut(), None, out),
+        Call::ExplainedJudge => {
+            let budget = Budget::default();
+            run_explained_judge(alloc, &mut capture, tree.as_mut(), budget, &mut Nobody, out)
+        }
+        Call::OrderPicture => {
+            let page = OrderPage::Picture(View::new());
+            run_order_page(alloc, &mut capture, tree.as_mut(), &mut order, &page, out)
+        }
+        Call::Report => {
+            let budget = Budget::default();
+            let shown = ReportView {
+                source: "a.cap",
+                messages: View::new(),
+            };
+            run_report(
+                alloc,
+                &mut capture,
+                tree.as_mut(),
+                budget,
+                &mut Nobody,
+                shown,
+                out,
+            )
+        }
     }
 }
 
