@@ -6,8 +6,9 @@ usage: .ci/words.py [PROGRAM]
 PROGRAM is crates/fa_audit_program/out/fa_audit_program of this repository unless it is named. What `help CODE` prints of each code of
 crates/fa_capture/src/codes.rt has to be what the rows of the code say in docs/formats.md, in printing ASCII. The commands that `--help`
 prints, with the options that the help of each prints, have to be those of the synopsis of man/fa_audit.1 and of completions/fa_audit.bash,
-and docs/using.md has to name them. The operations that `show` takes and that are completed have to be those that it shows. Each difference is printed; the last line is 'N passed, M failed', and the status is 1 where
-something differs.
+and docs/using.md has to name them. The operations that `show` takes and that are completed have to be those that it shows. Behind a command
+on the examples README.md and docs/using.md have what it prints, and docs/truncating-opens.svg is their picture. Each difference is printed;
+the last line is 'N passed, M failed', and the status is 1 where something differs.
 """
 import os
 import re
@@ -36,7 +37,7 @@ def read(*path):
 
 def printed(program, *words):
     """What the program prints on standard output for these words, and its status."""
-    ran = subprocess.run([program, *words], capture_output=True, timeout=60)
+    ran = subprocess.run([program, *words], capture_output=True, cwd=TOP, timeout=60)
     return ran.stdout.decode("ascii"), ran.returncode
 
 
@@ -150,9 +151,21 @@ def operation_faults(program):
         yield None if found == wanted else f"the operations of {name} and of fa_show differ: {found ^ wanted}"
 
 
+def example_faults(program):
+    """What differs of the commands on the examples, each with what it prints, and of the picture."""
+    for page in ("README.md", "docs/using.md"):
+        for call, told in re.findall(r"^    fa_audit (.*examples/\S*)\n((?:    (?!fa_audit).*\n)+)", read(page), re.M):
+            output, _ = printed(program, *call.split())
+            wanted = "".join(f"{line[4:]}\n" for line in told.splitlines())
+            yield None if output == wanted else f"{page}: {call} prints {output!r}"
+    drawn = re.search(r"^    fa_audit (picture .*) > \S+$", read("docs", "using.md"), re.M)[1]
+    output, _ = printed(program, *drawn.split())
+    yield None if output == read("docs", "truncating-opens.svg") else f"docs/truncating-opens.svg is not what {drawn} draws"
+
+
 def main():
     program = os.path.abspath(sys.argv[1]) if len(sys.argv) > 1 else PROGRAM
-    results = [*code_faults(program), *word_faults(program), *operation_faults(program)]
+    results = [*code_faults(program), *word_faults(program), *operation_faults(program), *example_faults(program)]
     faults = [fault for fault in results if fault]
     for fault in faults:
         print(fault)

@@ -10,7 +10,7 @@ _fa_audit()
             mapfile -t COMPREPLY < <(compgen -f -- "$word")
             return
             ;;
-        --at | --steps | --from | --to | --node | --name)
+        --at | --steps | --from | --to | --node | --name | --around | --messages)
             return
             ;;
         --operation)
@@ -21,18 +21,22 @@ _fa_audit()
             return
             ;;
     esac
-    local commands='check propose search judge cut front migrate watch show help'
+    local commands='check propose search judge cut front migrate watch show explain picture report help'
     if [ "$COMP_CWORD" -eq 1 ]; then
         words="$commands --help --version"
     else
         case $command in
             check) words='--capture --tree --order --help' ;;
             propose) words='--capture --tree --help' ;;
-            search | judge) words='--capture --tree --steps --progress --help' ;;
+            search) words='--capture --tree --steps --progress --help' ;;
+            judge) words='--capture --tree --steps --progress --explain --help' ;;
             cut) words='--capture --order --at --help' ;;
             front) words='--capture --at --help' ;;
             migrate | watch) words='--capture --help' ;;
             show) words='--capture --from --to --node --name --operation --unanswered --whole --summary --help' ;;
+            explain) words='--capture --tree --order --help' ;;
+            picture) words='--capture --order --tree --around --messages --help' ;;
+            report) words='--capture --tree --order --steps --progress --around --messages --help' ;;
             help) words="$commands --help" ;;
         esac
     fi

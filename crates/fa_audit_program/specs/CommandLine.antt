@@ -7,14 +7,18 @@ use Rattle.clap.specs.declared.parser.matches.ArgMatches.{ArgMatches}
 use Rattle.fa_audit_program.specs.declared.command_line.CheckPaths.{CheckPaths}
 use Rattle.fa_audit_program.specs.declared.command_line.ProposePaths.{ProposePaths}
 use Rattle.fa_audit_program.specs.declared.command_line.SearchPaths.{SearchPaths}
+use Rattle.fa_audit_program.specs.declared.command_line.JudgePaths.{JudgePaths}
 use Rattle.fa_audit_program.specs.declared.command_line.CutPaths.{CutPaths}
 use Rattle.fa_audit_program.specs.declared.command_line.FrontPaths.{FrontPaths}
 use Rattle.fa_audit_program.specs.declared.command_line.MigratePaths.{MigratePaths}
 use Rattle.fa_audit_program.specs.declared.command_line.WatchPaths.{WatchPaths}
 use Rattle.fa_audit_program.specs.declared.command_line.ShowPaths.{ShowPaths}
+use Rattle.fa_audit_program.specs.declared.command_line.ExplainPaths.{ExplainPaths}
+use Rattle.fa_audit_program.specs.declared.command_line.PagePaths.{PagePaths}
+use Rattle.fa_audit_program.specs.declared.command_line.ReportPaths.{ReportPaths}
 use Rattle.fa_audit_program.specs.declared.command_line.Topic.{Topic}
 use Rattle.fa_audit_program.specs.declared.command_line.Call.{Call}
-use Rattle.fa_audit_program.specs.declared.command_line.Call.TheVariants.{Check, Propose, Search, Judge, Cut, Front, Migrate, Watch, Show, Help}
+use Rattle.fa_audit_program.specs.declared.command_line.Call.TheVariants.{Check, Propose, Search, Judge, Cut, Front, Migrate, Watch, Show, Explain, Picture, Report, Help}
 
 -- the value of an option of the command that the words call
 abbrev pub value_of : ArgMatches → List ℕ → Option (List ℕ)
@@ -53,6 +57,10 @@ pub record IsSearchCallOf (name : List ℕ) (matches : ArgMatches) (paths : Sear
   pub tree_is : value_of matches (codes "tree") ≡ option_copied paths.tree
   pub steps_are : IsNumberIfAny 64 (value_of matches (codes "steps")) paths.steps
 
+-- the words call `judge` with these files and so many steps; whether it is to say why is not said here
+abbrev pub IsJudgeOf : ArgMatches → JudgePaths → Type 0
+IsJudgeOf matches call = IsSearchCallOf (codes "judge") matches call.paths
+
 -- the option of the command that the words call has this number
 abbrev pub IsNumberOf : ArgMatches → (option : List ℕ) → ℕ → Type 0
 IsNumberOf matches option number = (text : List ℕ) × (value_of matches option ≡ Some text) × IsNumberText 32 text number
@@ -90,6 +98,27 @@ pub record IsShowOf (matches : ArgMatches) (paths : ShowPaths) : Type 0 where
   pub name_is : value_of matches (codes "name") ≡ option_copied paths.choice.name
   pub operation_is : value_of matches (codes "operation") ≡ option_copied paths.choice.operation
 
+-- the words call `explain` with these files
+pub record IsExplainOf (matches : ArgMatches) (paths : ExplainPaths) : Type 0 where
+  pub command : subcommand_name_of matches ≡ Some (codes "explain")
+  pub capture_is : value_of matches (codes "capture") ≡ Some paths.capture.now
+  pub tree_is : value_of matches (codes "tree") ≡ option_copied paths.tree
+  pub order_is : value_of matches (codes "order") ≡ option_copied paths.order
+
+-- the words call this one of `picture` and `report` with these files and messages
+pub record IsPageCallOf (name : List ℕ) (matches : ArgMatches) (paths : PagePaths) : Type 0 where
+  pub command : subcommand_name_of matches ≡ Some name
+  pub capture_is : value_of matches (codes "capture") ≡ Some paths.capture.now
+  pub tree_is : value_of matches (codes "tree") ≡ option_copied paths.tree
+  pub order_is : value_of matches (codes "order") ≡ option_copied paths.order
+  pub around_is : IsNumberIfAny 32 (value_of matches (codes "around")) paths.around
+  pub messages_are : IsNumberIfAny 32 (value_of matches (codes "messages")) paths.messages
+
+-- the words call `report` with these files and messages and so many steps
+pub record IsReportOf (matches : ArgMatches) (paths : ReportPaths) : Type 0 where
+  pub page_is : IsPageCallOf (codes "report") matches paths.page
+  pub steps_are : IsNumberIfAny 64 (value_of matches (codes "steps")) paths.steps
+
 -- the words call `help` with this word, or none
 pub record IsHelpOf (matches : ArgMatches) (topic : Topic) : Type 0 where
   pub command : subcommand_name_of matches ≡ Some (codes "help")
@@ -100,12 +129,15 @@ abbrev pub IsCallOf : ArgMatches → Call → Type 0
 IsCallOf matches (Check paths) = IsCheckOf matches paths
 IsCallOf matches (Propose paths) = IsProposeOf matches paths
 IsCallOf matches (Search paths) = IsSearchCallOf (codes "search") matches paths
-IsCallOf matches (Judge paths) = IsSearchCallOf (codes "judge") matches paths
+IsCallOf matches (Judge paths) = IsJudgeOf matches paths
 IsCallOf matches (Cut paths) = IsCutOf matches paths
 IsCallOf matches (Front paths) = IsFrontCallOf matches paths
 IsCallOf matches (Migrate paths) = IsMigrateCallOf matches paths
 IsCallOf matches (Watch paths) = IsWatchOf matches paths
 IsCallOf matches (Show paths) = IsShowOf matches paths
+IsCallOf matches (Explain paths) = IsExplainOf matches paths
+IsCallOf matches (Picture paths) = IsPageCallOf (codes "picture") matches paths
+IsCallOf matches (Report paths) = IsReportOf matches paths
 IsCallOf matches (Help topic) = IsHelpOf matches topic
 
 -- the words do not call `check` with all that it needs
@@ -147,6 +179,20 @@ abbrev pub IsNoShow : ArgMatches → Type 0
 IsNoShow matches =
     (subcommand_name_of matches ≢ Some (codes "show")) ⊎ (value_of matches (codes "capture") ≡ None)
     ⊎ IsNoNumber 32 (value_of matches (codes "from")) ⊎ IsNoNumber 32 (value_of matches (codes "to")) ⊎ IsNoNumber 64 (value_of matches (codes "node"))
+
+-- the words do not call `explain` with all that it needs
+abbrev pub IsNoExplain : ArgMatches → Type 0
+IsNoExplain matches = (subcommand_name_of matches ≢ Some (codes "explain")) ⊎ (value_of matches (codes "capture") ≡ None)
+
+-- the words do not call this one of `picture` and `report` with all that it needs, or what they give for a number is none
+abbrev pub IsNoPageCall : (name : List ℕ) → ArgMatches → Type 0
+IsNoPageCall name matches =
+    (subcommand_name_of matches ≢ Some name) ⊎ (value_of matches (codes "capture") ≡ None)
+    ⊎ IsNoNumber 32 (value_of matches (codes "around")) ⊎ IsNoNumber 32 (value_of matches (codes "messages"))
+
+-- the words do not call `report` with all that it needs, or what they give for a number is none
+abbrev pub IsNoReport : ArgMatches → Type 0
+IsNoReport matches = IsNoPageCall (codes "report") matches ⊎ IsNoNumber 64 (value_of matches (codes "steps"))
 
 -- the words do not call `help`
 abbrev pub IsNoHelp : ArgMatches → Type 0

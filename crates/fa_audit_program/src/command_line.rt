@@ -2,7 +2,7 @@
 
 ghost use Rattle.std.specs.Prelude.{ℕ, codes, IfSome, IsNone};
 ghost use Rattle.std.specs.Option.{option_copied};
-ghost use Rattle.fa_audit_program.specs.CommandLine.{IsCheckOf, IsProposeOf, IsSearchCallOf, IsNoSearchCall, IsCutOf, IsFrontCallOf, IsMigrateCallOf, IsWatchOf, IsShowOf, IsNumberIfAny, IsNoNumber, IsHelpOf, IsCallOf, IsNumberText, IsNoCheck, IsNoPropose, IsNoCutCall, IsNoFrontCall, IsNoMigrateCall, IsNoWatch, IsNoShow, IsNoHelp};
+ghost use Rattle.fa_audit_program.specs.CommandLine.{IsCheckOf, IsProposeOf, IsSearchCallOf, IsNoSearchCall, IsJudgeOf, IsCutOf, IsFrontCallOf, IsMigrateCallOf, IsWatchOf, IsShowOf, IsExplainOf, IsPageCallOf, IsReportOf, IsNumberIfAny, IsNoNumber, IsHelpOf, IsCallOf, IsNumberText, IsNoCheck, IsNoPropose, IsNoCutCall, IsNoFrontCall, IsNoMigrateCall, IsNoWatch, IsNoShow, IsNoExplain, IsNoPageCall, IsNoReport, IsNoHelp};
 
 use crate::help_texts;
 use clap::builder::ValueParser;
@@ -29,6 +29,12 @@ const MIGRATE: &str = "migrate";
 const WATCH: &str = "watch";
 /// The command that shows messages.
 const SHOW: &str = "show";
+/// The command that says why, and the option by which `judge` does.
+const EXPLAIN: &str = "explain";
+/// The command that draws a capture.
+const PICTURE: &str = "picture";
+/// The command that writes a page on one.
+const REPORT: &str = "report";
 /// The command that tells what a code means.
 const HELP: &str = "help";
 /// The option that names the capture.
@@ -59,6 +65,10 @@ const UNANSWERED: &str = "unanswered";
 const WHOLE: &str = "whole";
 /// The option by which operations are counted.
 const SUMMARY: &str = "summary";
+/// The option that gives the message around which is drawn.
+const AROUND: &str = "around";
+/// The option that gives how many messages are drawn or listed.
+const MESSAGES: &str = "messages";
 /// The word of which help is asked.
 const TOPIC: &str = "topic";
 
@@ -192,6 +202,35 @@ impl<'a> SearchPaths<'a> {
     }
 }
 
+/// A call of `judge`, and whether it is to say why.
+#[derive(Clone, Copy, Debug)]
+pub struct JudgePaths<'a> {
+    /// The files and the steps.
+    pub paths: SearchPaths<'a>,
+    /// Whether the reasons are to be told too.
+    pub explained: bool,
+}
+
+impl<'a> JudgePaths<'a> {
+    /// What a parse by [`command`] found; there is nothing only where the words were no call of `judge`.
+    pub fn new(matches: &ArgMatches<'a>) -> Option<Self>
+        ensures found { IfSome result (IsJudgeOf matches.now) }
+        ensures none { IsNone result → IsNoSearchCall (codes "judge") matches.now }
+    {
+        let paths = SearchPaths::new(matches, JUDGE)?;
+        let explained = is_explained(matches);
+        Some(JudgePaths { paths, explained })
+    }
+}
+
+/// Whether the words ask `judge` to say why.
+fn is_explained(matches: &ArgMatches<'_>) -> bool {
+    match matches.subcommand_matches(JUDGE) {
+        Some(options) => options.get_flag(EXPLAIN),
+        None => false,
+    }
+}
+
 /// The files of a call of `cut`, and where the order is cut.
 #[derive(Clone, Copy, Debug)]
 pub struct CutPaths<'a> {
@@ -313,6 +352,99 @@ impl<'a> ShowPaths<'a> {
     }
 }
 
+/// The files of a call of `explain`.
+#[derive(Clone, Copy, Debug)]
+pub struct ExplainPaths<'a> {
+    pub capture: &'a str,
+    /// None where the tree begins as an empty root.
+    pub tree: Option<&'a str>,
+    /// None where the order is the one that is proposed.
+    pub order: Option<&'a str>,
+}
+
+impl<'a> ExplainPaths<'a> {
+    /// What a parse by [`command`] found; there is nothing only where the words were no call of `explain`.
+    pub fn new(matches: &ArgMatches<'a>) -> Option<Self>
+        ensures found { IfSome result (IsExplainOf matches.now) }
+        ensures none { IsNone result → IsNoExplain matches.now }
+    {
+        let options = matches.subcommand_matches(EXPLAIN)?;
+        let path = options.get_str(CAPTURE)?;
+        let tree = options.get_str(TREE);
+        let order = options.get_str(ORDER);
+        Some(ExplainPaths {
+            capture: path,
+            tree,
+            order,
+        })
+    }
+}
+
+/// The files of a call of `picture` or of `report`, and which messages it has.
+#[derive(Clone, Copy, Debug)]
+pub struct PagePaths<'a> {
+    pub capture: &'a str,
+    /// None where the tree begins as an empty root.
+    pub tree: Option<&'a str>,
+    /// None where there is no order to judge.
+    pub order: Option<&'a str>,
+    /// The message around which they are; none where the words do not say it.
+    pub around: Option<u32>,
+    /// How many they are at most; none where the words do not say it.
+    pub messages: Option<u32>,
+}
+
+impl<'a> PagePaths<'a> {
+    /// What a parse by [`command`] found for this one of both commands; there is nothing only where the words were no call of it.
+    pub fn new(matches: &ArgMatches<'a>, name: &str) -> Option<Self>
+        ensures found { IfSome result (IsPageCallOf name.now matches.now) }
+        ensures none { IsNone result → IsNoPageCall name.now matches.now }
+    {
+        let options = matches.subcommand_matches(name)?;
+        let path = options.get_str(CAPTURE)?;
+        let tree = options.get_str(TREE);
+        let order = options.get_str(ORDER);
+        let around = number_if_any(options.get_str(AROUND))?;
+        let messages = number_if_any(options.get_str(MESSAGES))?;
+        Some(PagePaths {
+            capture: path,
+            tree,
+            order,
+            around,
+            messages,
+        })
+    }
+}
+
+/// A call of `report`, and how many steps a search may spend where there is no order to judge.
+#[derive(Clone, Copy, Debug)]
+pub struct ReportPaths<'a> {
+    /// The files and the messages.
+    pub page: PagePaths<'a>,
+    /// None where the words do not say it.
+    pub steps: Option<u64>,
+    /// Whether standard error is to say how far the search has come.
+    pub progress: bool,
+}
+
+impl<'a> ReportPaths<'a> {
+    /// What a parse by [`command`] found; there is nothing only where the words were no call of `report`.
+    pub fn new(matches: &ArgMatches<'a>) -> Option<Self>
+        ensures found { IfSome result (IsReportOf matches.now) }
+        ensures none { IsNone result → IsNoReport matches.now }
+    {
+        let page = PagePaths::new(matches, REPORT)?;
+        let options = matches.subcommand_matches(REPORT)?;
+        let steps = wide_number_if_any(options.get_str(STEPS))?;
+        let progress = options.get_flag(PROGRESS);
+        Some(ReportPaths {
+            page,
+            steps,
+            progress,
+        })
+    }
+}
+
 /// The word of a call of `help`.
 #[derive(Clone, Copy, Debug)]
 pub struct Topic<'a> {
@@ -380,7 +512,7 @@ pub enum Call<'a> {
     /// One is searched.
     Search(SearchPaths<'a>),
     /// A capture is judged by such a search.
-    Judge(SearchPaths<'a>),
+    Judge(JudgePaths<'a>),
     /// An order is cut at a message.
     Cut(CutPaths<'a>),
     /// A capture is cut at a message.
@@ -391,6 +523,12 @@ pub enum Call<'a> {
     Watch(WatchPaths<'a>),
     /// Messages are shown.
     Show(ShowPaths<'a>),
+    /// A verdict is explained.
+    Explain(ExplainPaths<'a>),
+    /// A capture is drawn.
+    Picture(PagePaths<'a>),
+    /// A page is written on one.
+    Report(ReportPaths<'a>),
     /// Help is asked of a code, a command or the program.
     Help(Topic<'a>),
 }
@@ -401,7 +539,8 @@ impl<'a> Call<'a> {
         ensures found { IfSome result (IsCallOf matches.now) }
         ensures none { IsNone result →
             IsNoCheck matches.now × IsNoPropose matches.now × IsNoSearchCall (codes "search") matches.now
-            × IsNoSearchCall (codes "judge") matches.now × IsNoCutCall matches.now × IsNoFrontCall matches.now × IsNoMigrateCall matches.now × IsNoWatch matches.now × IsNoShow matches.now × IsNoHelp matches.now }
+            × IsNoSearchCall (codes "judge") matches.now × IsNoCutCall matches.now × IsNoFrontCall matches.now × IsNoMigrateCall matches.now × IsNoWatch matches.now × IsNoShow matches.now × IsNoExplain matches.now
+            × IsNoPageCall (codes "picture") matches.now × IsNoReport matches.now × IsNoHelp matches.now }
     {
         if let Some(paths) = CheckPaths::new(matches) {
             return Some(Call::Check(paths));
@@ -412,7 +551,7 @@ impl<'a> Call<'a> {
         if let Some(paths) = SearchPaths::new(matches, SEARCH) {
             return Some(Call::Search(paths));
         }
-        if let Some(paths) = SearchPaths::new(matches, JUDGE) {
+        if let Some(paths) = JudgePaths::new(matches) {
             return Some(Call::Judge(paths));
         }
         if let Some(paths) = CutPaths::new(matches) {
@@ -430,14 +569,25 @@ impl<'a> Call<'a> {
         if let Some(paths) = ShowPaths::new(matches) {
             return Some(Call::Show(paths));
         }
+        if let Some(paths) = ExplainPaths::new(matches) {
+            return Some(Call::Explain(paths));
+        }
+        if let Some(paths) = PagePaths::new(matches, PICTURE) {
+            return Some(Call::Picture(paths));
+        }
+        if let Some(paths) = ReportPaths::new(matches) {
+            return Some(Call::Report(paths));
+        }
         Some(Call::Help(Topic::new(matches)?))
     }
 }
 
 /// The command line: `fa_audit check --capture FILE [--tree FILE] --order FILE`, `fa_audit propose --capture FILE [--tree FILE]`,
-/// `fa_audit search --capture FILE [--tree FILE] [--steps N] [--progress]`, `fa_audit judge` with the same options,
+/// `fa_audit search --capture FILE [--tree FILE] [--steps N] [--progress]`, `fa_audit judge` with the same options and `--explain`,
 /// `fa_audit cut --capture FILE --order FILE --at N`, `fa_audit front --capture FILE --at N`, `fa_audit migrate --capture FILE`,
-/// `fa_audit watch --capture FILE`, `fa_audit show --capture FILE` with options that choose messages, or `fa_audit help [CODE|COMMAND]`.
+/// `fa_audit watch --capture FILE`, `fa_audit show --capture FILE` with options that choose messages,
+/// `fa_audit explain --capture FILE [--tree FILE] [--order FILE]`, `fa_audit picture --capture FILE [--order FILE [--tree FILE]]` and
+/// `fa_audit report --capture FILE [--tree FILE] [--order FILE]` with options that choose messages, or `fa_audit help [CODE|COMMAND]`.
 pub fn command<'a>(alloc: Global) -> Result<Command<'a>, AllocError> {
     Command::new(alloc, PROGRAM)
         .bin_name(PROGRAM)?
@@ -454,17 +604,15 @@ pub fn command<'a>(alloc: Global) -> Result<Command<'a>, AllocError> {
             "Searches all orders for one that explains a capture, and prints its text or that there is none",
             help_texts::SEARCH,
         )?)?
-        .subcommand(search_command(
-            alloc,
-            JUDGE,
-            "Tells whether some order explains a capture",
-            help_texts::JUDGE,
-        )?)?
+        .subcommand(judge_command(alloc)?)?
         .subcommand(cut_command(alloc)?)?
         .subcommand(front_command(alloc)?)?
         .subcommand(migrate_command(alloc)?)?
         .subcommand(watch_command(alloc)?)?
         .subcommand(show_command(alloc)?)?
+        .subcommand(explain_command(alloc)?)?
+        .subcommand(picture_command(alloc)?)?
+        .subcommand(report_command(alloc)?)?
         .subcommand(help_command(alloc)?)
 }
 
@@ -497,6 +645,17 @@ fn propose_command<'a>(alloc: Global) -> Result<Command<'a>, AllocError> {
     )
     .arg(capture_option(alloc))?
     .arg(tree_option(alloc))
+}
+
+/// The command `judge`.
+fn judge_command<'a>(alloc: Global) -> Result<Command<'a>, AllocError> {
+    search_command(
+        alloc,
+        JUDGE,
+        "Tells whether some order explains a capture",
+        help_texts::JUDGE,
+    )?
+    .arg(flag(alloc, EXPLAIN, "Say why, behind the lines of the answer"))
 }
 
 /// The command of this name, which searches.
@@ -606,6 +765,76 @@ fn show_flags<'a>(alloc: Global, shown: Command<'a>) -> Result<Command<'a>, Allo
             SUMMARY,
             "A table of the operations in the place of the messages",
         ))
+}
+
+/// The command `explain`.
+fn explain_command<'a>(alloc: Global) -> Result<Command<'a>, AllocError> {
+    named(
+        alloc,
+        EXPLAIN,
+        "Tells the verdict on an order, and why",
+        help_texts::EXPLAIN,
+    )
+    .arg(capture_option(alloc))?
+    .arg(tree_option(alloc))?
+    .arg(
+        path_option(alloc, ORDER)
+            .required(false)
+            .help("The order text; without it, the order that is proposed"),
+    )
+}
+
+/// The command `picture`.
+fn picture_command<'a>(alloc: Global) -> Result<Command<'a>, AllocError> {
+    let order = path_option(alloc, ORDER)
+        .required(false)
+        .help("The order text; without it, no order is drawn");
+    let drawn = named(
+        alloc,
+        PICTURE,
+        "Draws the requests of a capture, as SVG",
+        help_texts::PICTURE,
+    )
+    .arg(capture_option(alloc))?
+    .arg(tree_option(alloc).requires_arg(ORDER)?)?
+    .arg(order)?;
+    view_options(alloc, drawn)
+}
+
+/// The command `report`.
+fn report_command<'a>(alloc: Global) -> Result<Command<'a>, AllocError> {
+    let order = path_option(alloc, ORDER)
+        .required(false)
+        .conflicts_with(STEPS)?
+        .conflicts_with(PROGRESS)?
+        .help("The order text; without it, the capture is judged as by `judge`");
+    let reported = search_command(
+        alloc,
+        REPORT,
+        "Writes a verdict with its reasons, a picture and the messages around it, as an HTML page",
+        help_texts::REPORT,
+    )?
+    .arg(order)?;
+    view_options(alloc, reported)
+}
+
+/// A command with the options that say which messages it has.
+fn view_options<'a>(alloc: Global, command: Command<'a>) -> Result<Command<'a>, AllocError> {
+    command
+        .arg(value_option(
+            alloc,
+            AROUND,
+            "N",
+            "The message around which they are; without it, the one at fault, or else the first request that overlaps",
+        )
+        .value_parser(value_parser!(u32)))?
+        .arg(value_option(
+            alloc,
+            MESSAGES,
+            "N",
+            "How many messages there are; the page adds those that its reasons name",
+        )
+        .value_parser(value_parser!(u32)))
 }
 
 /// The command `help`.

@@ -79,7 +79,7 @@ impl fmt::Display for Cause<'_> {
 
 /// A path in printing ASCII: a byte that is no such character, and a backslash, are `\x` and two digits.
 #[derive(Clone, Copy)]
-struct Printing<'a>(&'a str);
+pub struct Printing<'a>(pub &'a str);
 
 impl fmt::Display for Printing<'_> {
     fn fmt<W: fmt::Write>(&self, f: &mut fmt::Formatter<W>) -> fmt::Result {

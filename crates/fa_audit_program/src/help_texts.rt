@@ -3,7 +3,7 @@
 /// Of the program.
 pub const PROGRAM: &str = "\
 Exit status:
-  0  legal, or an order, a capture or a help was written
+  0  legal, or an order, a capture, a picture or a help was written
   1  the capture has a fault
   2  the order is not shown to explain the capture
   3  the tree text or the order text is not in its format
@@ -64,7 +64,7 @@ What it prints, and its exit status:
   nothing, and what is wrong on standard error  4  the command line is no call
   nothing, and why on standard error            5  a file was not read, the output not taken, or memory refused
 
-`fa_audit help C` tells what code C means. A FILE may be a pipe; - is standard input.";
+With --explain further lines say why. `fa_audit help C` tells what code C means. A FILE may be a pipe; - is standard input.";
 
 /// Of `cut`.
 pub const CUT: &str = "\
@@ -115,6 +115,43 @@ What it prints, and its exit status:
   nothing, and why on standard error                  5  a file was not read, the output not taken, or memory refused
 
 An answer is shown where its request is. What is printed is printing ASCII; a FILE may be a pipe; - is standard input.";
+
+/// Of `explain`.
+pub const EXPLAIN: &str = "\
+What it prints, and its exit status: the line of `check`, and behind it why
+  legal: M messages, P placed, L left out            0  and which requests were never answered
+  fault: message N: code C: TEXT                     1  what message N conflicts with
+  not shown: entry E: message N: code C: TEXT        2  what the tree holds there, and who made it so
+  tree: line L: .. or order: line L: ..              3  the bytes of line L
+  nothing, and what is wrong on standard error       4  the command line is no call
+  nothing, and why on standard error                 5  a file was not read, the output not taken, or memory refused
+
+Without --order the order is the one that is proposed. What is printed is printing ASCII; a FILE may be a pipe; - is standard input.";
+
+/// Of `picture`.
+pub const PICTURE: &str = "\
+What it prints, and its exit status:
+  a picture, as SVG                             0  of any capture: a picture is no verdict
+  tree: line L: .. or order: line L: ..         3  the text is not in its format: the lines of `explain`
+  nothing, and what is wrong on standard error  4  the command line is no call
+  nothing, and why on standard error            5  a file was not read, the output not taken, or memory refused
+
+A bar goes from a request to its answer. With --order marks say where the order places it, and the entry at fault is red.
+Without --messages there are 48. A FILE may be a pipe; - is standard input.";
+
+/// Of `report`.
+pub const REPORT: &str = "\
+What it prints, and its exit status: an HTML page that stands by itself, with the verdict
+  legal: M messages, P placed, L left out            0  the order explains each recorded reply; without --order, some order does
+  fault: message N: code C: TEXT                     1  message N, counted from 0, is the first that breaks the protocol
+  not shown: entry E: message N: code C: TEXT        2  with --order: entry E of it is the first at fault
+  tree: line L: .. or order: line L: ..              3  the text is not in its format: no page, but the lines of `explain`
+  no order: message N: code C: TEXT                  6  without --order: no order explains the replies up to that of message N
+  gave up: message N                                 7  without --order: nothing is known from message N on: allow more steps
+  nothing, and what is wrong on standard error       4  the command line is no call
+  nothing, and why on standard error                 5  a file was not read, the output not taken, or memory refused
+
+Without --messages the page lists 160 messages. A FILE may be a pipe; - is standard input.";
 
 /// Of `help`.
 pub const HELP: &str = "\

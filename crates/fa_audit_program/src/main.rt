@@ -9,7 +9,11 @@
 //! front --capture FILE --at N` the capture of these messages. `fa_audit migrate --capture FILE` writes a capture anew in the format
 //! that has times. `fa_audit watch --capture FILE` reads a capture while it is written and tells its first fault as soon as that was
 //! read, or at the end that there is none. `fa_audit show --capture FILE` prints the messages that its options choose, a line each.
-//! `fa_audit help CODE` tells what a code means and what to look at then. A FILE that is `-` is standard input.
+//! `fa_audit explain --capture FILE [--tree FILE] [--order FILE]` tells the verdict on an order, or on the one that is proposed, and
+//! behind it why, and `judge --explain` does so behind its lines. `fa_audit picture --capture FILE [--order FILE [--tree FILE]]` draws the
+//! requests of a capture, and `fa_audit report --capture FILE [--tree FILE] [--order FILE]` writes a page with the verdict, its reasons, a
+//! picture and messages. `fa_audit help CODE` tells what a code means and what to look at then.
+//! A FILE that is `-` is standard input.
 //!
 //! Each ends with the status 0 where the verdict is legal, what was asked for is written, or a stream had no fault, 1 at a fault of
 //! the capture, 2 where the order is not shown to explain the capture, 3 where the tree text or the order text is not in its grammar,
@@ -25,16 +29,19 @@ mod files;
 mod help_texts;
 
 use crate::command_line::{
-    Call, CheckPaths, CutPaths, FrontPaths, MigratePaths, PROGRAM, ProposePaths, SearchPaths,
-    ShowPaths, Topic, WatchPaths,
+    Call, CheckPaths, CutPaths, ExplainPaths, FrontPaths, JudgePaths, MigratePaths, PROGRAM,
+    PagePaths, ProposePaths, ReportPaths, SearchPaths, ShowPaths, Topic, WatchPaths,
 };
-use crate::failure::{Cause, Failure};
+use crate::failure::{Cause, Failure, Printing};
 use crate::files::{Sink, Source, open_capture, open_text, open_text_if_any};
 use fa_audit::{
-    Budget, Listener, RunFault, SoFar, Status, run, run_cut, run_front, run_judge, run_migrate,
-    run_propose, run_search, run_show, run_watch,
+    Budget, DEFAULT_MESSAGES, DEFAULT_ROWS, Listener, OrderPage, ReportView, RunFault, SoFar,
+    Status, View, run, run_cut, run_explain, run_explained_judge, run_front, run_judge,
+    run_migrate, run_order_page, run_picture, run_propose, run_report, run_search, run_show,
+    run_watch,
 };
 use fa_help::Paragraph;
+use std::alloc::{AllocError, Global};
 use std::env::Env;
 use std::fmt::Display;
 use std::io::ErrorKind;
@@ -83,6 +90,9 @@ fn call<'a, R: AllocGlobal + Files + Print + Eprint>(
         Call::Migrate(paths) => migrate(rt, &paths),
         Call::Watch(paths) => watch(rt, &paths),
         Call::Show(paths) => show(rt, &paths),
+        Call::Explain(paths) => explain(rt, &paths),
+        Call::Picture(paths) => picture(rt, &paths),
+        Call::Report(paths) => report(rt, &paths),
         Call::Help(topic) => help(rt, &topic),
     }
 }
@@ -155,14 +165,14 @@ fn check<'a, R: AllocGlobal + Files + Print>(
         &mut order,
         &mut out,
     );
-    let cause = capture.cause().or(tree_cause(&tree)).or(order.cause());
+    let cause = capture.cause().or(text_cause(&tree)).or(order.cause());
     ended(ran, cause, &out)
 }
 
-/// What kept a tree text from being read, where there is one.
-fn tree_cause<'a, F>(tree: &Option<Source<'a, F>>) -> Cause<'a> {
-    match tree {
-        Some(tree) => tree.cause(),
+/// What kept a text from being read, where there is one.
+fn text_cause<'a, F>(text: &Option<Source<'a, F>>) -> Cause<'a> {
+    match text {
+        Some(text) => text.cause(),
         None => Cause::Unknown,
     }
 }
@@ -176,7 +186,7 @@ fn propose<'a, R: AllocGlobal + Files + Print>(
     let mut tree = open_text_if_any(rt, paths.tree)?;
     let mut out = Sink::new(io::writer(rt));
     let ran = run_propose(rt.alloc(), &mut capture, tree.as_mut(), &mut out);
-    let cause = capture.cause().or(tree_cause(&tree));
+    let cause = capture.cause().or(text_cause(&tree));
     ended(ran, cause, &out)
 }
 
@@ -199,12 +209,24 @@ fn search<'a, R: AllocGlobal + Files + Print + Eprint>(
         },
         &mut out,
     );
-    let cause = capture.cause().or(tree_cause(&tree));
+    let cause = capture.cause().or(text_cause(&tree));
     ended(ran, cause, &out)
 }
 
 /// Runs a call of `judge`: its status.
 fn judge<'a, R: AllocGlobal + Files + Print + Eprint>(
+    rt: &R,
+    call: &JudgePaths<'a>,
+) -> Result<u8, Failure<'a>> {
+    if call.explained {
+        explained_judge(rt, &call.paths)
+    } else {
+        plain_judge(rt, &call.paths)
+    }
+}
+
+/// Runs a call of `judge` that is not to say why: its status.
+fn plain_judge<'a, R: AllocGlobal + Files + Print + Eprint>(
     rt: &R,
     paths: &SearchPaths<'a>,
 ) -> Result<u8, Failure<'a>> {
@@ -222,7 +244,30 @@ fn judge<'a, R: AllocGlobal + Files + Print + Eprint>(
         },
         &mut out,
     );
-    let cause = capture.cause().or(tree_cause(&tree));
+    let cause = capture.cause().or(text_cause(&tree));
+    ended(ran, cause, &out)
+}
+
+/// Runs a call of `judge` that is to say why: its status.
+fn explained_judge<'a, R: AllocGlobal + Files + Print + Eprint>(
+    rt: &R,
+    paths: &SearchPaths<'a>,
+) -> Result<u8, Failure<'a>> {
+    let mut capture = open_capture(rt, paths.capture)?;
+    let mut tree = open_text_if_any(rt, paths.tree)?;
+    let mut out = Sink::new(io::writer(rt));
+    let ran = run_explained_judge(
+        rt.alloc(),
+        &mut capture,
+        tree.as_mut(),
+        budget(paths.steps),
+        &mut Progress {
+            rt,
+            shown: paths.progress,
+        },
+        &mut out,
+    );
+    let cause = capture.cause().or(text_cause(&tree));
     ended(ran, cause, &out)
 }
 
@@ -311,6 +356,125 @@ fn show<'a, R: AllocGlobal + Files + Print>(
     let mut out = Sink::new(io::writer(rt));
     let ran = run_show(rt.alloc(), &mut capture, &paths.choice, &mut out);
     ended(ran, capture.cause(), &out)
+}
+
+/// Runs a call of `explain`: its status.
+fn explain<'a, R: AllocGlobal + Files + Print>(
+    rt: &R,
+    paths: &ExplainPaths<'a>,
+) -> Result<u8, Failure<'a>> {
+    let mut capture = open_capture(rt, paths.capture)?;
+    let mut tree = open_text_if_any(rt, paths.tree)?;
+    let mut order = open_text_if_any(rt, paths.order)?;
+    let mut out = Sink::new(io::writer(rt));
+    let ran = run_explain(
+        rt.alloc(),
+        &mut capture,
+        tree.as_mut(),
+        order.as_mut(),
+        &mut out,
+    );
+    let cause = capture.cause().or(text_cause(&tree)).or(text_cause(&order));
+    ended(ran, cause, &out)
+}
+
+/// Which messages a call asks for: so many where it does not say it.
+fn view(paths: &PagePaths<'_>, usual: u32) -> View {
+    View {
+        around: paths.around,
+        messages: paths.messages.unwrap_or(usual),
+    }
+}
+
+/// Runs a call of `picture`: its status.
+fn picture<'a, R: AllocGlobal + Files + Print>(
+    rt: &R,
+    paths: &PagePaths<'a>,
+) -> Result<u8, Failure<'a>> {
+    let view = view(paths, DEFAULT_MESSAGES);
+    let Some(order) = paths.order else {
+        let mut capture = open_capture(rt, paths.capture)?;
+        let mut out = Sink::new(io::writer(rt));
+        let ran = run_picture(rt.alloc(), &mut capture, view, &mut out);
+        return ended(ran, capture.cause(), &out);
+    };
+    order_page(rt, paths, order, &OrderPage::Picture(view))
+}
+
+/// Runs a call of `picture` or of `report` by this order: its status.
+fn order_page<'a, R: AllocGlobal + Files + Print>(
+    rt: &R,
+    paths: &PagePaths<'a>,
+    order: &'a str,
+    page: &OrderPage<'_>,
+) -> Result<u8, Failure<'a>> {
+    let mut capture = open_capture(rt, paths.capture)?;
+    let mut tree = open_text_if_any(rt, paths.tree)?;
+    let mut order = open_text(rt, order)?;
+    let mut out = Sink::new(io::writer(rt));
+    let ran = run_order_page(
+        rt.alloc(),
+        &mut capture,
+        tree.as_mut(),
+        &mut order,
+        page,
+        &mut out,
+    );
+    let cause = capture.cause().or(text_cause(&tree)).or(order.cause());
+    ended(ran, cause, &out)
+}
+
+/// Runs a call of `report`: its status.
+fn report<'a, R: AllocGlobal + Files + Print + Eprint>(
+    rt: &R,
+    call: &ReportPaths<'a>,
+) -> Result<u8, Failure<'a>> {
+    let source = source(rt.alloc(), &call.page)?;
+    let shown = ReportView {
+        source: &source,
+        messages: view(&call.page, DEFAULT_ROWS),
+    };
+    match call.page.order {
+        Some(order) => order_page(rt, &call.page, order, &OrderPage::Report(shown)),
+        None => judged_report(rt, call, shown),
+    }
+}
+
+/// What a report is of: the names of its files.
+fn source(alloc: Global, paths: &PagePaths<'_>) -> Result<String, AllocError> {
+    let mut source = format!(in alloc; "{}", Printing(paths.capture))?;
+    if let Some(tree) = paths.tree {
+        source = format!(in alloc; "{source} on {}", Printing(tree))?;
+    }
+    if let Some(order) = paths.order {
+        source = format!(in alloc; "{source}, judged with {}", Printing(order))?;
+    }
+    Ok(source)
+}
+
+/// Runs a call of `report` by a search: its status.
+fn judged_report<'a, R: AllocGlobal + Files + Print + Eprint>(
+    rt: &R,
+    call: &ReportPaths<'a>,
+    shown: ReportView<'_>,
+) -> Result<u8, Failure<'a>> {
+    let mut capture = open_capture(rt, call.page.capture)?;
+    let mut tree = open_text_if_any(rt, call.page.tree)?;
+    let mut out = Sink::new(io::writer(rt));
+    let ran = run_report(
+        rt.alloc(),
+        &mut capture,
+        tree.as_mut(),
+        budget(call.steps),
+        &mut Progress {
+            rt,
+            shown: call.progress,
+        },
+        shown,
+        &mut out,
+    );
+    let cause = capture.cause().or(text_cause(&tree));
+    ended(ran, cause, &out)
 }
 
 /// The words of the command line, with the program's name first.
