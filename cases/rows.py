@@ -4,6 +4,8 @@ STATUS = {"good": 0, "proposed": 0, "legal": 0, "judged legal": 0, "fault": 1, "
           "gave up": 7}
 # What the second line of those begins with that `judge` prints of a capture without an order.
 ALONE = "the first "
+# The line in front of those that `explain` has to print.
+EXPLAINED = "explained"
 
 
 def order_text(entries):
@@ -12,12 +14,17 @@ def order_text(entries):
 
 
 class Row:
-    """A row: its own lines, of which the last is what is expected, or the last two, and all lines in front of that, those that the rows
-    of the text share first."""
+    """A row: its own lines, of which the last is what is expected, or the last two, or all behind `explained`, and all lines in front of
+    that, those that the rows of the text share first."""
 
     def __init__(self, shared, own):
-        expected = own[-2:] if own and own[-1].startswith(ALONE) else own[-1:]
-        self.own, self.lines, self.expected = own, shared + own[:len(own) - len(expected)], "\n".join(expected)
+        self.own, self.is_explained = own, EXPLAINED in own
+        if self.is_explained:
+            given, expected = own[: own.index(EXPLAINED)], own[own.index(EXPLAINED) + 1 :]
+        else:
+            expected = own[-2:] if own and own[-1].startswith(ALONE) else own[-1:]
+            given = own[: len(own) - len(expected)]
+        self.lines, self.expected = shared + given, "\n".join(expected)
 
     def behind(self, word):
         """What stands behind this word on the lines that begin with it."""
@@ -25,16 +32,20 @@ class Row:
 
     def messages(self):
         """The text of the capture."""
-        return "".join(f"{line}\n" for line in self.lines if not line.startswith(("tree ", "order ")))
+        return "".join(f"{line}\n" for line in self.lines if not line.startswith(("tree ", "order")))
 
     def tree(self):
         """The tree text, if the row has a tree."""
         files = self.behind("tree ")
         return "\n".join(["fuse-tree 1", "root 755", *files, "end", ""]) if files else None
 
+    def has_order(self):
+        """Whether the row says an order, be it one without entries."""
+        return bool(self.behind("order"))
+
     def order(self):
         """The order text."""
-        return order_text(", ".join(self.behind("order ")))
+        return order_text(", ".join(line[1:] for line in self.behind("order") if line))
 
     def word(self):
         """The word that what is expected begins with."""

@@ -84,11 +84,15 @@ class Case:
             name = name.rpartition(".")[0]
         return f"{name}.{kind}" if name else None
 
+    def is_explained(self):
+        """Whether the case calls `explain`, as its name or its folder says."""
+        return self.base.endswith(".explained") or os.path.basename(self.folder) == "explains"
+
     def own_words(self):
         args = self.own("args")
         if args is not None:
             return args.splitlines()
-        words = [b"check"]
+        words = [b"explain" if self.is_explained() else b"check"]
         for option, kind in (("--capture", "cap"), ("--order", "order"), ("--tree", "tree")):
             file = self.shared(kind)
             if file:
@@ -129,7 +133,8 @@ class RowCase:
         judge = ["judge", *capture, *tree]
         calls = {"good": ["cut", *capture, *order, "--at", "0"], "proposed": ["propose", *capture, *tree], "judged legal": judge,
                  "no order": judge, "gave up": [*judge, "--steps", "0"]}
-        self.words = calls.get(row.word(), ["check", *capture, *order, *tree])
+        explain = ["explain", *capture, *(order if row.has_order() else []), *tree]
+        self.words = explain if row.is_explained else calls.get(row.word(), ["check", *capture, *order, *tree])
 
     def own(self, _):
         """No file is of the row alone."""
