@@ -4,6 +4,7 @@ import functools
 import random
 import re
 import traceback
+import xml.etree.ElementTree
 
 import captures
 import drivers
@@ -11,6 +12,7 @@ import drivers
 import codes
 import judge
 import orders
+import pages
 
 # What an input of so many bytes may take, but for a search with its usual budget.
 INPUT_BYTES, SECONDS, MEMORY = 100_000, 1.0, 100 << 20
@@ -33,15 +35,31 @@ FORMS = {
     "order text": (TEXT, "order: line N: code C: TEXT", (60,)),
     "no order": (NO_ORDER, r"no order: message N: code C: TEXT(?:\nthe first N messages alone have no order)?", STEP_FAULTS),
     "gave up": (GAVE_UP, "gave up: message N", ())}
+# The same with lines behind them that say why: a label, padded to eight characters, a blank and a text.
+FORMS |= {f"{kind}, why": (status, pattern + r"(?:\n[a-z][a-z0-9 ]{7} [ -~]*)*", told)
+          for kind, (status, pattern, told) in FORMS.items() if pattern}
+# A page in the place of a line, and a picture.
+PAGES = "legal", "fault", "not shown", "no order", "gave up"
+FORMS |= {f"page, {kind}": (FORMS[kind][0], None, ()) for kind in PAGES}
+FORMS["picture"] = LEGAL, None, ()
 TOLD = {
     "check": ("legal", "fault", "not shown", "tree text", "order text"), "watch": ("good", "fault"),
     "judge": ("legal", "fault", "tree text", "no order", "gave up"), "search": ("order", "fault", "tree text", "no order", "gave up"),
     "propose": ("order", "fault", "tree text"), "cut": ("order", "fault", "order text"), "front": ("capture", "no capture"),
     "migrate": ("capture", "framing fault"), "show": ("lines",)}
+# A command that is to say why, by its first words.
+TOLD |= {words: tuple(f"{kind}, why" for kind in TOLD[words.split()[0]]) for words in ("judge --explain",)}
+TOLD["explain"] = tuple(f"{kind}, why" for kind in TOLD["check"])
+TEXTS_THAT_ARE_NONE = "tree text, why", "order text, why"
+TOLD["report"] = (*(f"page, {kind}" for kind in PAGES), *TEXTS_THAT_ARE_NONE)
+TOLD["picture"] = ("picture", *TEXTS_THAT_ARE_NONE)
 # The bytes of these that are told by no text.
-BYTES = {"capture": re.compile(rb"(?:FUSECAP1|FUSECAP2).*", re.DOTALL), "lines": re.compile(rb"(?:[ -~]*\n)*")}
+BYTES = {"capture": re.compile(rb"(?:FUSECAP1|FUSECAP2).*", re.DOTALL), "lines": re.compile(rb"(?:[ -~]*\n)*"),
+         "picture": re.compile(rb"<svg [ -~\n]*</svg>\n")}
+BYTES |= {f"page, {kind}": re.compile(rb"<!doctype html>\n[ -~\n]*</html>\n") for kind in PAGES}
 FILES = {"check": ("capture", "tree", "order"), "cut": ("capture", "order"), "judge": ("capture", "tree"),
-         "search": ("capture", "tree"), "propose": ("capture", "tree")}
+         "search": ("capture", "tree"), "propose": ("capture", "tree"), "explain": ("capture", "tree", "order"),
+         "report": ("capture", "tree", "order"), "picture": ("capture", "order", "tree")}
 CODE = re.compile(rb": code (\d+): ")
 MESSAGE = re.compile(rb"message (\d+)")
 ALONE = re.compile(rb"the first (\d+) messages alone")
@@ -98,7 +116,8 @@ class Trial:
         """The answer to a command on the input, or on other files, which has to be one of those that are documented."""
         names = FILES.get(command, ("capture",))
         files = {name: files.get(name, getattr(self.given, name)) for name in names}
-        return self.judged(command, (driver or self.driver).call(command, files, *words), files)
+        asked = f"{command} {words[0]}" if words[:1] == ("--explain",) else command
+        return self.judged(asked, (driver or self.driver).call(command, files, *words), files)
 
     def ask_in_pieces(self, command, *words):
         """The same, of a capture through a pipe."""
@@ -298,6 +317,53 @@ def shown(trial, told):
     trial.ask("show", "--summary")
 
 
+def explained(trial, told):
+    """explain: behind the line of `check`, of this order or of the one that is proposed, or those of `judge`, lines say why, and there is
+    something to look at."""
+    how = trial.chance.choice(("order", "proposal", "search"))
+    if how == "order":
+        line, why = told, trial.ask("explain")
+    elif how == "proposal":
+        proposed = trial.ask("propose")
+        line = trial.ask("check", order=proposed.output) if proposed.status == LEGAL else proposed
+        why = trial.ask("explain", order=None)
+    else:
+        steps = "--steps", str(trial.chance.choice(STEPS))
+        line, why = trial.ask("judge", *steps, driver=trial.driver.program), trial.ask("judge", "--explain", *steps)
+    trial.holds("explain", why.status == line.status and why.output.startswith(line.output), f"without and with the reasons, {how}", line, why)
+    lines = why.output[len(line.output):].splitlines()
+    looked = any(one.startswith(b"look at  ") for one in lines) or why.status in (LEGAL, GAVE_UP)
+    trial.holds("explain", looked, f"what to look at, {how}", why)
+
+
+def drawn(trial, told):
+    """drawn: the heading of a page is the line of `check` or `judge`, with its status, and its reasons are those of `explain` or
+    `judge --explain`; page and picture are well-formed, and the picture has the name that it should."""
+    by_order = trial.chance.choice((True, False))
+    if by_order:
+        line, page, why, picture = told, trial.ask("report"), trial.ask("explain"), trial.ask("picture")
+    else:
+        steps = "--steps", str(trial.chance.choice(STEPS))
+        line = trial.ask("judge", *steps, driver=trial.driver.program)
+        page, why = trial.ask("report", *steps, order=None), trial.ask("judge", "--explain", *steps)
+        picture = trial.ask("picture", order=None, tree=None)
+    if line.status == TEXT:
+        trial.same("drawn", page, why, "the page of a text that is none, and why")
+        return
+    first = line.output.splitlines()[0].decode()
+    read = pages.Page(page.output.decode())
+    due = pages.reason_lines(told.decode() for told in why.output.splitlines()[1:] if not ALONE.match(told))
+    wrong = read.wrong + ([] if (page.status, read.verdict) == (line.status, first) else [f"heading {read.verdict!r}"])
+    wrong += [] if [reason for reason in read.reasons if reason[0] != "shortest"] == due else [f"reasons {read.reasons}"]
+    try:
+        name = xml.etree.ElementTree.fromstring(picture.output).get("aria-label")
+    except xml.etree.ElementTree.ParseError as error:
+        wrong.append(f"the picture: {error}")
+    else:
+        wrong += [] if name == first or not by_order and line.status != FAULT else [f"the picture is called {name!r}"]
+    trial.holds("drawn", not wrong, "; ".join(wrong), line, page)
+
+
 def plainly(trial, told):
     """plain: the plain judge tells the same, and of a search too."""
     try:
@@ -316,7 +382,7 @@ def plainly(trial, told):
 def checks_of(trial, told):
     """The checks that an input may be put to, and how often each of them is."""
     in_library = trial.driver is not trial.driver.program
-    found = {timed: 20 if in_library else 1, judged: 20 if in_library else 1, migrated: 2, searched: 6, alone: 2, watched: 2, shown: 2}
+    found = {timed: 20 if in_library else 1, judged: 20 if in_library else 1, migrated: 2, searched: 6, alone: 2, watched: 2, shown: 2, explained: 4, drawn: 4}
     if in_library:
         found[in_process] = 1
     if len(trial.given.capture) < drivers.PIPE_BYTES:

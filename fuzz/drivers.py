@@ -114,7 +114,7 @@ class Library(Program):
         self.library, self.process = library, None
 
     def call(self, command, files, *words):
-        if command not in ("check", "judge"):
+        if command not in ("check", "judge") or "--explain" in words:
             return super().call(command, files, *words)
         parts = [files.get(name) or b"" for name in ("capture", "tree", "order")]
         steps = int(words[1]) if command == "judge" else -1
