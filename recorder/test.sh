@@ -1047,6 +1047,8 @@ tried_checks() {
     trying --rounds 20 --calls 200 --keep "$work/kept" --shrink 5 -- "$work/memory" --bug lost-mode
     check "tried, a bug: is found" tries 6 ": no order: message [0-9]*: code 83: attributes$"
     check "tried, a bug: the shortest capture shows it" grep -q "^no order: message [0-9]*: code 83: attributes$" "$work/kept/verdict"
+    check "tried, a bug: is explained" grep -q " bits: answered 0" "$work/kept/why"
+    check "tried, a bug: has a page" grep -q '^<h1 class="fault">no order: message [0-9]*: code 83: attributes</h1>$' "$work/kept/report.html"
     check "tried, a bug: has few messages" [ "$("$program" show --capture "$work/kept/shortest.cap" | wc -l)" -lt 60 ]
     trying --rounds 5 --script "$work/kept/script" -- "$work/memory" --bug lost-mode
     check "tried, a bug: its script shows it" tries 6 "^script: .*: no order: .*code 83: attributes$"

@@ -5,8 +5,8 @@
 #
 # SUITE is a program that is called with the mount point; it may take S seconds, 600. SERVER mounts there, is none that goes into the
 # background, and ends when it is unmounted. --lower names the folder that it passes on. Without it the server begins with an empty root.
-# --out is the folder of what is kept, 'recorded': the capture, its log and tree text, what was said, and the verdict. What an earlier
-# recording left there is replaced.
+# --out is the folder of what is kept, 'recorded': the capture, its log and tree text, what was said, the verdict, and where one fails it
+# report.html, a page that says why. What an earlier recording left there is replaced.
 # FA_AUDIT is the auditor, 'fa_audit' on the path, and KIGZELT a clone of its repository, the one that this file is in.
 #
 # The verdict is the last line; where no order explains the replies it is the last two. The status is that of 'fa_audit judge', which is
@@ -53,7 +53,7 @@ kigzelt="${KIGZELT:-$(dirname "$0")/../..}"
 audit="${FA_AUDIT:-fa_audit}"
 make -s -C "$kigzelt/recorder"
 mkdir -p "$out"
-rm -f "$out/verdict" "$out/suite.said"
+rm -f "$out/verdict" "$out/report.html" "$out/suite.said"
 capture="$out/session.cap"
 
 is_mounted() { grep -qs " $mount fuse" /proc/self/mounts; }
@@ -129,6 +129,7 @@ set -- --steps "$steps" --capture "$capture"
 status=0
 "$audit" judge "$@" > "$out/verdict" || status=$?
 cat "$out/verdict"
+if [ "$status" -ne 0 ]; then "$audit" report "$@" > "$out/report.html" || true; fi
 if [ "$status" -eq 7 ] && [ -z "$strict" ]; then
     echo "the auditor gave up: this says nothing for the server, and nothing against it" >&2
     status=0

@@ -30,13 +30,29 @@ def find_program(named):
 
 def judge(program, capture, tree=None):
     """The verdict on a capture, of all orders."""
-    words = [program, "judge", "--steps", str(STEPS), "--capture", capture, *(["--tree", tree] if tree else [])]
-    ended = subprocess.run(words, stdout=subprocess.PIPE, stderr=subprocess.PIPE, check=False)
+    ended = audited(program, "judge", capture, tree)
+    return read_line(ended.returncode, ended.stdout.decode().partition("\n")[0].strip())
+
+
+def explain(program, capture, tree=None):
+    """The lines of the verdict on a capture, and those that say why."""
+    return audited(program, "judge", capture, tree, "--explain").stdout.decode()
+
+
+def report(program, capture, tree=None):
+    """The verdict on a capture as a page, with the requests around it."""
+    return audited(program, "report", capture, tree).stdout.decode()
+
+
+def audited(program, command, capture, tree, *words):
+    """What the auditor says, where it comes to a verdict."""
+    files = ["--capture", capture, *(["--tree", tree] if tree else [])]
+    ended = subprocess.run([program, command, "--steps", str(STEPS), *words, *files], capture_output=True, check=False)
     if ended.returncode not in (LEGAL, FAULT, NO_ORDER, GAVE_UP):
         said = (ended.stdout + ended.stderr).decode(errors="replace").strip().splitlines()
-        how = f"{os.path.basename(program)} judge ended with status {ended.returncode}"
+        how = f"{os.path.basename(program)} {command} ended with status {ended.returncode}"
         raise AuditFailed(f"{how}: {said[0] if said else 'it said nothing'}")
-    return read_line(ended.returncode, ended.stdout.decode().partition("\n")[0].strip())
+    return ended
 
 
 def read_line(status, line):

@@ -137,6 +137,8 @@ class Rounds:
         judge = functools.partial(judging.judge, self.program, path, tree)
         verdict = shrinking.shrink_capture(shrinker.found, judge, path, self.words.shrink)
         write(self.path_kept("verdict"), verdict.line + "\n")
+        write(self.path_kept("why"), judging.explain(self.program, path, tree))
+        write(self.path_kept("report.html"), judging.report(self.program, path, tree))
         acting = sum(map(captures.acts_on_tree, captures.Capture.read(path).messages))
         told_on_error(f"kept in {self.words.keep}: {len(calls)} calls, which showed it in {shown} of {tries} tries, "
                       f"and a capture of {acting} requests that act on the tree: {verdict.line}")
