@@ -97,6 +97,50 @@ fn a_capture_in_pieces_of_each_size(rt: HostRuntime) {
     }
 }
 
+/// The greatest length of what is left of a capture, and the verdict on it.
+type Cut = (usize, Verdict);
+
+/// INIT, its answer, a LOOKUP and its answer, cut to its first bytes, with the order of the message 2.
+static CUT: [Cut; 10] = [
+    (7, FAULT),
+    (8, NO_TREE_REQUEST),
+    (68, Verdict::Fault { at: 0, code: 2 }),
+    (69, NO_TREE_REQUEST),
+    (153, Verdict::Fault { at: 1, code: 2 }),
+    (154, NO_TREE_REQUEST),
+    (200, Verdict::Fault { at: 2, code: 2 }),
+    (201, NOT_ALLOWED),
+    (221, Verdict::Fault { at: 3, code: 2 }),
+    (222, LEGAL),
+];
+
+const NO_TREE_REQUEST: Verdict = Verdict::NotShown {
+    entry: 0,
+    at: 2,
+    code: 70,
+};
+
+const NOT_ALLOWED: Verdict = Verdict::NotShown {
+    entry: 0,
+    at: 2,
+    code: 74,
+};
+
+#[test]
+fn a_capture_cut_to_each_length(rt: HostRuntime) {
+    let alloc = rt.alloc();
+    let capture = not_found(alloc).capture().expect(&rt, "memory");
+    for length in 0..=222 {
+        let left = capture.get(..length).expect(&rt, "so many bytes");
+        let expected = CUT.iter().find(|(most, _)| length <= *most);
+        let told = audit(alloc, left, None, SECOND);
+        assert!(rt;
+            expected.is_some_and(|(_, verdict)| told == Ok(*verdict)),
+            "the first {length} bytes"
+        );
+    }
+}
+
 #[test]
 fn texts_of_answers(rt: HostRuntime) {
     let alloc = rt.alloc();

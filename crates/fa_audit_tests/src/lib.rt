@@ -7,4 +7,6 @@
 #[cfg(test)]
 mod answers;
 #[cfg(test)]
+mod devices;
+#[cfg(test)]
 mod runs;

@@ -261,8 +261,8 @@ fn calls_over_memory(rt: HostRuntime) {
     assert_eq!(rt; wrong, None);
 }
 
-/// An ordinary run has ample memory, so only a run by `rt try --test --fail-alloc N`, which refuses the Nth allocation, shows what is
-/// written without it: nothing else.
+/// An ordinary run has ample memory: `bench/refused` refuses each allocation in turn, which shows what is written without it:
+/// nothing else.
 #[test]
 fn want_of_memory_tells_nothing_else(rt: HostRuntime) {
     let alloc = rt.alloc();

@@ -63,9 +63,9 @@ fn verdict_again(alloc: Global, calls: &Calls<'_>, order: &[Entry]) -> Option<Ve
     }
 }
 
-/// The sessions, the ledger, the tree and the check alone take memory here. An ordinary run has ample memory, so only a run by
-/// `rt try --test --fail-alloc N`, which refuses the Nth allocation, shows what the check does without it: it tells no verdict
-/// then, and the right one where it is asked again.
+/// The sessions, the ledger, the tree and the check alone take memory here. An ordinary run has ample memory: `bench/refused`
+/// refuses each allocation in turn, which shows what the check does without it: it tells no verdict then, and the right one where
+/// it is asked again.
 #[test]
 fn a_check_without_memory_is_made_again(rt: HostRuntime) {
     let (to, from) = (Direction::ToServer, Direction::FromServer);

@@ -698,9 +698,9 @@ fn are_grown(calls: &Calls<'_>) -> bool {
     are_grown && gives(&listing, 125, &given) && further.listing == listed
 }
 
-/// The sessions, the ledger and the standing alone take memory here. An ordinary run has ample memory, so only a run by
-/// `rt try --test --fail-alloc N`, which refuses the Nth allocation, shows what they do without it: the event is
-/// handed in again, and what is told of it and of the others is the same.
+/// The sessions, the ledger and the standing alone take memory here. An ordinary run has ample memory: `bench/refused` refuses
+/// each allocation in turn, which shows what they do without it: the event is handed in again, and what is told of it and of the
+/// others is the same.
 #[test]
 fn an_event_without_memory_is_handed_in_again(rt: HostRuntime) {
     let (to, from) = (Direction::ToServer, Direction::FromServer);

@@ -6,6 +6,7 @@
 
 #[cfg(test)]
 mod captures;
+pub mod devices;
 #[cfg(test)]
 mod first;
 #[cfg(test)]

@@ -7,8 +7,16 @@ use fa_capture::{CaptureFault, Feed, FeedError, codes};
 use std::alloc::Global;
 use std::process::Abort;
 
-/// At which piece a fault is first told, counted from 1, or 0, and how the capture ends that was stored. None where memory was refused,
-/// or a later piece was answered otherwise.
+/// Hands in a piece, and again where memory was refused.
+fn fed_again(feed: &mut Feed, piece: &[u8]) -> Result<(), FeedError> {
+    match feed.feed(piece) {
+        Err(FeedError::Memory) => feed.feed(piece),
+        told => told,
+    }
+}
+
+/// At which piece a fault is first told, counted from 1, or 0, and how the capture ends that was stored. None where memory was refused
+/// again, or a later piece was answered otherwise.
 fn fed(alloc: Global, bytes: &[u8], size: usize) -> Option<(usize, Ending)>
     requires { 0 < size }
 {
@@ -16,7 +24,7 @@ fn fed(alloc: Global, bytes: &[u8], size: usize) -> Option<(usize, Ending)>
     let mut told = 0;
     let mut is_told_again = true;
     for (number, piece) in bytes.chunks(size).enumerate() {
-        match feed.feed(piece) {
+        match fed_again(&mut feed, piece) {
             Ok(()) => is_told_again = is_told_again && told == 0,
             Err(FeedError::Fault(_)) if told == 0 => told = number + 1,
             Err(FeedError::Fault(_)) => {}
@@ -49,6 +57,7 @@ fn the_byte_that_decides(rt: HostRuntime) {
     }
 }
 
+/// An ordinary run has ample memory: `bench/refused` refuses each allocation in turn.
 #[test]
 fn pieces_of_each_size(rt: HostRuntime) {
     for size in 1..=222 {

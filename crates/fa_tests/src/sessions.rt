@@ -349,9 +349,8 @@ fn packet(direction: Direction, bytes: &[u8]) -> Packet<'_> {
     }
 }
 
-/// The session alone takes memory here. An ordinary run has ample memory, so only a run by
-/// `rt try --test --fail-alloc N`, which refuses the Nth allocation, shows what the session does without it: the message
-/// is handed in again, and what is told of it and of the others is the same.
+/// The session alone takes memory here. An ordinary run has ample memory: `bench/refused` refuses each allocation in turn, which
+/// shows what the session does without it: the message is handed in again, and what is told of it and of the others is the same.
 #[test]
 fn a_message_without_memory_is_handed_in_again(rt: HostRuntime) {
     let messages = readlinks();
@@ -381,9 +380,8 @@ fn a_message_without_memory_is_handed_in_again(rt: HostRuntime) {
     }
 }
 
-/// The session alone takes memory here too, and is put aside behind each message. As above, only a run by
-/// `rt try --test --fail-alloc N` shows what it does without memory: it is put aside or taken up again at a second try, and what
-/// is told of each message is the same.
+/// The session alone takes memory here too, and is put aside behind each message. As above, `bench/refused` shows what
+/// it does without memory: it is put aside or taken up again at a second try, and what is told of each message is the same.
 #[test]
 fn a_session_without_memory_is_put_aside_again(rt: HostRuntime) {
     let messages = readlinks();

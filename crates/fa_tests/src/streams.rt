@@ -3,39 +3,10 @@
 ghost use Rattle.std.specs.Prelude.{◌≡◌, false};
 ghost use Rattle.fa_capture.specs.Device.{device_failed, device_interrupted};
 
+use crate::devices::{BreakingWriter, SlowReader};
 use fa_capture::{Broken, Device, Input, MAX_READ_LIMIT, Output, Pull, ReadError, read_all};
-use std::io;
-use std::io::{ErrorKind, Read, Write};
 
 static TEXT: &[u8; 47] = b"a byte at a time, and interrupted now and then.";
-
-/// A reader that gives a byte a call and counts its calls. Each third call is interrupted, and the `fails_at`th fails.
-#[derive(Drop)]
-struct SlowReader<'a> {
-    left: &'a [u8],
-    calls: &'a mut usize,
-    fails_at: usize,
-}
-
-impl Read for SlowReader<'_> {
-    fn read(&mut self, into: &mut [u8]) -> io::Result<usize> {
-        *self.calls = self.calls.saturating_add(1);
-        if *self.calls == self.fails_at {
-            return Err(io::Error::from(ErrorKind::Other));
-        }
-        if *self.calls % 3 == 0 {
-            return Err(io::Error::from(ErrorKind::Interrupted));
-        }
-        match (self.left, into) {
-            ([first, rest @ ..], [place, ..]) => {
-                *place = *first;
-                self.left = rest;
-                Ok(1)
-            }
-            _ => Ok(0),
-        }
-    }
-}
 
 /// The text by a slow reader.
 fn slow_text<'a>(calls: &'a mut usize, fails_at: usize) -> Device<SlowReader<'a>>
@@ -101,34 +72,6 @@ impl Input for PlannedInput {
 
     fn interrupted(&self) -> bool {
         self.interrupted
-    }
-}
-
-/// A writer that takes four bytes a call, and breaks at the `breaks_at`th; a flush is a call too.
-#[derive(Drop)]
-struct BreakingWriter {
-    calls: usize,
-    breaks_at: usize,
-}
-
-impl BreakingWriter {
-    fn call(&mut self) -> io::Result<()> {
-        self.calls = self.calls.saturating_add(1);
-        if self.calls == self.breaks_at {
-            return Err(io::Error::from(ErrorKind::BrokenPipe));
-        }
-        Ok(())
-    }
-}
-
-impl Write for BreakingWriter {
-    fn write(&mut self, bytes: &[u8]) -> io::Result<usize> {
-        self.call()?;
-        Ok(bytes.len().min(4))
-    }
-
-    fn flush(&mut self) -> io::Result<()> {
-        self.call()
     }
 }
 

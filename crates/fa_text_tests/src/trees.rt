@@ -514,7 +514,7 @@ fn names_are_decoded(rt: HostRuntime) {
 
 #[test]
 fn want_of_memory_tells_no_line(rt: HostRuntime) {
-    // Under `--fail-alloc N` memory is refused at the allocation N: the text is then not read, and no line is told.
+    // Where `bench/refused` refuses an allocation, the text is not read, and no line is told.
     let outcome = outcome_of(rt.alloc(), &TEN);
     assert!(rt; outcome == Read || outcome == Nothing);
 }

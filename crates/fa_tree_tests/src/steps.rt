@@ -217,9 +217,8 @@ fn all_step(tree: &mut Tree, calls: &Calls<'_>) -> bool {
     all_step && names == 31 && is_there && is_made_once(tree, calls)
 }
 
-/// The sessions, the ledger and the tree alone take memory here. An ordinary run has ample memory, so only a run by
-/// `rt try --test --fail-alloc N`, which refuses the Nth allocation, shows what the tree does without it: the call is handed
-/// in again, and steps.
+/// The sessions, the ledger and the tree alone take memory here. An ordinary run has ample memory: `bench/refused` refuses each
+/// allocation in turn, which shows what the tree does without it: the call is handed in again, and steps.
 #[test]
 fn a_step_without_memory_is_taken_again(rt: HostRuntime) {
     let (to, from) = (Direction::ToServer, Direction::FromServer);

@@ -276,12 +276,24 @@ fn grown(tree: &mut Tree) -> Option<bool> {
     Some(are_found(tree, directory))
 }
 
-/// The tree alone takes memory here. An ordinary run has ample memory, so only a run by `rt try --test --fail-alloc N`, which
-/// refuses the Nth allocation, shows what the tree does without it.
+/// Whether a copy, made again where memory was refused, is the same tree.
+fn is_copied(tree: &Tree) -> Option<bool> {
+    let copy = match tree.copy() {
+        Ok(copy) => copy,
+        Err(_) => tree.copy().ok()?,
+    };
+    let is_same = tree.is_same(&copy);
+    drop(copy);
+    Some(is_same)
+}
+
+/// The tree alone takes memory here. An ordinary run has ample memory: `bench/refused` refuses each allocation in turn, which shows
+/// what the tree does without it.
 #[test]
 fn what_memory_was_refused_for_is_added_again(rt: HostRuntime) {
     let mut tree = empty_again(&rt, rt.alloc());
     let has_grown = grown(&mut tree);
+    let is_copied = is_copied(&tree);
     drop(tree);
-    assert!(rt; has_grown == Some(true));
+    assert!(rt; has_grown == Some(true) && is_copied == Some(true));
 }
