@@ -1,6 +1,7 @@
 """The inputs that are mutated: those of the cases, among which are the examples, and made ones."""
 import bz2
 import os
+import random
 import re
 
 from captures import Input, messages
@@ -8,6 +9,24 @@ from captures import Input, messages
 import made
 import run
 
+# A file that is made, written, removed while it is open, and read: its capture, and the messages of its order.
+REMOVED = """\
+> unique 2 INIT
+< unique 2 init
+> unique 4 CREATE node 1 "f"
+< unique 4 created node 2 mode 0100644 nlink 1 fh 1
+> unique 6 WRITE node 2 fh 1 "abc"
+< unique 6 written size 3
+> unique 8 UNLINK node 1 "f"
+< unique 8 ok
+> unique 10 READ node 2 fh 1 size 4096
+< unique 10 "abc"
+> unique 12 GETATTR node 2
+< unique 12 attr size 3 mode 0100644 nlink 0
+"""
+REMOVED_ORDER = "2, 4, 6, 8, 10"
+# So many random texts, of fewer bytes than this.
+TEXTS, TEXT_BYTES = 1000, 256
 # Larger files are none of a sample.
 MOST_BYTES = 200_000
 MADE = 300
@@ -49,3 +68,15 @@ def of_cases():
 def all_samples(seed):
     """All of them."""
     return of_cases() + [Input(capture, order, tree) for _, capture, tree, order in made.all_made(seed, MADE)]
+
+
+def all_damaged(seed):
+    """A capture, the same with each byte as 0 and as 255, and random bytes in the place of its order and of a tree text."""
+    chance = random.Random(seed)
+    capture, order = messages.read(REMOVED), run.rows.order_text(REMOVED_ORDER).encode("ascii")
+    values = [(place, value) for place, byte in enumerate(capture) for value in (0, 255) if value != byte]
+    found = [Input(capture, order, None)]
+    found += [Input(capture[:place] + bytes([value]) + capture[place + 1:], order, None) for place, value in values]
+    texts = [chance.randbytes(chance.randrange(TEXT_BYTES)) for _ in range(2 * TEXTS)]
+    found += [Input(capture, text, None) for text in texts[:TEXTS]]
+    return found + [Input(capture, order, text) for text in texts[TEXTS:]]
