@@ -36,7 +36,7 @@ FORMS = {
     "no order": (NO_ORDER, r"no order: message N: code C: TEXT(?:\nthe first N messages alone have no order)?", STEP_FAULTS),
     "gave up": (GAVE_UP, "gave up: message N", ())}
 # The same with lines behind them that say why: a label, padded to eight characters, a blank and a text.
-FORMS |= {f"{kind}, why": (status, pattern + r"(?:\n[a-z][a-z0-9 ]{7} [ -~]*)*", told)
+FORMS |= {f"{kind}, why": (status, pattern + r"(?:\n[a-z][a-z0-9 ]{7} [ -~]+)*", told)
           for kind, (status, pattern, told) in FORMS.items() if pattern}
 # A page in the place of a line, and a picture.
 PAGES = "legal", "fault", "not shown", "no order", "gave up"

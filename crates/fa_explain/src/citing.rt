@@ -137,8 +137,11 @@ fn is_answer_to(packet: &Packet<'_>, unique: u64) -> bool {
     }
 }
 
-/// Writes how a message begins, in groups of four bytes.
+/// Writes how a message begins, in groups of four bytes; no line of one that has none.
 pub(crate) fn bytes_line(text: &mut Text, bytes: &[u8]) {
+    if bytes.is_empty() {
+        return;
+    }
     text.word("bytes    ");
     let mut place: usize = 0;
     for byte in bytes.iter().take(FRONT) {
