@@ -117,7 +117,8 @@ def look_of(status, reasons):
     """The class of a verdict."""
     if status != 2:
         return CLASSES[status]
-    return "fault" if any(label == "order" and "no order explains " in text for label, text in reasons) else "open"
+    told = (text for label, text in reasons if label == "order")
+    return "fault" if any("no order explains " in text or ", but none the one to " in text for text in told) else "open"
 
 
 def marks_of(root):

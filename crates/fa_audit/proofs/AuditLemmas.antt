@@ -18,7 +18,8 @@ use Rattle.fa_audit.specs.Laws.{OneAnswer}
 use Rattle.fa_audit.specs.Proposed.{answer_of}
 use Rattle.fa_audit.specs.declared.protocol.Broken.{Broken}
 use Rattle.fa_audit.specs.declared.protocol.Broken.TheVariants as broken
-use Rattle.fa_audit.specs.parts.Answers.{Tells, AreCallsOf, IsCaptureRefused, start_refused, IsStartOf, IsNoStart, IsTreeRefused, IsOrderRefused}
+use Rattle.fa_audit.specs.Starts.{IsStartOf, IsNoStart, IsOrderRefused}
+use Rattle.fa_audit.specs.parts.Answers.{Tells, AreCallsOf, IsCaptureRefused, start_refused, IsTreeRefused}
 
 -- ---- the answer is the only one
 

@@ -34,7 +34,8 @@ use Rattle.fa_order.specs.declared.entry.Entry.{Entry}
 use Rattle.fa_audit.specs.declared.verdict.StartError.{StartError}
 use Rattle.fa_audit.specs.declared.verdict.StartError.TheVariants as starts
 use Rattle.fa_audit.specs.Proposed.{answer_of}
-use Rattle.fa_audit.specs.parts.Answers.{Tells, IsNoStart}
+use Rattle.fa_audit.specs.Starts.{IsNoStart}
+use Rattle.fa_audit.specs.parts.Answers.{Tells}
 use Rattle.fa_audit.specs.Line.{IsCoded}
 
 -- the code of each check has a text

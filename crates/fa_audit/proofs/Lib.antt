@@ -15,5 +15,4 @@ pub mod CutOrderLemmas
 pub mod TimeLemmas
 pub mod SeenLemmas
 pub mod ShortestLemmas
-pub mod ExplainedLemmas
-pub mod PageLemmas
+pub mod CallerLemmas

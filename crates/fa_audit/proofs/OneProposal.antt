@@ -14,7 +14,7 @@ use Rattle.fa_audit.specs.declared.verdict.StartError.TheVariants.{Fault, TreeTe
 use Rattle.fa_audit.specs.Verdict.{IsTreeTextAtFault, ExactlyRefused}
 use Rattle.fa_audit.specs.Proposed.{IsStart, IsProposed}
 use Rattle.fa_audit.specs.Laws.{OneProposalAnswer}
-use Rattle.fa_audit.specs.parts.Answers.{IsNoStart}
+use Rattle.fa_audit.specs.Starts.{IsNoStart}
 use Rattle.fa_audit.proofs.OneAnswer.{one_first_fault, good_no_fault, one_good_capture, one_given, given_no_fault, tree_fault_same}
 
 -- ---- a start and its faults exclude one another

@@ -15,7 +15,8 @@ use Rattle.fa_audit.specs.declared.verdict.StartError.{StartError}
 use Rattle.fa_audit.specs.declared.verdict.StartError.TheVariants.{Fault, TreeText, Memory}
 use Rattle.fa_audit.specs.Run.{AreBytesOf}
 use Rattle.fa_audit.specs.Proposed.{IsProposed, IsProposalAnswer, IsProposalTold, IsProposedFrom, answer_of}
-use Rattle.fa_audit.specs.parts.Answers.{IsStartOf, IsNoStart, text_answered}
+use Rattle.fa_audit.specs.Starts.{IsStartOf, IsNoStart}
+use Rattle.fa_audit.specs.parts.Answers.{text_answered}
 
 -- the text of the entries that are proposed
 pub text_proposed : (capture : List ℕ) (tree : Option (List ℕ)) (calls : Calls) (first : TreeState) (es : List Entry) (text : List ℕ)

@@ -20,7 +20,7 @@ use Rattle.fa_audit.specs.declared.found.Judgement.TheVariants as judged
 use Rattle.fa_audit.specs.Line.{IsCodedSearch, IsCodedJudgement}
 use Rattle.fa_audit.specs.Proposed.{IsStart}
 use Rattle.fa_audit.specs.Searched.{IsWithoutOrder, IsGivenUp, IsSearched, IsJudged}
-use Rattle.fa_audit.specs.parts.Answers.{IsStartOf}
+use Rattle.fa_audit.specs.Starts.{IsStartOf}
 use Rattle.fa_audit.specs.parts.Searching.{IsStopWith, IsGivenUpIn, IsFindingIn, IsSearchedIn, IsJudgedIn}
 use Rattle.fa_audit.proofs.CodedLemmas.{step_coded}
 

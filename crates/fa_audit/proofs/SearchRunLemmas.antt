@@ -12,7 +12,7 @@ use Rattle.fa_audit.specs.declared.verdict.StartError.TheVariants.{Fault, TreeTe
 use Rattle.fa_audit.specs.Proposed.{answer_of}
 use Rattle.fa_audit.specs.Run.{AreBytesOf}
 use Rattle.fa_audit.specs.Searched.{IsSearched, IsJudged, IsSearchAnswer, IsJudgeAnswer, IsSearchTold, IsJudgementTold, IsSearchedFrom, IsJudgedFrom}
-use Rattle.fa_audit.specs.parts.Answers.{IsNoStart}
+use Rattle.fa_audit.specs.Starts.{IsNoStart}
 
 -- each answer says what holds of the capture and the tree, or memory was refused
 pub searched_or_memory : (capture : List ℕ) (tree : Option (List ℕ)) (result : Result Searched StartError)

@@ -17,7 +17,8 @@ use Rattle.fa_search.specs.declared.finding.Finding.TheVariants as finding
 use Rattle.fa_audit.specs.declared.verdict.StartError.{StartError}
 use Rattle.fa_audit.specs.Verdict.{IsGivenTree}
 use Rattle.fa_audit.specs.Searched.{IsShortestWithout, IsWithoutOrder}
-use Rattle.fa_audit.specs.parts.Answers.{IsTreeRefused, IsNoStart}
+use Rattle.fa_audit.specs.Starts.{IsNoStart}
+use Rattle.fa_audit.specs.parts.Answers.{IsTreeRefused}
 use Rattle.fa_audit.specs.parts.Protocol.{messages_of}
 use Rattle.fa_audit.specs.parts.Searching.{IsFindingIn, known_by, IsKnownOf}
 use Rattle.fa_audit.proofs.AuditLemmas.{tree_no_start}

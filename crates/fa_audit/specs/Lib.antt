@@ -6,6 +6,8 @@ pub mod Verdict
 pub mod Line
 pub mod Status
 pub mod Run
+-- what an order starts with, or why it has no start
+pub mod Starts
 -- what each answer of a proposal says, and what a run of it writes
 pub mod Proposed
 -- what each answer of a search says, and what is judged by it; what a run of either writes
@@ -18,10 +20,6 @@ pub mod Migrated
 -- what a run writes that watches a stream, and one that shows messages
 pub mod Watching
 pub mod Showing
--- what is answered where reasons are asked for, and what a run writes of it
-pub mod Explained
--- what a run writes that draws a capture, or reports on it
-pub mod Pages
 -- the statements of the laws
 pub mod Laws
 -- the vocabulary of private contracts

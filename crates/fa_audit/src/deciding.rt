@@ -15,7 +15,7 @@ ghost use Rattle.fa_audit.specs.declared.running.TheConstants.{MAX_TEXT_INPUT_BY
 ghost use Rattle.fa_audit.specs.Proposed.{IsStart, answer_of};
 ghost use Rattle.fa_audit.specs.Status.{status_number};
 ghost use Rattle.fa_audit.specs.Searched.{IsJudged, IsJudgementTold, IsJudgedFrom, judged_line, judged_lines, judged_status, told_shortest, shortest_part};
-ghost use Rattle.fa_audit.specs.parts.Answers.{IsNoStart};
+ghost use Rattle.fa_audit.specs.Starts.{IsNoStart};
 ghost use Rattle.fa_audit.specs.parts.Searching.{IsFindingIn, IsJudgedIn};
 
 use crate::found::Judgement;
@@ -77,8 +77,17 @@ pub fn judge_capture(
     judged(alloc, &read_capture(capture), tree, budget, &mut Nobody)
 }
 
-/// What is judged of a capture that was read: where no order is legal, with how many of the first messages alone have none.
-pub(crate) fn judged<L: Listener>(
+/// What is judged of a capture that was read, as [`judge_capture`] judges one by its bytes: where no order is legal, with how many of the
+/// first messages alone have none. The listener is told how far each search has come.
+///
+/// # Errors
+///
+/// Those of [`judge_capture`].
+///
+/// # Cost
+///
+/// That of [`judge_capture`] without [`read_capture`].
+pub fn judged<L: Listener>(
     alloc: Global,
     capture: &Capture<'_>,
     tree: Option<&[u8]>,
@@ -201,7 +210,15 @@ fn shortest_part(alloc: Global, shortest: Option<u32>) -> Result<String, AllocEr
 
 /// The lines of what is judged, each with a line feed, and the status of the answer: its line, and behind `no order` the line of the first
 /// messages alone.
-pub(crate) fn judged_lines_and_status(
+///
+/// # Errors
+///
+/// [`RunFault::Memory`] where memory was refused.
+///
+/// # Cost
+///
+/// Constant time; memory for the lines.
+pub fn judged_lines_and_status(
     alloc: Global,
     answer: Result<Judgement, StartError>,
 ) -> Result<(String, Status), RunFault>

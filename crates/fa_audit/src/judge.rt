@@ -8,7 +8,8 @@ ghost use Rattle.fa_order.specs.declared.lines.TheConstants.{MAX_TEXT_BYTES};
 ghost use Rattle.fa_order.specs.Order.{IsOrderText};
 ghost use Rattle.fa_audit.specs.Verdict.{IsGivenTree, IsLegal, IsTreeTextAtFault, IsOrderTextAtFault, IsNotShown, Exactly};
 ghost use Rattle.fa_audit.specs.Line.{IsCoded};
-ghost use Rattle.fa_audit.specs.parts.Answers.{Tells, IsStartOf, IsNoStart, IsTreeRefused, IsOrderRefused};
+ghost use Rattle.fa_audit.specs.Starts.{IsStartOf, IsNoStart, IsOrderRefused};
+ghost use Rattle.fa_audit.specs.parts.Answers.{Tells, IsTreeRefused};
 
 use crate::protocol::good_calls;
 use crate::verdict::{AuditError, StartError};
@@ -142,8 +143,9 @@ pub(crate) fn given_tree(alloc: Global, tree: Option<&[u8]>) -> Result<Tree, Sta
 ///
 /// # Cost
 ///
-/// That of [`good_calls`] and [`read_tree`].
-pub(crate) fn start<'a>(
+/// That of [`Session::accept`](fa_session::Session::accept) and [`Ledger::accept`](fa_ledger::Ledger::accept) for each message, and of
+/// [`read_tree`].
+pub fn start<'a>(
     alloc: Global,
     capture: &Capture<'a>,
     tree: Option<&[u8]>,
@@ -157,8 +159,17 @@ pub(crate) fn start<'a>(
     Ok((calls, first))
 }
 
-/// The entries of an order text.
-pub(crate) fn entries_of(alloc: Global, order: &[u8]) -> Result<Vec<Entry>, AuditError>
+/// The entries of an order text of at most 268,435,456 bytes.
+///
+/// # Errors
+///
+/// - [`AuditError::OrderText`] where it is not in its grammar.
+/// - [`AuditError::Memory`] where memory was refused.
+///
+/// # Cost
+///
+/// That of [`read_order`].
+pub fn entries_of(alloc: Global, order: &[u8]) -> Result<Vec<Entry>, AuditError>
     requires { length order.now ≤ MAX_TEXT_BYTES }
     ensures text { IfOk result (λ entries. IsOrderText order.now entries.items) }
     ensures refused { IfErr result (IsOrderRefused order.now) }

@@ -11,7 +11,8 @@ ghost use Rattle.fa_audit.specs.Line.{IsCoded};
 ghost use Rattle.fa_audit.specs.Run.{IfHandedIn, IsHandedIn, IsSomeRead, IsReadIfAny, IsUnread, FailedOrInterrupted, IsAtEndOrFault};
 ghost use Rattle.fa_audit.specs.declared.running.TheConstants.{MAX_TEXT_INPUT_BYTES};
 ghost use Rattle.fa_audit.specs.Proposed.{IsStart, IsProposed, IsProposalTold, IsProposedFrom, answer_of};
-ghost use Rattle.fa_audit.specs.parts.Answers.{IsNoStart, text_answered};
+ghost use Rattle.fa_audit.specs.Starts.{IsNoStart};
+ghost use Rattle.fa_audit.specs.parts.Answers.{text_answered};
 
 use crate::judge::start;
 use crate::running::{MAX_TEXT_INPUT_BYTES, RunFault, input_bytes, stored_capture, tell};
@@ -56,8 +57,16 @@ pub fn proposal(alloc: Global, capture: &[u8], tree: Option<&[u8]>) -> Result<Ve
     proposed(alloc, &read_capture(capture), tree)
 }
 
-/// The text of an order that is proposed for a capture that was read.
-pub(crate) fn proposed(
+/// The text of an order that is proposed for a capture that was read, as [`proposal`] is for one by its bytes.
+///
+/// # Errors
+///
+/// Those of [`proposal`].
+///
+/// # Cost
+///
+/// That of [`proposal`] without [`read_capture`].
+pub fn proposed(
     alloc: Global,
     capture: &Capture<'_>,
     tree: Option<&[u8]>,

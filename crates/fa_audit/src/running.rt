@@ -22,8 +22,8 @@ use std::alloc::{AllocError, AllocFailed, Global};
 use thiserror::Error;
 
 /// How many bytes the input of a capture may have that is read whole before it is looked at, as [`run_front`](crate::run_front),
-/// [`run_migrate`](crate::run_migrate), [`run_show`](crate::run_show) and those runs do that say why or draw: as many as a capture has at
-/// most with times, which do not count for its limit.
+/// [`run_migrate`](crate::run_migrate), [`run_show`](crate::run_show) and the runs of `fa_reasons` do: as many as a capture has at most with
+/// times, which do not count for its limit.
 pub const MAX_CAPTURE_INPUT_BYTES: usize = 402_653_184;
 
 /// How many bytes the input of a tree text or of an order text may have.
@@ -105,8 +105,17 @@ fn status_of(verdict: Verdict) -> Status
     }
 }
 
-/// The whole of an input of at most `limit` bytes.
-pub(crate) fn input_bytes<R: Input>(
+/// The whole of an input of at most `limit` bytes. No mark of the input is set at the call.
+///
+/// # Errors
+///
+/// - [`RunFault::Read`] where the input failed, did not come to its end, or has more bytes.
+/// - [`RunFault::Memory`] where memory was refused.
+///
+/// # Cost
+///
+/// That of [`read_all`].
+pub fn input_bytes<R: Input>(
     alloc: Global,
     input: &mut R,
     limit: usize,

@@ -14,7 +14,7 @@ ghost use Rattle.fa_audit.specs.Run.{IfHandedIn, IsHandedIn, IsSomeRead, IsReadI
 ghost use Rattle.fa_audit.specs.declared.running.TheConstants.{MAX_TEXT_INPUT_BYTES};
 ghost use Rattle.fa_audit.specs.Proposed.{IsStart, answer_of};
 ghost use Rattle.fa_audit.specs.Searched.{IsSearched, IsSearchTold, IsSearchedFrom};
-ghost use Rattle.fa_audit.specs.parts.Answers.{IsNoStart};
+ghost use Rattle.fa_audit.specs.Starts.{IsNoStart};
 ghost use Rattle.fa_audit.specs.parts.Searching.{IsFindingIn, IsSearchedIn};
 
 use crate::deciding::tell_judgement;

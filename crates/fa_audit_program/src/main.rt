@@ -35,12 +35,14 @@ use crate::command_line::{
 use crate::failure::{Cause, Failure, Printing};
 use crate::files::{Sink, Source, open_capture, open_text, open_text_if_any};
 use fa_audit::{
-    Budget, DEFAULT_MESSAGES, DEFAULT_ROWS, Listener, OrderPage, ReportView, RunFault, SoFar,
-    Status, View, run, run_cut, run_explain, run_explained_judge, run_front, run_judge,
-    run_migrate, run_order_page, run_picture, run_propose, run_report, run_search, run_show,
-    run_watch,
+    Budget, Listener, RunFault, SoFar, Status, run, run_cut, run_front, run_judge, run_migrate,
+    run_propose, run_search, run_show, run_watch,
 };
 use fa_help::Paragraph;
+use fa_reasons::{
+    DEFAULT_MESSAGES, DEFAULT_ROWS, OrderPage, ReportView, View, run_explain, run_explained_judge,
+    run_order_page, run_picture, run_report,
+};
 use std::alloc::{AllocError, Global};
 use std::env::Env;
 use std::fmt::Display;

@@ -5,11 +5,13 @@ ghost use Rattle.fa_capture.specs.Device.{device_failed, device_interrupted};
 
 use crate::answers::{NO_ORDER, NO_TREE, NONE, ROOT, SECOND, not_found};
 use fa_audit::{
-    Budget, Nobody, OrderPage, ReportView, RunFault, View, run, run_cut, run_explain,
-    run_explained_judge, run_front, run_judge, run_migrate, run_order_page, run_propose,
-    run_report, run_search, run_watch,
+    Budget, Nobody, RunFault, run, run_cut, run_front, run_judge, run_migrate, run_propose,
+    run_search, run_watch,
 };
 use fa_capture::{Device, Output};
+use fa_reasons::{
+    OrderPage, ReportView, View, run_explain, run_explained_judge, run_order_page, run_report,
+};
 use std::alloc::Global;
 
 /// A call of the program.

@@ -1,41 +1,170 @@
-//! Whether another order may explain an answer.
+//! Whether another order explains an answer.
 
+use crate::all_orders::{AllOrders, Search};
 use crate::wording::{self, begin_request, comma};
 use fa_ledger::Calls;
-use fa_refusal::{Beside, Next, Overlaps};
+use fa_refusal::{Beside, Case, Next, Overlaps};
 use fa_show::Text;
+use std::alloc::AllocError;
 
-/// Writes whether another order may explain the answer to a request.
-pub(crate) fn order_line(text: &mut Text, calls: &Calls<'_>, asked: u32, overlaps: &Overlaps) {
+/// Whether another order explains an answer, and all answers before it.
+#[derive(Clone, Copy, PartialEq, Eq)]
+pub(crate) enum Another {
+    /// One is legal.
+    Legal,
+    /// One does, and none explains the answer of this later message as well.
+    Until(u32),
+    /// One does, and more is not known.
+    SoFar,
+    /// None does.
+    Never,
+    /// None does, and none explains the answer of this earlier message with all before it.
+    NeverPast(u32),
+    /// It was not found out.
+    Unknown,
+    /// There is no answer.
+    Unanswered,
+}
+
+impl Another {
+    /// Whether one explains the answer to a request, where these were under way at once. Only where some were is anything searched.
+    pub fn of<S: Search>(
+        case: &Case<'_>,
+        overlaps: &Overlaps,
+        search: &mut S,
+    ) -> Result<Another, AllocError> {
+        let Some(answer) = &case.call.answer else {
+            return Ok(Another::Unanswered);
+        };
+        if let Overlaps::Serial { .. } = overlaps {
+            return Ok(Another::Never);
+        }
+        Ok(match search.all_orders()? {
+            None => Another::Unknown,
+            Some(AllOrders::Legal) => Another::Legal,
+            Some(AllOrders::Stop(at)) => Another::with_stop(answer.at, at),
+            Some(AllOrders::GaveUp(at)) if at > answer.at => Another::SoFar,
+            Some(AllOrders::GaveUp(_)) => Another::Unknown,
+        })
+    }
+
+    /// The same of the answer at this message, where no order goes past that one.
+    fn with_stop(answer: u32, stop: u32) -> Another {
+        if stop > answer {
+            Another::Until(stop)
+        } else if stop == answer {
+            Another::Never
+        } else {
+            Another::NeverPast(stop)
+        }
+    }
+
+    /// Whether it is known that no order is legal.
+    pub fn is_without_order(self) -> bool {
+        matches!(
+            self,
+            Another::Until(_) | Another::Never | Another::NeverPast(_)
+        )
+    }
+}
+
+/// Writes whether another order explains the answer to a request, and which requests were under way at once.
+pub(crate) fn order_line(
+    text: &mut Text,
+    calls: &Calls<'_>,
+    asked: u32,
+    overlaps: &Overlaps,
+    another: Another,
+) {
+    text.word("order    ");
     match overlaps {
         Overlaps::Unanswered => {
-            text.field("order    message ", u64::from(asked));
+            text.field("message ", u64::from(asked));
             text.word(" was never answered: the order may leave it out, or have it elsewhere");
         }
         Overlaps::Serial { answered } => {
-            text.field("order    before message ", u64::from(*answered));
+            text.field("before message ", u64::from(*answered));
             text.word(
                 " no two tree requests were under way at once: from this tree no order explains this answer",
             );
         }
-        Overlaps::Earlier { first, second } => earlier_overlap(text, calls, *first, *second),
-        Overlaps::Beside { first, count } => beside(text, calls, first, *count),
+        Overlaps::Earlier { first, second } => {
+            earlier_overlap(text, calls, (*first, *second), another);
+        }
+        Overlaps::Beside { first, count } => beside(text, calls, first, *count, another),
     }
     text.end_line();
 }
 
-/// Writes that an order of what came before may be another.
-fn earlier_overlap(text: &mut Text, calls: &Calls<'_>, first: u32, second: u32) {
-    text.word("order    none was under way with it, but ");
+/// Writes what was found out of other orders: whether anything was.
+fn others(text: &mut Text, calls: &Calls<'_>, another: Another) -> bool {
+    match another {
+        Another::Legal => text.word("another is legal (`fa_audit search`)"),
+        Another::SoFar => text.word("another explains this answer"),
+        Another::Never => text.word("no order explains this answer"),
+        Another::Until(stop) => {
+            text.word("another explains this answer, but none the one to ");
+            asked_by(text, calls, stop);
+            text.word(" as well (`fa_audit judge --explain`)");
+        }
+        Another::NeverPast(stop) => {
+            text.word("no order explains this answer, nor the one to ");
+            asked_by(text, calls, stop);
+            text.word(" before it (`fa_audit judge --explain`)");
+        }
+        Another::Unknown | Another::Unanswered => return false,
+    }
+    true
+}
+
+/// Writes the request that a message answers.
+pub(crate) fn asked_by(text: &mut Text, calls: &Calls<'_>, answer: u32) {
+    if let Some(case) = answered_by(calls, answer) {
+        wording::request(text, calls, case.call.asked);
+    }
+}
+
+/// The request that a message answers, if it acts on the tree.
+pub(crate) fn answered_by<'c>(calls: &'c Calls<'_>, at: u32) -> Option<Case<'c>> {
+    for place in 0..calls.list.len() {
+        let case = Case::at(calls, place)?;
+        if case.call.answer.is_some_and(|answer| answer.at == at) {
+            return Some(case);
+        }
+    }
+    None
+}
+
+/// Writes that two requests were under way at once before one, with what was found out of other orders.
+fn earlier_overlap(text: &mut Text, calls: &Calls<'_>, pair: (u32, u32), another: Another) {
+    if others(text, calls, another) {
+        text.word("; ");
+        two_requests(text, calls, pair);
+        text.word(" were under way at once before it");
+    } else {
+        text.word("none was under way with it, but ");
+        two_requests(text, calls, pair);
+        text.word(
+            " were at once: another order of what came before may explain it (`fa_audit judge`)",
+        );
+    }
+}
+
+/// Writes two requests.
+fn two_requests(text: &mut Text, calls: &Calls<'_>, (first, second): (u32, u32)) {
     wording::request(text, calls, first);
     text.word(" and ");
     wording::request(text, calls, second);
-    text.word(" were at once: another order of what came before may explain it (`fa_audit judge`)");
 }
 
-/// Writes the first requests that were under way with one, and how many there are.
-fn beside(text: &mut Text, calls: &Calls<'_>, first: &[Beside], count: usize) {
-    text.word("order    another may explain it (`fa_audit judge`): under way with it ");
+/// Writes the first requests that were under way with one, and how many there are, with what was found out of other orders.
+fn beside(text: &mut Text, calls: &Calls<'_>, first: &[Beside], count: usize, another: Another) {
+    if others(text, calls, another) {
+        text.word("; ");
+    } else {
+        text.word("another may explain it (`fa_audit judge`): ");
+    }
+    text.word("under way with it ");
     text.word(if count == 1 { "was " } else { "were " });
     let mut is_first = true;
     for beside in first {

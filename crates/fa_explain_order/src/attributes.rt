@@ -291,6 +291,7 @@ fn same_line(text: &mut Text, told: &Attributes, expected: &Expected) {
         comma(text, !kind);
         text.word("bits ");
         text.octal(expected.bits, 4);
+        special_bits(text, told.mode);
     }
     if size {
         comma(text, !(kind || bits));
@@ -301,6 +302,13 @@ fn same_line(text: &mut Text, told: &Attributes, expected: &Expected) {
         text.field("nlink ", expected.links);
     }
     text.end_line();
+}
+
+/// Writes that the bits beside the permission bits are not judged, where some are told.
+fn special_bits(text: &mut Text, mode: Mode) {
+    if mode.bits() & 0o7000 != 0 {
+        text.word(" (setuid, setgid and sticky bits are not judged)");
+    }
 }
 
 /// Whether a request gives a file a further name.

@@ -4,7 +4,7 @@ use crate::holding::{facts, place, taken_by};
 use crate::rules::{LISTINGS, rule_line};
 use crate::scene::Scene;
 use crate::wording::{self, comma, numbered_kind};
-use fa_refusal::Listing;
+use fa_refusal::{Listing, Twice};
 use fa_show::Text;
 use std::alloc::AllocError;
 
@@ -121,12 +121,21 @@ fn twice_line(text: &mut Text, listing: &Listing<'_, '_>) {
     for twice in &listing.twice.first {
         comma(text, is_first);
         text.name(twice.name);
-        text.field(" (by ", u64::from(twice.first));
-        text.field(" and by ", u64::from(twice.second));
-        text.word(")");
+        listed_by(text, twice);
         is_first = false;
     }
     more(text, listing.twice.first.len(), listing.twice.count);
+}
+
+/// Writes which requests have listed a name twice, or the one that did.
+fn listed_by(text: &mut Text, twice: &Twice<'_>) {
+    if twice.first == twice.second {
+        text.field(" (twice by ", u64::from(twice.first));
+    } else {
+        text.field(" (by ", u64::from(twice.first));
+        text.field(" and by ", u64::from(twice.second));
+    }
+    text.word(")");
 }
 
 /// Writes the line of the names that were never there since the opening.

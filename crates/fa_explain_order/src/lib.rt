@@ -6,6 +6,7 @@
 //! alone.
 #![tactic(auto)]
 
+mod all_orders;
 mod allowed;
 mod another;
 mod answers;
@@ -23,5 +24,6 @@ mod stepping;
 mod unmet;
 mod wording;
 
+pub use all_orders::{AllOrders, NoSearch, Search};
 pub use no_order::{Coming, NoOrderReasons, gave_up_reasons, no_order_reasons};
-pub use ordering::order_reasons;
+pub use ordering::{OrderReasons, order_reasons};

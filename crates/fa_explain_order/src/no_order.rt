@@ -1,5 +1,6 @@
 //! Replies past which no order goes: what the trees that were alive there hold.
 
+use crate::another::answered_by;
 use crate::answers::{exchange, printed};
 use crate::stepping::{because, look_at_line};
 use crate::wording::{self, comma};
@@ -109,17 +110,6 @@ pub fn gave_up_reasons(alloc: Global, at: u32) -> Result<Text, AllocError> {
     text.word(" on nothing is known");
     text.end_line();
     Ok(text)
-}
-
-/// The request that a message answers, if it acts on the tree.
-fn answered_by<'c>(calls: &'c Calls<'_>, at: u32) -> Option<Case<'c>> {
-    for place in 0..calls.list.len() {
-        let case = Case::at(calls, place)?;
-        if case.call.answer.is_some_and(|answer| answer.at == at) {
-            return Some(case);
-        }
-    }
-    None
 }
 
 /// Writes which requests that an order may name were not answered yet where a request was answered.

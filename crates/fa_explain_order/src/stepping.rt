@@ -1,7 +1,8 @@
 //! Entries whose step a tree refuses, and requests that an order leaves out: codes 73 and 81 to 86.
 
+use crate::all_orders::Search;
 use crate::allowed::allowed_line;
-use crate::another::order_line;
+use crate::another::{Another, asked_by, order_line};
 use crate::answers::exchange;
 use crate::holding::tree_lines;
 use crate::rules::{error_line, is_never, never_lines};
@@ -9,52 +10,57 @@ use crate::scene::Scene;
 use crate::{attributes, bindings, contents, directories, unmet, wording};
 use fa_capture::{Capture, codes};
 use fa_explain::advice_of;
+use fa_ledger::Calls;
 use fa_refusal::{Case, Earlier, Finding, Overlaps, Past, Reached, Refused};
 use fa_show::{Text, words};
 use fa_tree::Tree;
 use std::alloc::AllocError;
 
-/// Writes why the tree that the entries before one lead to refuses its step, or that of the request that is left out.
-pub(crate) fn explain(
+/// Writes why the tree that the entries before one lead to refuses its step, or that of the request that is left out: whether it is known
+/// that no order is legal. Where requests overlap, all orders are searched.
+pub(crate) fn explain<S: Search>(
     text: &mut Text,
     capture: &Capture<'_>,
     refused: &Refused<'_>,
-) -> Result<(), AllocError> {
+    search: &mut S,
+) -> Result<bool, AllocError> {
     let mut tree = refused.first.copy()?;
-    let explained = explain_along(text, capture, refused, &mut tree);
+    let explained = explain_along(text, capture, refused, search, &mut tree);
     // It has many tables: they are proved to go in one place.
     drop(tree);
     explained
 }
 
 /// The same with a tree that is lent, which becomes the one that the entries lead to.
-fn explain_along(
+fn explain_along<S: Search>(
     text: &mut Text,
     capture: &Capture<'_>,
     refused: &Refused<'_>,
+    search: &mut S,
     tree: &mut Tree,
-) -> Result<(), AllocError> {
+) -> Result<bool, AllocError> {
     match refused.reach(tree)? {
-        Some(reached) => explain_reached(text, capture, refused, tree, &reached),
-        None => Ok(()),
+        Some(reached) => explain_reached(text, capture, refused, search, tree, &reached),
+        None => Ok(false),
     }
 }
 
 /// Writes why this tree, to which the entries before one lead, refuses its step, or that of the request that is left out.
-fn explain_reached<'a>(
+fn explain_reached<'a, S: Search>(
     text: &mut Text,
     capture: &Capture<'_>,
     refused: &Refused<'a>,
+    search: &mut S,
     tree: &Tree,
     reached: &Reached<'a>,
-) -> Result<(), AllocError> {
+) -> Result<bool, AllocError> {
     exchange(refused.alloc, text, capture, &reached.case)?;
     if refused.code == codes::ANSWERED_LEFT_OUT {
         next_line(text, refused, reached);
     }
     match reached.code {
-        Some(code) => explain_at(text, refused, tree, &reached.case, code),
-        None => Ok(()),
+        Some(code) => explain_at(text, refused, search, tree, &reached.case, code),
+        None => Ok(false),
     }
 }
 
@@ -87,38 +93,41 @@ fn next_line(text: &mut Text, refused: &Refused<'_>, reached: &Reached<'_>) {
 }
 
 /// Writes why this tree refuses the step of a request with this code, and what was so before.
-fn explain_at<'a>(
+fn explain_at<'a, S: Search>(
     text: &mut Text,
     refused: &Refused<'a>,
+    search: &mut S,
     tree: &Tree,
     case: &Case<'a>,
     code: u16,
-) -> Result<(), AllocError> {
+) -> Result<bool, AllocError> {
     match Finding::of(refused, tree, case, code)? {
-        Some(finding) => explain_finding(text, refused, tree, case, &finding),
-        None => Ok(()),
+        Some(finding) => explain_finding(text, refused, search, tree, case, &finding),
+        None => Ok(false),
     }
 }
 
 /// Writes why this tree refuses the step of a request, where that was found, and what was so before.
-fn explain_finding(
+fn explain_finding<S: Search>(
     text: &mut Text,
     refused: &Refused<'_>,
+    search: &mut S,
     tree: &Tree,
     case: &Case<'_>,
     finding: &Finding<'_, '_>,
-) -> Result<(), AllocError> {
+) -> Result<bool, AllocError> {
     let key = because(text, refused, tree, case, finding)?;
     if let Finding::WithoutCause(error) = finding {
         if is_never(case, *error) {
             never_lines(text, case, *error);
-            return Ok(());
+            return Ok(true);
         }
     }
     let overlaps = Overlaps::of(refused, tree, case)?;
-    order_line(text, refused.calls, case.call.asked, &overlaps);
-    look_at_line(text, finding.code(), key, case, overlaps.allow_another());
-    Ok(())
+    let another = Another::of(case, &overlaps, search)?;
+    order_line(text, refused.calls, case.call.asked, &overlaps, another);
+    look_at_lines(text, refused.calls, finding.code(), key, case, another);
+    Ok(another.is_without_order())
 }
 
 /// Writes which rule an answer breaks, what the tree holds and when the answer was right: which of the lines of what to look at fits.
@@ -207,7 +216,42 @@ fn earlier_line(text: &mut Text, scene: &Scene<'_>, finding: &Finding<'_, '_>, e
 /// What stands in the line of code 82 for the operation.
 const THE_OPERATION: &str = "the operation";
 
-/// Writes the line of what to look at: with a condition, where another order may explain the answer.
+/// Writes the line of what to look at: the order, where another one is better; an answer behind this one, where that is the first which no
+/// order explains; and else the server, with a condition where nothing is known of other orders.
+fn look_at_lines(
+    text: &mut Text,
+    calls: &Calls<'_>,
+    code: u16,
+    key: &str,
+    case: &Case<'_>,
+    another: Another,
+) {
+    match another {
+        Another::Never | Another::NeverPast(_) => look_at_line(text, code, key, case, false),
+        Another::Unknown => look_at_line(text, code, key, case, true),
+        Another::Until(stop) => {
+            text.word("look at  The answer to ");
+            asked_by(text, calls, stop);
+            text.word(", which no order explains: this one is explained by another.");
+            text.end_line();
+        }
+        Another::Legal => order_at_fault(
+            text,
+            "another is legal, and `fa_audit search` prints it.",
+        ),
+        Another::SoFar => order_at_fault(text, "another explains this answer."),
+        Another::Unanswered => order_at_fault(text, "leave it out, or have it elsewhere."),
+    }
+}
+
+/// Writes that it is the order that is to be looked at.
+fn order_at_fault(text: &mut Text, why: &str) {
+    text.word("look at  The order: ");
+    text.word(why);
+    text.end_line();
+}
+
+/// Writes what to look at in a server, with a condition where another order may explain the answer.
 pub(crate) fn look_at_line(
     text: &mut Text,
     code: u16,

@@ -84,11 +84,6 @@ impl Overlaps {
         let first = first_beside(refused, tree, case)?;
         Ok(Overlaps::Beside { first, count })
     }
-
-    /// Whether another order may explain the answer.
-    pub fn allow_another(&self) -> bool {
-        !matches!(self, Overlaps::Serial { .. })
-    }
 }
 
 /// When a request is answered: behind all messages where it never is.

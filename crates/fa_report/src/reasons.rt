@@ -13,12 +13,6 @@ const LABEL: usize = 9;
 /// The label of the line that says what to look at: a sentence, where others are of data.
 const LOOK_AT: &[u8] = b"look at";
 
-/// The label of the line that says whether another order may explain the answer.
-const ORDER: &[u8] = b"order";
-
-/// What that line has where none does, and nowhere else.
-const NO_ORDER: &[u8] = b"no order explains ";
-
 /// A line of the reasons.
 #[derive(Clone, Copy)]
 struct Reason<'t> {
@@ -75,37 +69,6 @@ fn mention_in(line: &[u8], numbers: &mut Vec<u32>) -> Result<(), AllocError> {
         }
     }
     Ok(())
-}
-
-/// Whether the reasons say that no order explains the answer.
-pub(crate) fn exclude_all_orders(reasons: &[u8]) -> bool {
-    let mut left = reasons;
-    for _ in 0..reasons.len() {
-        let Some((line, behind)) = split_at_byte(left, b'\n') else {
-            break;
-        };
-        left = behind;
-        let reason = Reason::of(line);
-        if reason.label == ORDER && has_phrase(reason.text, NO_ORDER) {
-            return true;
-        }
-    }
-    false
-}
-
-/// Whether a phrase stands in a text.
-fn has_phrase(text: &[u8], phrase: &[u8]) -> bool {
-    let mut left = text;
-    for _ in 0..text.len() {
-        if left.starts_with(phrase) {
-            return true;
-        }
-        match left.split_first() {
-            Some((_, behind)) => left = behind,
-            None => break,
-        }
-    }
-    false
 }
 
 /// Writes the reasons as a list, with links to the messages that the table has.

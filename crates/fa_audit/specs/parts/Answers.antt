@@ -4,10 +4,8 @@ use Rattle.std.specs.declared.alloc.Global.{Global}
 use Rattle.fa_capture.specs.Message.{Message}
 use Rattle.fa_ledger.specs.declared.calls.Calls.{Calls}
 use Rattle.fa_ledger.specs.Passing.{IsGoodCapture, IsFirstFault}
-use Rattle.fa_tree.specs.State.{TreeState}
 use Rattle.fa_order.specs.declared.error.TextError.{TextError}
 use Rattle.fa_order.specs.declared.error.TextError.TheVariants as texts
-use Rattle.fa_order.specs.Order.{IsOrderFault}
 use Rattle.fa_tree_text.specs.TreeText.{IsTreeFault}
 use Rattle.fa_check.specs.declared.verdict.Verdict.{Verdict}
 use Rattle.fa_check.specs.Verdicts.{AreMessagesOf}
@@ -19,7 +17,7 @@ use Rattle.fa_audit.specs.declared.verdict.CutError.{CutError}
 use Rattle.fa_audit.specs.declared.verdict.CutError.TheVariants as cuts
 use Rattle.fa_audit.specs.declared.protocol.Broken.{Broken}
 use Rattle.fa_audit.specs.declared.protocol.Broken.TheVariants as broken
-use Rattle.fa_audit.specs.Verdict.{IsAnswer, IsGivenTree, IsTreeTextAtFault, IsOrderTextAtFault}
+use Rattle.fa_audit.specs.Verdict.{IsAnswer, IsTreeTextAtFault, IsOrderTextAtFault}
 use Rattle.fa_audit.specs.CutOrders.{IsUncutAtLine}
 
 -- what is told is an answer, or that memory was refused
@@ -61,19 +59,6 @@ IsNoCut capture order (cuts.Fault at code) = IsFirstFault capture at code
 IsNoCut capture order (cuts.OrderText line) = IsUncutAtLine capture order line
 IsNoCut capture order cuts.Memory = Unit {0}
 
--- the calls are those of a good capture, and the tree is the given one
-pub record IsStartOf (capture : List ℕ) (tree : Option (List ℕ)) (calls : Calls) (first : TreeState) : Type 0 where
-  pub messages : List Message
-  pub good : IsGoodCapture capture messages
-  pub are : AreMessagesOf calls messages
-  pub given : IsGivenTree tree first
-
--- the capture or the tree text that is handed in has this fault; of memory nothing is said
-abbrev pub IsNoStart : (capture : List ℕ) → (tree : Option (List ℕ)) → StartError → Type 0
-IsNoStart capture tree (starts.Fault at code) = IsFirstFault capture at code
-IsNoStart capture tree (starts.TreeText line) = IsTreeTextAtFault capture tree line
-IsNoStart capture tree starts.Memory = Unit {0}
-
 -- an order text or an error, as bytes
 abbrev pub text_answered : {E : Type 0} → Result (Vec ℕ Global) E → Result (List ℕ) E
 text_answered (Ok text) = Ok text.items
@@ -84,9 +69,3 @@ abbrev pub IsTreeRefused : (tree : Option (List ℕ)) → StartError → Type 0
 IsTreeRefused tree (starts.Fault at code) = ⊥
 IsTreeRefused tree (starts.TreeText line) = (text : List ℕ) × (tree ≡ Some text) × IsTreeFault text line
 IsTreeRefused tree starts.Memory = Unit {0}
-
--- the order text has its fault at this line; of memory nothing is said
-abbrev pub IsOrderRefused : (order : List ℕ) → AuditError → Type 0
-IsOrderRefused order (OrderText line) = IsOrderFault order line
-IsOrderRefused order (TreeText line) = ⊥
-IsOrderRefused order Memory = Unit {0}

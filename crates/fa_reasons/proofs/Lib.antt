@@ -1,0 +1,2 @@
+pub mod ExplainedLemmas
+pub mod PageLemmas

@@ -1,0 +1,20 @@
+use Rattle.std.specs.Prelude.{List, ℕ, ◌++◌}
+use Rattle.std.specs.Io.KnownBytes.{Appends}
+use Rattle.std.proofs.Common.{subst}
+use Rattle.std.proofs.KnownBytes.{Appends-trans}
+use Rattle.fa_reasons.proofs.explaining.tell_with_reasons.Goals as goal
+
+pub returns-clause-told : goal.returns-clause-told
+returns-clause-told g c =
+    let old = g.W.Output.written c.args.out.now in
+    let new = g.W.Output.written c.put-2.new.self in
+    let reasons = c.as_bytes-2.result.now in
+    record {
+      reasons = reasons;
+      printing = c.as_bytes-2.ensures;
+      written = record {
+        written = subst (λ (lines : List ℕ). Appends old new (lines ++ reasons)) c.as_bytes.ensures.value
+            (Appends-trans _ _ _ _ _ c.in_ok-put.ensures.bytes c.in_ok-put-2.ensures.bytes);
+        status_is = c.number.ensures;
+      };
+    }

@@ -1,0 +1,11 @@
+use Rattle.std.proofs.Common.{rules, None, refl}
+use Rattle.fa_reasons.proofs.PageLemmas.{page_from}
+use Rattle.fa_reasons.proofs.order_pages.page_on_empty_root.Goals as goal
+
+pub returns-clause-told : goal.returns-clause-told
+returns-clause-told g c =
+    page_from c.tell_page.result _ _ _ _ _ _ c.in_ok-capture.capture.items None c.in_ok-order.order.items
+    (record { whole = c.in_ok-capture.ensures.bytes; within = (search rules) })
+    refl
+    (record { whole = c.in_ok-order.ensures.bytes; within = (search rules) })
+    (rw (← c.deref.ensures.value, ← c.deref-2.ensures.value) c.tell_page.ensures.told)
