@@ -105,6 +105,10 @@ tree_no_start capture tree c (starts.Fault at code) good refused = absurd refuse
 tree_no_start capture tree c (starts.TreeText line) good refused = record { messages = c; text = refused.0; good = good; handed_in = refused.1; fault = refused.2 }
 tree_no_start capture tree c starts.Memory good refused = tt
 
+-- of memory nothing is said
+pub memory_no_start : (capture : List ℕ) (tree : Option (List ℕ)) (error : StartError) → error ≡ starts.Memory → IsNoStart capture tree error
+memory_no_start capture tree error memory = rw memory tt
+
 -- where there is no start, the audit tells it
 pub no_start_told : (capture : List ℕ) (tree : Option (List ℕ)) (order : List ℕ) (error : StartError) → IsNoStart capture tree error → Tells capture tree order (answer_of error)
 no_start_told capture tree order (starts.Fault at code) fault = fault

@@ -112,7 +112,7 @@ order_coded c first es entry at code fault =
       | inr leaves ↦ subst (λ (n : ℕ). IsSome (text_of n)) (sym leaves.told) refl
     ]
 
-told_coded : (capture : List ℕ) (tree : Option (List ℕ)) (order : List ℕ) (result : Result Verdict AuditError) → Tells capture tree order result → IfOk result IsCoded
+pub told_coded : (capture : List ℕ) (tree : Option (List ℕ)) (order : List ℕ) (result : Result Verdict AuditError) → Tells capture tree order result → IfOk result IsCoded
 told_coded capture tree order (Ok (Legal messages placed left)) tells = tt
 told_coded capture tree order (Ok (Fault at code)) tells = fault_coded capture at code tells
 told_coded capture tree order (Ok (NotShown entry at code)) tells = order_coded tells.messages tells.first tells.entries entry at code tells.fault

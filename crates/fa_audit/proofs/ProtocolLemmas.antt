@@ -1,12 +1,15 @@
 -- The messages of a capture, one after the other.
 use Rattle.std.proofs.Common.{◌≡◌, ℕ, zero, suc, ◌<◌, ◌+◌, List, [], ◌∷◌, ◌++◌, length, take, Some, None, refl, sym, subst, ap, ◌∙◌, append_assoc, arith}
+use Rattle.std.specs.Prelude.{All}
 use Rattle.std.proofs.lemmas.List.{append-nil, length-append, take-append-le, take_all, take-map}
 use Rattle.fa_capture.specs.declared.capture.Capture.{Capture}
 use Rattle.fa_capture.specs.declared.fault.CaptureFault.{CaptureFault}
 use Rattle.fa_capture.specs.declared.limits.TheConstants.{MAX_MESSAGES}
 use Rattle.fa_capture.specs.Captures.{records_of, IsCaptureOf}
 use Rattle.fa_capture.specs.Message.{Message, Recorded, without_times}
-use Rattle.fa_capture.specs.Reading.{IsRecording}
+use Rattle.fa_capture.specs.Reading.{IsRecording, HasMagic}
+use Rattle.fa_capture.specs.Walks.{PlainWalk, HaveRead}
+use Rattle.fa_capture.specs.declared.codes.TheConstants.{NO_MAGIC}
 use Rattle.fa_session.specs.Allowed.{IsAllowed}
 use Rattle.fa_session.specs.Events.{PlainEvent, IsEvent}
 use Rattle.fa_session.specs.Plain.{PlainSession}
@@ -14,6 +17,7 @@ use Rattle.fa_ledger.specs.declared.calls.Calls.{Calls}
 use Rattle.fa_ledger.specs.Calls.{AreCalls}
 use Rattle.fa_ledger.specs.Passing.{IsFirstFault}
 use Rattle.fa_ledger.specs.Plain.{PlainLedger}
+use Rattle.fa_ledger.specs.Shows as ledgers
 use Rattle.fa_ledger.specs.Refusals.{IsNext}
 use Rattle.fa_ledger.proofs.CallerLemmas.{refused_is_first, framing_is_first, good_is_whole}
 use Rattle.fa_watch.specs.Refusals.{IsRefusal}
@@ -21,7 +25,7 @@ use Rattle.fa_watch.specs.declared.message.MessageError.TheVariants.{Refused}
 use Rattle.fa_check.specs.Verdicts.{AreMessagesOf}
 use Rattle.fa_audit.specs.parts.Protocol.{ShowBoth, messages_of}
 use Rattle.fa_audit.specs.parts.Answers.{AreCallsOf}
-use Rattle.fa_capture.proofs.CallerLemmas.{records_length, messages_on}
+use Rattle.fa_capture.proofs.CallerLemmas.{records_length, messages_on, walk_goes_on, reads_without}
 
 -- the next event of a session is the ledger's next
 pub next_of_both : (c : List Message) (m : Message) (s : PlainSession) (l : PlainLedger) (e : PlainEvent) → ShowBoth c s l → length c < MAX_MESSAGES → IsAllowed c m → IsEvent c m e → IsNext c m l e
@@ -112,3 +116,55 @@ calls_of_good bytes capture calls are whole is = record {
   good = good_is_whole bytes (records_of capture) (subst (IsRecording bytes (records_of capture)) whole is) are.good;
   are = are;
 }
+
+-- ---- the walk over the records of bytes
+
+-- What the loop keeps: as many records were read as were counted, and their messages are shown.
+pub record HasTaken (bytes : List ℕ) (walk : PlainWalk) (at : ℕ) (s : PlainSession) (l : PlainLedger) : Type 0 where
+  pub rs : List Recorded
+  pub read : HaveRead bytes rs walk
+  pub many : length rs ≡ at
+  pub both : ShowBoth (without_times rs) s l
+
+-- none was read
+pub none_taken : (bytes : List ℕ) (walk : PlainWalk) (s : PlainSession) (l : PlainLedger) → HaveRead bytes [] walk → ShowBoth [] s l → HasTaken bytes walk 0 s l
+none_taken bytes walk s l read both = record { rs = []; read = read; many = refl; both = both }
+
+module _ (bytes : List ℕ) (was walk : PlainWalk) (r : Recorded) (at : ℕ) (s : PlainSession) (l : PlainLedger) (taken : HasTaken bytes was at s l) (read : HaveRead bytes (taken.rs ++ r ∷ []) walk) where
+  -- the one that was read may come
+  pub few_taken : length (without_times taken.rs) < MAX_MESSAGES
+  few_taken = omega (arith, read.framed.count, records_length (taken.rs ++ r ∷ []), length-append taken.rs (r ∷ []), records_length taken.rs)
+
+  -- its message is shown
+  pub one_taken : (t : PlainSession) (m : PlainLedger) → ShowBoth (without_times taken.rs ++ r.message ∷ []) t m → HasTaken bytes walk (at + 1) t m
+  one_taken t m both = record {
+    rs = taken.rs ++ r ∷ [];
+    read = read;
+    many = omega (arith, taken.many, length-append taken.rs (r ∷ []));
+    both = subst (λ (c : List Message). ShowBoth c t m) (sym (messages_on taken.rs [] r)) both;
+  }
+
+  -- or refused: the first fault of the bytes, whatever stands behind it
+  pub refused_taken : (code : ℕ) → All (λ b. b < 256) bytes → IsRefusal (without_times taken.rs) r.message (Refused code) → IsFirstFault bytes at code
+  refused_taken code small refusal =
+      let on = walk_goes_on bytes (taken.rs ++ r ∷ []) walk small read in
+      let there = subst (λ (rs : List Recorded). IsRecording bytes rs on.1) (append_assoc taken.rs (r ∷ []) on.0) on.2 in
+      subst (λ (n : ℕ). IsFirstFault bytes n code) taken.many (refused_is_first bytes taken.rs on.0 r on.1 code there taken.both.ledger.good refusal)
+
+module _ (bytes : List ℕ) (walk : PlainWalk) (at : ℕ) (s : PlainSession) (l : PlainLedger) (taken : HasTaken bytes walk at s l) where
+  -- a framing fault behind them
+  pub framing_taken : (code : ℕ) → IsRecording bytes taken.rs (Some (record { whole = length taken.rs; code = code })) → IsFirstFault bytes at code
+  framing_taken code read =
+      subst (λ (n : ℕ). IsFirstFault bytes n code) taken.many (framing_is_first bytes taken.rs (record { whole = length taken.rs; code = code }) read taken.both.ledger.good)
+
+  -- nothing stands behind them
+  pub all_taken_in : (calls : Calls) → IsRecording bytes taken.rs None → ((c : List Message) → ledgers.Shows c l → (calls.messages ≡ length c) × AreCalls c calls.list) → AreCallsOf bytes calls
+  all_taken_in calls read are = record {
+    messages = without_times taken.rs;
+    good = good_is_whole bytes taken.rs read taken.both.ledger.good;
+    are = calls_of_shown (without_times taken.rs) s l calls taken.both (are (without_times taken.rs) taken.both.ledger);
+  }
+
+-- bytes that do not begin as a capture
+pub without_magic : (bytes : List ℕ) → (HasMagic bytes → ⊥) → IsFirstFault bytes 0 NO_MAGIC
+without_magic bytes without = framing_is_first bytes [] (record { whole = 0; code = NO_MAGIC }) (reads_without bytes without) (λ i m below there. absurd (omega (arith, below)))

@@ -1,6 +1,6 @@
 //! The audit: what a capture, a tree and an order are.
 
-ghost use Rattle.std.specs.Prelude.{◌≡◌, ◌≤◌, ℕ, List, length, Ok, Err, IfOk, IfErr, IfSome};
+ghost use Rattle.std.specs.Prelude.{◌≡◌, ◌≤◌, ℕ, List, Option, length, Ok, Err, IfOk, IfErr, IfSome};
 ghost use Rattle.std.specs.Option.{option_copied};
 ghost use Rattle.fa_capture.specs.Captures.{IsCaptureOf};
 ghost use Rattle.fa_ledger.specs.Passing.{IsFirstFault};
@@ -11,9 +11,9 @@ ghost use Rattle.fa_audit.specs.Line.{IsCoded};
 ghost use Rattle.fa_audit.specs.Starts.{IsStartOf, IsNoStart, IsOrderRefused};
 ghost use Rattle.fa_audit.specs.parts.Answers.{Tells, IsTreeRefused};
 
-use crate::protocol::good_calls;
+use crate::protocol::{good_calls, good_calls_in};
 use crate::verdict::{AuditError, StartError};
-use fa_capture::{Capture, read_capture};
+use fa_capture::Capture;
 use fa_check::{Verdict, check};
 use fa_ledger::Calls;
 use fa_order::{Entry, TextError, read_order};
@@ -75,13 +75,13 @@ pub fn audit(
     // A code that is told has a text.
     ensures codes { IfOk result IsCoded }
 {
-    audit_capture(alloc, &read_capture(capture), tree, order)
+    answer_in(alloc, capture, tree, order)
 }
 
 /// Judges a capture that was read, as [`audit`] judges one by its bytes.
 ///
 /// It may have come in pieces, as those of a [`Feed`](fa_capture::Feed). Where it is judged against several orders, its framing is
-/// judged once.
+/// judged once. Of one by its bytes [`audit`] judges the framing as it comes to each record, and goes through the bytes once.
 ///
 /// # Errors
 ///
@@ -89,7 +89,7 @@ pub fn audit(
 ///
 /// # Cost
 ///
-/// That of [`audit`] without [`read_capture`].
+/// That of [`audit`], but for the framing.
 pub fn audit_capture(
     alloc: Global,
     capture: &Capture<'_>,
@@ -159,6 +159,29 @@ pub fn start<'a>(
     Ok((calls, first))
 }
 
+/// What an order starts with, as [`start`] tells it, where the capture is given by its bytes: they are gone through once.
+///
+/// # Errors
+///
+/// Those of [`start`].
+///
+/// # Cost
+///
+/// That of [`start`].
+pub(crate) fn start_in<'a>(
+    alloc: Global,
+    bytes: &'a [u8],
+    tree: Option<&[u8]>,
+) -> Result<(Calls<'a>, Tree), StartError>
+    requires { IfSome (option_copied tree) (λ text. length text ≤ MAX_TEXT_BYTES) }
+    ensures good { IfOk result (λ start. IsStartOf bytes.now (option_copied tree.entry) start.0 start.1) }
+    ensures none { IfErr result (IsNoStart bytes.now (option_copied tree.entry)) }
+{
+    let calls = good_calls_in(alloc, bytes)?;
+    let first = given_tree(alloc, tree)?;
+    Ok((calls, first))
+}
+
 /// The entries of an order text of at most 268,435,456 bytes.
 ///
 /// # Errors
@@ -192,10 +215,39 @@ fn answer(
     requires order_text { length order.now ≤ MAX_TEXT_BYTES }
     ensures { (bytes : List ℕ) → IsCaptureOf bytes capture.now → Tells bytes (option_copied tree.entry) order.now result }
 {
-    let (calls, first) = match start(alloc, capture, tree) {
-        Ok(start) => start,
-        Err(error) => return error.answer(),
-    };
+    match start(alloc, capture, tree) {
+        Ok((calls, first)) => answer_from(alloc, &calls, first, order),
+        Err(error) => error.answer(),
+    }
+}
+
+/// An answer for the capture by its bytes, the tree and the order.
+fn answer_in(
+    alloc: Global,
+    capture: &[u8],
+    tree: Option<&[u8]>,
+    order: &[u8],
+) -> Result<Verdict, AuditError>
+    requires tree_text { IfSome (option_copied tree) (λ text. length text ≤ MAX_TEXT_BYTES) }
+    requires order_text { length order.now ≤ MAX_TEXT_BYTES }
+    ensures { Tells capture.now (option_copied tree.entry) order.now result }
+{
+    match start_in(alloc, capture, tree) {
+        Ok((calls, first)) => answer_from(alloc, &calls, first, order),
+        Err(error) => error.answer(),
+    }
+}
+
+/// An answer for an order, from what it starts with.
+fn answer_from(
+    alloc: Global,
+    calls: &Calls<'_>,
+    first: Tree,
+    order: &[u8],
+) -> Result<Verdict, AuditError>
+    requires { length order.now ≤ MAX_TEXT_BYTES }
+    ensures { (bytes : List ℕ) (tree : Option (List ℕ)) → IsStartOf bytes tree calls.now first → Tells bytes tree order.now result }
+{
     let entries = entries_of(alloc, order)?;
-    Ok(check(alloc, &calls, first, &entries)?)
+    Ok(check(alloc, calls, first, &entries)?)
 }

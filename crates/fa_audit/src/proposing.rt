@@ -1,6 +1,6 @@
 //! From the inputs of a proposal to the order text that is proposed.
 
-ghost use Rattle.std.specs.Prelude.{◌≡◌, ◌≢◌, ◌≤◌, ◌↔◌, ◌⊎◌, ℕ, false, true, List, None, Err, length, IfOk, IfErr, IfSome, IsOk, OnOk, IsErrOf};
+ghost use Rattle.std.specs.Prelude.{◌≡◌, ◌≢◌, ◌≤◌, ◌↔◌, ◌⊎◌, ℕ, false, true, List, Option, None, Err, length, IfOk, IfErr, IfSome, IsOk, OnOk, IsErrOf};
 ghost use Rattle.std.specs.Option.{option_copied};
 ghost use Rattle.std.specs.Io.KnownBytes.{IsAtEnd, Keeps};
 ghost use Rattle.fa_capture.specs.Captures.{IsCaptureOf};
@@ -11,16 +11,18 @@ ghost use Rattle.fa_audit.specs.Line.{IsCoded};
 ghost use Rattle.fa_audit.specs.Run.{IfHandedIn, IsHandedIn, IsSomeRead, IsReadIfAny, IsUnread, FailedOrInterrupted, IsAtEndOrFault};
 ghost use Rattle.fa_audit.specs.declared.running.TheConstants.{MAX_TEXT_INPUT_BYTES};
 ghost use Rattle.fa_audit.specs.Proposed.{IsStart, IsProposed, IsProposalTold, IsProposedFrom, answer_of};
-ghost use Rattle.fa_audit.specs.Starts.{IsNoStart};
+ghost use Rattle.fa_audit.specs.Starts.{IsStartOf, IsNoStart};
 ghost use Rattle.fa_audit.specs.parts.Answers.{text_answered};
 
-use crate::judge::start;
+use crate::judge::{start, start_in};
 use crate::running::{MAX_TEXT_INPUT_BYTES, RunFault, input_bytes, stored_capture, tell};
 use crate::status::Status;
 use crate::verdict::StartError;
-use fa_capture::{Capture, Input, Output, read_capture};
+use fa_capture::{Capture, Input, Output};
+use fa_ledger::Calls;
 use fa_order::write_order;
 use fa_propose::propose;
+use fa_tree::Tree;
 use std::alloc::Global;
 
 /// The text of the order that is proposed for a capture, from the tree that the server began with.
@@ -54,7 +56,7 @@ pub fn proposal(alloc: Global, capture: &[u8], tree: Option<&[u8]>) -> Result<Ve
     // A code that is told has a text.
     ensures codes { IfErr result (λ error. IfOk (answer_of error) IsCoded) }
 {
-    proposed(alloc, &read_capture(capture), tree)
+    proposed_in(alloc, capture, tree)
 }
 
 /// The text of an order that is proposed for a capture that was read, as [`proposal`] is for one by its bytes.
@@ -65,7 +67,7 @@ pub fn proposal(alloc: Global, capture: &[u8], tree: Option<&[u8]>) -> Result<Ve
 ///
 /// # Cost
 ///
-/// That of [`proposal`] without [`read_capture`].
+/// That of [`proposal`], but for the framing.
 pub fn proposed(
     alloc: Global,
     capture: &Capture<'_>,
@@ -76,7 +78,25 @@ pub fn proposed(
     ensures none { IfErr result (λ error. (bytes : List ℕ) → IsCaptureOf bytes capture.now → IsNoStart bytes (option_copied tree.entry) error) }
 {
     let (calls, first) = start(alloc, capture, tree)?;
-    let order = propose(alloc, &calls, first)?;
+    order_text(alloc, &calls, first)
+}
+
+/// The text of an order that is proposed for a capture by its bytes, which are gone through once.
+fn proposed_in(alloc: Global, capture: &[u8], tree: Option<&[u8]>) -> Result<Vec<u8>, StartError>
+    requires { IfSome (option_copied tree) (λ text. length text ≤ MAX_TEXT_BYTES) }
+    ensures text { IfOk result (λ text. IsProposed capture.now (option_copied tree.entry) text.items) }
+    ensures none { IfErr result (IsNoStart capture.now (option_copied tree.entry)) }
+{
+    let (calls, first) = start_in(alloc, capture, tree)?;
+    order_text(alloc, &calls, first)
+}
+
+/// The text of an order that is proposed from what it starts with.
+fn order_text(alloc: Global, calls: &Calls<'_>, first: Tree) -> Result<Vec<u8>, StartError>
+    ensures text { IfOk result (λ text. (bytes : List ℕ) (tree : Option (List ℕ)) → IsStartOf bytes tree calls.now first → IsProposed bytes tree text.items) }
+    ensures memory { IfErr result (λ error. error ≡ StartError.Memory) }
+{
+    let order = propose(alloc, calls, first)?;
     Ok(write_order(alloc, &order)?)
 }
 

@@ -1,6 +1,6 @@
 //! The messages of a capture, one after the other: whether they keep the protocol, and their calls.
 
-ghost use Rattle.std.specs.Prelude.{ℕ, ◌<◌, ◌∷◌, ◌++◌, [], List, length, take, IfOk, IfErr, OnOk};
+ghost use Rattle.std.specs.Prelude.{◌≡◌, ℕ, ◌<◌, ◌∷◌, ◌++◌, [], List, length, take, IfOk, IfErr, OnOk};
 ghost use Rattle.fa_capture.specs.Message.{Message, message};
 ghost use Rattle.fa_capture.specs.Captures.{IsCaptureOf};
 ghost use Rattle.fa_capture.specs.declared.limits.TheConstants.{MAX_MESSAGES};
@@ -10,7 +10,7 @@ ghost use Rattle.fa_check.specs.Verdicts.{AreMessagesOf};
 ghost use Rattle.fa_audit.specs.parts.Protocol.{ShowBoth, messages_of};
 ghost use Rattle.fa_audit.specs.parts.Answers.{AreCallsOf, IsCaptureRefused};
 
-use fa_capture::{Capture, CaptureFault, Packet};
+use fa_capture::{Capture, CaptureFault, Packet, Walk, codes};
 use fa_ledger::{Calls, Ledger};
 use fa_session::Session;
 use fa_watch::MessageError;
@@ -49,8 +49,11 @@ fn accept<'a>(
     ensures shows { OnOk result ((c : List Message) → ShowBoth c session.old ledger.old → length c < MAX_MESSAGES → ShowBoth (c ++ message packet.now ∷ []) session.new ledger.new) }
     ensures refused { IfErr result (λ error. (c : List Message) → ShowBoth c session.old ledger.old → length c < MAX_MESSAGES → IsRefusal c (message packet.now) error) }
 {
-    let event = session.accept(packet)?;
-    ledger.accept(event)?;
+    // The event is looked at where it lies: it is never moved.
+    match session.accept(packet) {
+        Ok(ref event) => ledger.accept(event)?,
+        Err(error) => return Err(MessageError::from(error)),
+    }
     Ok(())
 }
 
@@ -104,5 +107,42 @@ pub(crate) fn good_calls<'a>(alloc: Global, capture: &Capture<'a>) -> Result<Cal
     match capture.fault {
         Some(CaptureFault { whole, code }) => Err(Broken::Fault { at: whole, code }),
         None => Ok(calls),
+    }
+}
+
+/// The calls of a good capture by its bytes. Each record is judged for the framing as the walk comes to it, so the bytes are gone through
+/// once, where a [`Capture`] would be read before its messages are.
+///
+/// # Errors
+///
+/// Those of [`good_calls`].
+///
+/// # Cost
+///
+/// One pass, at each message that of [`Session::accept`] and [`Ledger::accept`].
+pub(crate) fn good_calls_in(alloc: Global, bytes: &[u8]) -> Result<Calls<'_>, Broken>
+    ensures good { IfOk result (AreCallsOf bytes.now) }
+    ensures fault { IfErr result (IsCaptureRefused bytes.now) }
+{
+    let Some(mut walk) = Walk::new(bytes) else {
+        return Err(Broken::Fault {
+            at: 0,
+            code: codes::NO_MAGIC,
+        });
+    };
+    let mut session = Session::new(alloc);
+    let mut ledger = Ledger::new(alloc);
+    let mut taken = 0;
+    loop {
+        let packet = match walk.next() {
+            Ok(Some(packet)) => packet,
+            Ok(None) => return Ok(ledger.into_calls()),
+            Err(code) => return Err(Broken::Fault { at: taken, code }),
+        };
+        match accept(&mut session, &mut ledger, &packet) {
+            Ok(()) => taken += 1,
+            Err(MessageError::Refused(code)) => return Err(Broken::Fault { at: taken, code }),
+            Err(MessageError::Memory) => return Err(Broken::Memory),
+        }
     }
 }

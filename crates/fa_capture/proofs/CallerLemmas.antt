@@ -8,6 +8,8 @@ pub use Rattle.fa_capture.proofs.ReadingLemmas.{one_reading_lem as one_reading}
 pub use Rattle.fa_capture.proofs.ReadingLemmas.{reads_without}
 -- where a framing fault is decided, what came is the capture of all that comes; how much comes before one is; and what follows
 pub use Rattle.fa_capture.proofs.PieceLemmas.{decided_capture, open_is_short, recording_is_short, records_stay}
+-- whatever stands behind the records that a walk has read, bytes hold these first
+pub use Rattle.fa_capture.proofs.PieceLemmas.{walk_goes_on}
 -- before anything came there is no magic, and no fault is decided
 pub use Rattle.fa_capture.proofs.PieceLemmas.{nothing_yet}
 -- two recordings of the same bytes agree
@@ -20,6 +22,8 @@ pub use Rattle.fa_capture.proofs.MigrateLemmas.{migrated_reads, reads_migrated}
 pub use Rattle.fa_capture.proofs.ReadingThereLemmas.{reading_is_there}
 -- packets are as many as their messages
 pub use Rattle.fa_capture.proofs.ReadingLemmas.{messages_length}
+-- what a slice of bytes has in it
+pub use Rattle.fa_capture.proofs.BytesLemmas.{are_bytes}
 -- bytes with as many in front
 pub use Rattle.fa_capture.proofs.FramingLemmas.{one_front}
 -- lists: places, parts, elements, fronts

@@ -21,8 +21,9 @@ use Rattle.fa_capture.specs.declared.format.Format.TheVariants.{Plain, Timed}
 use Rattle.fa_capture.specs.declared.limits.TheConstants.{MAX_MESSAGES, MAX_MESSAGE_BYTES, MAX_CAPTURE_BYTES}
 use Rattle.fa_capture.specs.Checks.{FirstFailure}
 use Rattle.fa_capture.specs.Message.{Message, Recorded, without_times}
-use Rattle.fa_capture.specs.Framing.{magic, record_spelling, capture_spelling, counted_bytes}
+use Rattle.fa_capture.specs.Framing.{magic, record_spelling, capture_spelling, counted_bytes, IsFramed, IsTime}
 use Rattle.fa_capture.specs.Reading.{IsInFormat, HasMagic, header_size, stated_length, record_checks, IsRecording}
+use Rattle.fa_capture.specs.Walks.{PlainWalk, HaveRead}
 use Rattle.fa_capture.specs.Pieces.{IsDecided, IsOpen, IsToldOf}
 use Rattle.fa_capture.specs.parts.Walks.{IsMagicBegun}
 use Rattle.std.proofs.lemmas.Option.{same_Some}
@@ -300,6 +301,23 @@ open_is_short bytes small opens =
 
 -- ---- what follows
 
+-- records with which bytes begin are the first of all that these hold
+first_of_all : (format : Format) (bytes left : List ℕ) (rs others : List Recorded) (other : Option CaptureFault) → IsFramed (without_times rs) → All (λ r. IsTime format r.time) rs
+    → bytes ≡ capture_spelling format rs ++ left → IsRecording bytes others other → (more : List Recorded) × (others ≡ rs ++ more)
+first_of_all format bytes left rs others other framed times spelled o =
+    let more = o.records.spelled format (in_format format bytes rs left spelled) in
+    let no_longer : length rs ≤ length others = o.records.longest format rs framed (record { times = times; rest = left; spelled = spelled }) in
+    let behind = behind_magic format rs others left more.rest (sym spelled ∙ more.spelled) in
+    elim (cases_lt (length rs) (length others)) [
+      | inl longer ↦
+          let next = next_record format rs others left more.rest (framed_fit format rs framed times) (framed_fit format others o.records.framed more.times) longer behind in
+          (next.0 ∷ next.1, next.2)
+      | inr le ↦
+          let as_many : length rs ≡ length others = omega (arith, le, no_longer) in
+          let same = same_records format rs others left more.rest (framed_fit format rs framed times) (framed_fit format others o.records.framed more.times) as_many behind in
+          ([], sym same.0 ∙ sym (append-nil rs))
+    ]
+
 -- the records of the first bytes are the first of all
 pub records_stay : (bytes rest : List ℕ) (rs others : List Recorded) (fault other : Option CaptureFault) → IsRecording bytes rs fault → IsRecording (bytes ++ rest) others other
     → (more : List Recorded) × (others ≡ rs ++ more)
@@ -310,20 +328,16 @@ records_stay bytes rest rs others fault other r o =
           let begins = r.records.spelled format here in
           let spelled : bytes ++ rest ≡ capture_spelling format rs ++ (begins.rest ++ rest) =
           ap (λ (x : List ℕ). x ++ rest) begins.spelled ∙ append_assoc (capture_spelling format rs) begins.rest rest in
-          let more = o.records.spelled format (in_format format (bytes ++ rest) rs (begins.rest ++ rest) spelled) in
-          let no_longer : length rs ≤ length others =
-          o.records.longest format rs r.records.framed (record { times = begins.times; rest = begins.rest ++ rest; spelled = spelled }) in
-          let behind = behind_magic format rs others (begins.rest ++ rest) more.rest (sym spelled ∙ more.spelled) in
-          elim (cases_lt (length rs) (length others)) [
-            | inl longer ↦
-                let next = next_record format rs others (begins.rest ++ rest) more.rest (framed_fit format rs r.records.framed begins.times) (framed_fit format others o.records.framed more.times) longer behind in
-                (next.0 ∷ next.1, next.2)
-            | inr le ↦
-                let as_many : length rs ≡ length others = omega (arith, le, no_longer) in
-                let same = same_records format rs others (begins.rest ++ rest) more.rest (framed_fit format rs r.records.framed begins.times) (framed_fit format others o.records.framed more.times) as_many behind in
-                ([], sym same.0 ∙ sym (append-nil rs))
-          ]
+          first_of_all format (bytes ++ rest) (begins.rest ++ rest) rs others other r.records.framed begins.times spelled o
     ]
+
+-- whatever stands behind the records that a walk has read, bytes hold these first
+pub walk_goes_on : (bytes : List ℕ) (rs : List Recorded) (walk : PlainWalk) → All (λ b. b < 256) bytes → HaveRead bytes rs walk
+    → (more : List Recorded) × (fault : Option CaptureFault) × IsRecording bytes (rs ++ more) fault
+walk_goes_on bytes rs walk small read =
+    let there = reading_is_there bytes small in
+    let on = first_of_all walk.format bytes walk.left rs there.2.0 there.1 read.framed read.times read.spelled there.2.2 in
+    (on.0, there.1, subst (λ (x : List Recorded). IsRecording bytes x there.1) on.1 there.2.2)
 
 -- nothing came yet
 no_magic_in_nothing : HasMagic [] → ⊥

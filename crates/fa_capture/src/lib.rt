@@ -1,8 +1,8 @@
 //! Captures of /dev/fuse traffic: from bytes to messages.
 //!
 //! [`read_capture`] splits the bytes of a capture in either [`Format`] into [`Packet`]s, whose bytes are slices of the
-//! capture, and tells the first fault of the framing; a [`Feed`] does so with a capture that comes in pieces, and [`Incoming`] with one
-//! that comes in pieces and is not kept. [`front`] gives the capture of its first messages, and [`migrate`] writes one anew in the
+//! capture, and tells the first fault of the framing; a [`Walk`] does so one packet at a time, a [`Feed`] with a capture that comes in
+//! pieces, and [`Incoming`] with one that comes in pieces and is not kept. [`front`] gives the capture of its first messages, and [`migrate`] writes one anew in the
 //! format that has times.
 //! [`Input`] and [`Output`] are where bytes come from and go to, and [`read_all`] reads the whole of an
 //! input.
@@ -37,3 +37,4 @@ pub use output::{Broken, Output};
 pub use packet::{Direction, Packet};
 pub use packets::Packets;
 pub use reading::{front, read_capture};
+pub use walk::Walk;

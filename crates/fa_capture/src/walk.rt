@@ -65,9 +65,12 @@ impl Stop {
     }
 }
 
-/// A walk over the records of a capture.
+/// A walk over the records of a capture, each of which is judged as the walk comes to it.
+///
+/// It tells what [`read_capture`](crate::read_capture) tells, in one pass: the packets one after the other, and behind them the framing
+/// fault, if there is one.
 #[derive(Drop)]
-pub(crate) struct Walk<'a> {
+pub struct Walk<'a> {
     so_far: Progress,
     /// What stands behind the records that were read.
     left: &'a [u8],
@@ -140,14 +143,14 @@ impl<'a> Walk<'a> {
     }
 
     /// How many bytes of the capture stand behind the packets that were read.
-    pub fn left(&self) -> usize
+    pub(crate) fn left(&self) -> usize
         ensures { result ≡ length self.now.left }
     {
         self.left.len()
     }
 
     /// A walk over these bytes that goes on where one over the first of them stopped.
-    pub fn from_stop(bytes: &'a [u8], stop: Stop) -> Self
+    pub(crate) fn from_stop(bytes: &'a [u8], stop: Stop) -> Self
         requires { IsAt bytes.now stop }
         ensures { result ≡ walk_at bytes.now stop }
     {
@@ -158,7 +161,7 @@ impl<'a> Walk<'a> {
     }
 
     /// A walk over the bytes that stand behind the records which another one read.
-    pub fn behind(so_far: Progress, left: &'a [u8]) -> Self
+    pub(crate) fn behind(so_far: Progress, left: &'a [u8]) -> Self
         requires { IsWithinLimits so_far }
         ensures { result ≡ walk_behind so_far left.now }
     {
@@ -166,7 +169,7 @@ impl<'a> Walk<'a> {
     }
 
     /// How far it has come.
-    pub fn so_far(&self) -> Progress
+    pub(crate) fn so_far(&self) -> Progress
         ensures is { self.now ≡ walk_behind result self.now.left }
         ensures within { IsWithinLimits result }
     {
@@ -174,7 +177,7 @@ impl<'a> Walk<'a> {
     }
 
     /// Where this walk over these bytes stops.
-    pub fn into_stop(mut self, bytes: &[u8]) -> Stop
+    pub(crate) fn into_stop(mut self, bytes: &[u8]) -> Stop
         requires { HasRead bytes.now self }
         ensures { ∥ IsStop bytes.now result ∥₁ }
     {
@@ -187,7 +190,7 @@ impl<'a> Walk<'a> {
     }
 
     /// Reads on to the end, or to the first record that fails a check: the records that were read, and the code of that check.
-    pub fn read_on(&mut self) -> (&'a [u8], Option<u16>)
+    pub(crate) fn read_on(&mut self) -> (&'a [u8], Option<u16>)
         ensures read { (on : ReadsOn self.old self.new) × (result.0.now ≡ on.over) }
         ensures fault { (bytes : List ℕ) (rs : List Recorded) → HaveRead bytes rs self.new → IsRecording bytes rs (fault_behind rs result.1) }
     {

@@ -92,14 +92,14 @@ impl<'a> Ledger<'a> {
     /// listing. It keeps 96 bytes for each tree request, with where its messages lie, an entry for each node that is known, for each key
     /// that is open and for each offset that an answer on such a key has, and for each tree request that waits its place;
     /// all grow by doubling. The names of the nodes that a listing gives take a list of their own. No message bytes are copied.
-    pub fn accept(&mut self, event: Event<'a>) -> Result<(), LedgerError>
-        requires { (c : List Message) × (m : Message) × IsNext c m self.old (event_shown event) }
-        ensures passes { OnOk result ((c : List Message) (m : Message) → IsNext c m self.old (event_shown event.entry) → Passes c m) }
-        ensures shows { OnOk result ((c : List Message) (m : Message) → IsNext c m self.old (event_shown event.entry) → Shows (c ++ m ∷ []) self.new) }
-        ensures refused { IfErr result (λ error. (c : List Message) (m : Message) → IsNext c m self.old (event_shown event.entry) → IsRefusal c m (event_shown event.entry) error) }
+    pub fn accept(&mut self, event: &Event<'a>) -> Result<(), LedgerError>
+        requires { (c : List Message) × (m : Message) × IsNext c m self.old (event_shown event.now) }
+        ensures passes { OnOk result ((c : List Message) (m : Message) → IsNext c m self.old (event_shown event.now) → Passes c m) }
+        ensures shows { OnOk result ((c : List Message) (m : Message) → IsNext c m self.old (event_shown event.now) → Shows (c ++ m ∷ []) self.new) }
+        ensures refused { IfErr result (λ error. (c : List Message) (m : Message) → IsNext c m self.old (event_shown event.now) → IsRefusal c m (event_shown event.now) error) }
         ensures unchanged { OnErr result (self.new ≡ self.old) }
     {
-        self.books.note(&event)?;
+        self.books.note(event)?;
         self.messages += 1;
         Ok(())
     }

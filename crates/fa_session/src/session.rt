@@ -115,12 +115,11 @@ impl<'a> Session<'a> {
     {
         match packet.direction {
             Direction::ToServer => {
-                let request = request(packet)?;
-                self.check_request(&request)?;
                 let message = RequestMessage {
                     bytes: packet.bytes,
-                    request,
+                    request: request(packet)?,
                 };
+                self.check_request(&message.request)?;
                 let at = self.note_request(&message)?;
                 Ok(Event::Asked { at, message })
             }
@@ -136,15 +135,14 @@ impl<'a> Session<'a> {
                 let Some((asked, message)) = self.waiting_for(head.unique) else {
                     return Err(SessionError::Refused(codes::NO_REQUEST_WAITS));
                 };
-                let reply = reply_body(&message.request, packet)?;
-                check_reply(&message.request, &reply)?;
-                let flags = agreed_flags(&message.request.body, &reply);
-                let at = self.note_reply(head.unique, flags);
                 let messages = ReplyMessages {
                     to: message,
                     bytes: packet.bytes,
-                    reply,
+                    reply: reply_body(&message.request, packet)?,
                 };
+                check_reply(&messages.to.request, &messages.reply)?;
+                let flags = agreed_flags(&messages.to.request.body, &messages.reply);
+                let at = self.note_reply(head.unique, flags);
                 Ok(Event::Answered {
                     at,
                     asked,

@@ -1,6 +1,7 @@
 //! Captures as bytes, and the codes.
 
-use fa_capture::{Capture, MigrateError, codes, migrate, read_capture};
+use fa_capture::limits::MAX_MESSAGES;
+use fa_capture::{Capture, MigrateError, Walk, codes, migrate, read_capture};
 use std::alloc::Global;
 
 /// INIT, its answer, LOOKUP of `a` on the root, and ENOENT.
@@ -34,6 +35,21 @@ pub fn ending(capture: &Capture<'_>) -> Option<Ending> {
         Some(fault) if fault.whole == count => Some((count, fault.code)),
         Some(_) => None,
     }
+}
+
+/// How the capture of these bytes ends by a walk over its records, which judges each as it comes to it.
+fn walked(bytes: &[u8]) -> Ending {
+    let Some(mut walk) = Walk::new(bytes) else {
+        return (0, codes::NO_MAGIC);
+    };
+    for count in 0..MAX_MESSAGES as u32 {
+        match walk.next() {
+            Ok(Some(_)) => {}
+            Ok(None) => return (count, 0),
+            Err(code) => return (count, code),
+        }
+    }
+    (MAX_MESSAGES as u32, 0)
 }
 
 pub static ENDINGS: [(&[u8], Ending); 23] = [
@@ -85,6 +101,7 @@ pub static ENDINGS: [(&[u8], Ending); 23] = [
 fn where_captures_end(rt: HostRuntime) {
     for (bytes, expected) in &ENDINGS {
         assert_eq!(rt; ending(&read_capture(bytes)), Some(*expected), "{bytes:?}");
+        assert_eq!(rt; walked(bytes), *expected, "{bytes:?}");
     }
     // The first capture, cut at each length.
     for length in 0..=222 {

@@ -37,9 +37,9 @@ pub fn told<'a>(session: &mut Session<'a>, packet: &Packet<'a>) -> Result<Event<
 }
 
 /// Whether a ledger takes the next event, which is handed in again where memory was refused.
-fn noted<'a>(ledger: &mut Ledger<'a>, event: Event<'a>) -> Result<(), LedgerError>
-    requires { (c : List Message) × (m : Message) × IsNext c m ledger.old (event_shown event) }
-    ensures shows { OnOk result ((c : List Message) (m : Message) → IsNext c m ledger.old (event_shown event.entry) → ledgers.Shows (c ++ m ∷ []) ledger.new) }
+fn noted<'a>(ledger: &mut Ledger<'a>, event: &Event<'a>) -> Result<(), LedgerError>
+    requires { (c : List Message) × (m : Message) × IsNext c m ledger.old (event_shown event.now) }
+    ensures shows { OnOk result ((c : List Message) (m : Message) → IsNext c m ledger.old (event_shown event.now) → ledgers.Shows (c ++ m ∷ []) ledger.new) }
     ensures unchanged { OnErr result (ledger.new ≡ ledger.old) }
 {
     match ledger.accept(event) {
@@ -113,7 +113,7 @@ impl<'a> Paired<'a> {
         ensures { AreLevel self.new.taken self.new.ledger self.new.session self.new.spare }
     {
         let spare = self.spare.take();
-        match noted(&mut self.ledger, event) {
+        match noted(&mut self.ledger, &event) {
             Ok(()) => {
                 self.taken += 1;
                 self.session = Some(session);

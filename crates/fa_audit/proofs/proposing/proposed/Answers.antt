@@ -1,14 +1,9 @@
-use Rattle.std.proofs.lemmas.Result.{err_from_is_err_and}
-use Rattle.fa_audit.proofs.ProposalLemmas.{text_proposed}
+use Rattle.std.proofs.lemmas.Result.{IfErr-weaker, IfOk-weaker}
+use Rattle.fa_audit.proofs.AuditLemmas.{memory_no_start}
 use Rattle.fa_audit.proofs.proposing.proposed.Goals as goal
 
-pub returns-in_err-write_order-clause-none : goal.returns-in_err-write_order-clause-none
-returns-in_err-write_order-clause-none c =
-    let p = err_from_is_err_and c.from_residual-in_err-write_order.result c.from_residual-in_err-write_order.ensures.1 in
-    rw (p.1, p.2) (λ bytes is. tt)
-
 pub returns-clause-text : goal.returns-clause-text
-returns-clause-text c = λ bytes is.
-    let start = c.in_ok-calls.ensures.good bytes is in
-    text_proposed bytes _ _ _ c.in_ok-order.order.items _ start
-    (c.in_ok-order.ensures start.messages start.are) (rw (← c.deref.ensures.value) c.in_ok-write_order.ensures)
+returns-clause-text c = IfOk-weaker c.order_text.result _ _ (λ text of. λ bytes is. of bytes _ (c.in_ok-calls.ensures.good bytes is)) c.order_text.ensures.text
+
+pub returns-clause-none : goal.returns-clause-none
+returns-clause-none c = IfErr-weaker c.order_text.result _ _ (λ error memory. λ bytes is. memory_no_start bytes _ error memory) c.order_text.ensures.memory

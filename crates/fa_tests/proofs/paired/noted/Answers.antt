@@ -9,5 +9,5 @@ use Rattle.fa_tests.proofs.paired.noted.Goals as goal
 -- src/paired.rt:37:1
 pub returns-in-Err-Memory-clause-shows : goal.returns-in-Err-Memory-clause-shows
 returns-in-Err-Memory-clause-shows c =
-    subst (λ (s : PlainLedger). OnOk c.accept-in-Err-Memory.result ((before : List Message) (m : Message) → IsNext before m s (event_shown c.args.event) → ledgers.Shows (before ++ m ∷ []) c.accept-in-Err-Memory.new.self))
+    subst (λ (s : PlainLedger). OnOk c.accept-in-Err-Memory.result ((before : List Message) (m : Message) → IsNext before m s (event_shown c.args.event.now) → ledgers.Shows (before ++ m ∷ []) c.accept-in-Err-Memory.new.self))
     c.in-Err-Memory.ensures.unchanged c.accept-in-Err-Memory.ensures.shows

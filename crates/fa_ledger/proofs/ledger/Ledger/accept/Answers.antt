@@ -10,7 +10,7 @@ use Rattle.fa_ledger.proofs.ledger.Ledger.accept.Goals as goal
 pub note-requires : goal.note-requires
 note-requires c =
     let next = c.requires.2 in
-    (c.requires.0, c.requires.1, next.shows.events, next_stands c.self.inside c.args.self.now c.requires.0 c.requires.1 (event_shown c.args.event) c.self.view_is next)
+    (c.requires.0, c.requires.1, next.shows.events, next_stands c.self.inside c.args.self.now c.requires.0 c.requires.1 (event_shown c.args.event.now) c.self.view_is next)
 
 pub invariant_of-self : goal.invariant_of-self
 invariant_of-self c =
@@ -21,7 +21,7 @@ pub returns-in_err-note-clause-refused : goal.returns-in_err-note-clause-refused
 returns-in_err-note-clause-refused c =
     let p = err_from_is_err_and c.from_residual.result c.from_residual.ensures.1 in
     rw (p.1, p.2) (λ before m next.
-    next_refused c.self.inside c.args.self.now before m (event_shown c.args.event) c.in_err-note.field-0.0 c.self.view_is next (λ es stands. c.in_err-note.ensures.refused before m es stands))
+    next_refused c.self.inside c.args.self.now before m (event_shown c.args.event.now) c.in_err-note.field-0.0 c.self.view_is next (λ es stands. c.in_err-note.ensures.refused before m es stands))
 
 pub returns-in_err-note-clause-unchanged : goal.returns-in_err-note-clause-unchanged
 returns-in_err-note-clause-unchanged c =
@@ -35,15 +35,15 @@ invariant_of-self-2 c =
     let m = c.requires.1 in
     ∣ (
       before ++ m ∷ [],
-      next_shows c.self.inside _ c.args.self.now before m (event_shown c.args.event) c.self.view_is c.requires.2
+      next_shows c.self.inside _ c.args.self.now before m (event_shown c.args.event.now) c.self.view_is c.requires.2
           (λ es stands. c.in_ok-note.ensures.keeps before m es stands) (λ es stands. c.in_ok-note.ensures.shows before m es stands) refl,
     ) ∣₁
 
 pub returns-clause-passes : goal.returns-clause-passes
 returns-clause-passes c = λ before m next.
-    next_passes c.self.inside c.args.self.now before m (event_shown c.args.event) c.self.view_is next (λ es stands. c.in_ok-note.ensures.keeps before m es stands)
+    next_passes c.self.inside c.args.self.now before m (event_shown c.args.event.now) c.self.view_is next (λ es stands. c.in_ok-note.ensures.keeps before m es stands)
 
 pub returns-clause-shows : goal.returns-clause-shows
 returns-clause-shows c = λ before m next.
-    next_shows c.self.inside _ c.args.self.now before m (event_shown c.args.event) c.self.view_is next
+    next_shows c.self.inside _ c.args.self.now before m (event_shown c.args.event.now) c.self.view_is next
     (λ es stands. c.in_ok-note.ensures.keeps before m es stands) (λ es stands. c.in_ok-note.ensures.shows before m es stands) refl

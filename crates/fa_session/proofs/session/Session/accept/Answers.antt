@@ -15,22 +15,22 @@ pub returns-in_err-check_request-in-ToServer-clause-refused :
 returns-in_err-check_request-in-ToServer-clause-refused c =
     let m = message c.args.packet.now in
     let arm = c.in_ok-request-in-ToServer in
-    let is : IsOnlyRequest m (request_shown arm.request) = record { is = (c.in-ToServer.is, arm.ensures.found); only = arm.ensures.only } in
+    let is : IsOnlyRequest m (request_shown arm.field-0) = record { is = (c.in-ToServer.is, arm.ensures.found); only = arm.ensures.only } in
     let p = err_from_is_err_and c.from_residual-in_err-check_request-in-ToServer.result c.from_residual-in_err-check_request-in-ToServer.ensures.1 in
     rw (p.1, p.2) (λ before shows.
-    request_fails before m (request_shown arm.request) c.in_err-check_request-in-ToServer.field-0.0 is arm.ensures.passes (c.in_err-check_request-in-ToServer.ensures.fault before shows))
+    request_fails before m (request_shown arm.field-0) c.in_err-check_request-in-ToServer.field-0.0 is arm.ensures.passes (c.in_err-check_request-in-ToServer.ensures.fault before shows))
 
 pub returns-in_err-at-in-ToServer-clause-refused :
     goal.returns-in_err-at-in-ToServer-clause-refused
 returns-in_err-at-in-ToServer-clause-refused c =
     let m = message c.args.packet.now in
     let arm = c.in_ok-request-in-ToServer in
-    let is : IsOnlyRequest m (request_shown arm.request) = record { is = (c.in-ToServer.is, arm.ensures.found); only = arm.ensures.only } in
+    let is : IsOnlyRequest m (request_shown arm.field-0) = record { is = (c.in-ToServer.is, arm.ensures.found); only = arm.ensures.only } in
     let wanted = c.in_err-at-in-ToServer.ensures.memory in
     let p = err_from_is_err_and c.from_residual-in_err-at-in-ToServer.result c.from_residual-in_err-at-in-ToServer.ensures.1 in
     rw (p.1, p.2, wanted.0) (λ before shows. (
-      request_passes before m (request_shown arm.request) is arm.ensures.passes (c.in_ok-check_request-in-ToServer.ensures.ok before shows),
-      newly_outstanding before m c.args.self.now (request_shown arm.request) is shows wanted.1.0 wanted.1.1,
+      request_passes before m (request_shown arm.field-0) is arm.ensures.passes (c.in_ok-check_request-in-ToServer.ensures.ok before shows),
+      newly_outstanding before m c.args.self.now (request_shown arm.field-0) is shows wanted.1.0 wanted.1.1,
     ))
 
 pub returns-then-head-eq0-clause-passes : goal.returns-then-head-eq0-clause-passes
@@ -59,14 +59,14 @@ returns-in_default-clause-refused c =
     (λ zero. let yes = c.is_empty.ensures.1 zero in let no = c.if-is_empty.false in absurd cc) c.if-head-eq0.false
     (sym c.waiting_for.ensures.found ∙ ap (option_map (λ (w : ℕ × RequestMessage). asked_shown w.0 w.1)) c.in_default.is)
 
-pub returns-in_err-reply-in-FromServer-clause-refused :
-    goal.returns-in_err-reply-in-FromServer-clause-refused
-returns-in_err-reply-in-FromServer-clause-refused c =
+pub returns-in_err-reply_body-in-FromServer-clause-refused :
+    goal.returns-in_err-reply_body-in-FromServer-clause-refused
+returns-in_err-reply_body-in-FromServer-clause-refused c =
     let m = message c.args.packet.now in
     let arm = c.in_ok-head-in-FromServer in
     let w = asked_shown c.in-Some.asked c.in-Some.message in
     let is : IsOnlyHead m arm.head = record { is = (c.in-FromServer.is, arm.ensures.found); only = arm.ensures.only } in
-    let p = err_from_is_err_and c.from_residual-in_err-reply-in-FromServer.result c.from_residual-in_err-reply-in-FromServer.ensures.1 in
+    let p = err_from_is_err_and c.from_residual-in_err-reply_body-in-FromServer.result c.from_residual-in_err-reply_body-in-FromServer.ensures.1 in
     rw (p.1, p.2) (λ before shows.
     let matched : IsMatched before m c.args.self.now arm.head w = record {
       shows = shows;
@@ -75,8 +75,8 @@ returns-in_err-reply-in-FromServer-clause-refused c =
       found = sym c.waiting_for.ensures.found ∙ ap (option_map (λ (w : ℕ × RequestMessage). asked_shown w.0 w.1)) c.in-Some.is;
       unique = c.in-Some.ensures.unique;
     } in
-    body_fails before m c.args.self.now arm.head w c.in_err-reply-in-FromServer.field-0.0 arm.ensures.passes
-    (λ zero. let yes = c.is_empty.ensures.1 zero in let no = c.if-is_empty.false in absurd cc) matched c.in_err-reply-in-FromServer.ensures.fault)
+    body_fails before m c.args.self.now arm.head w c.in_err-reply_body-in-FromServer.field-0.0 arm.ensures.passes
+    (λ zero. let yes = c.is_empty.ensures.1 zero in let no = c.if-is_empty.false in absurd cc) matched c.in_err-reply_body-in-FromServer.ensures.fault)
 
 pub returns-in_err-check_reply-in-FromServer-clause-refused :
     goal.returns-in_err-check_reply-in-FromServer-clause-refused
@@ -84,9 +84,9 @@ returns-in_err-check_reply-in-FromServer-clause-refused c =
     let m = message c.args.packet.now in
     let arm = c.in_ok-head-in-FromServer in
     let w = asked_shown c.in-Some.asked c.in-Some.message in
-    let said = c.in_ok-reply-in-FromServer in
+    let said = c.in_ok-reply_body-in-FromServer in
     let is : IsOnlyHead m arm.head = record { is = (c.in-FromServer.is, arm.ensures.found); only = arm.ensures.only } in
-    let one : IsOnlyReply m w.request (reply_shown said.reply) = record { found = said.ensures.found; only = said.ensures.only } in
+    let one : IsOnlyReply m w.request (reply_shown said.field-0) = record { found = said.ensures.found; only = said.ensures.only } in
     let p = err_from_is_err_and c.from_residual-in_err-check_reply-in-FromServer.result c.from_residual-in_err-check_reply-in-FromServer.ensures.1 in
     rw (p.1, p.2) (λ before shows.
     let matched : IsMatched before m c.args.self.now arm.head w = record {
@@ -96,25 +96,25 @@ returns-in_err-check_reply-in-FromServer-clause-refused c =
       found = sym c.waiting_for.ensures.found ∙ ap (option_map (λ (w : ℕ × RequestMessage). asked_shown w.0 w.1)) c.in-Some.is;
       unique = c.in-Some.ensures.unique;
     } in
-    reply_fails before m c.args.self.now arm.head w (reply_shown said.reply) c.in_err-check_reply-in-FromServer.field-0.0 arm.ensures.passes
+    reply_fails before m c.args.self.now arm.head w (reply_shown said.field-0) c.in_err-check_reply-in-FromServer.field-0.0 arm.ensures.passes
     (λ zero. let yes = c.is_empty.ensures.1 zero in let no = c.if-is_empty.false in absurd cc) matched one c.in_err-check_reply-in-FromServer.ensures.fault)
 
 pub returns-in_ok-at-in-ToServer-clause-passes : goal.returns-in_ok-at-in-ToServer-clause-passes
 returns-in_ok-at-in-ToServer-clause-passes c =
     let m = message c.args.packet.now in
     let arm = c.in_ok-request-in-ToServer in
-    let is : IsOnlyRequest m (request_shown arm.request) = record { is = (c.in-ToServer.is, arm.ensures.found); only = arm.ensures.only } in
-    λ before shows. request_passes before m (request_shown arm.request) is arm.ensures.passes (c.in_ok-check_request-in-ToServer.ensures.ok before shows)
+    let is : IsOnlyRequest m (request_shown arm.field-0) = record { is = (c.in-ToServer.is, arm.ensures.found); only = arm.ensures.only } in
+    λ before shows. request_passes before m (request_shown arm.field-0) is arm.ensures.passes (c.in_ok-check_request-in-ToServer.ensures.ok before shows)
 
 pub returns-in_ok-at-in-ToServer-clause-shows : goal.returns-in_ok-at-in-ToServer-clause-shows
 returns-in_ok-at-in-ToServer-clause-shows c =
     let m = message c.args.packet.now in
     let arm = c.in_ok-request-in-ToServer in
-    let is : IsOnlyRequest m (request_shown arm.request) = record { is = (c.in-ToServer.is, arm.ensures.found); only = arm.ensures.only } in
+    let is : IsOnlyRequest m (request_shown arm.field-0) = record { is = (c.in-ToServer.is, arm.ensures.found); only = arm.ensures.only } in
     λ before shows.
     let hold = c.in_ok-check_request-in-ToServer.ensures.ok before shows in
-    shows_asked before m c.args.self.now c.note_request.new.self (request_shown arm.request) shows c.in_ok-at-in-ToServer.ensures.noted is hold
-    (request_passes before m (request_shown arm.request) is arm.ensures.passes hold)
+    shows_asked before m c.args.self.now c.note_request.new.self (request_shown arm.field-0) shows c.in_ok-at-in-ToServer.ensures.noted is hold
+    (request_passes before m (request_shown arm.field-0) is arm.ensures.passes hold)
 
 pub returns-in_ok-check_reply-in-FromServer-clause-passes :
     goal.returns-in_ok-check_reply-in-FromServer-clause-passes
@@ -122,9 +122,9 @@ returns-in_ok-check_reply-in-FromServer-clause-passes c =
     let m = message c.args.packet.now in
     let arm = c.in_ok-head-in-FromServer in
     let w = asked_shown c.in-Some.asked c.in-Some.message in
-    let said = c.in_ok-reply-in-FromServer in
+    let said = c.in_ok-reply_body-in-FromServer in
     let is : IsOnlyHead m arm.head = record { is = (c.in-FromServer.is, arm.ensures.found); only = arm.ensures.only } in
-    let one : IsOnlyReply m w.request (reply_shown said.reply) = record { found = said.ensures.found; only = said.ensures.only } in
+    let one : IsOnlyReply m w.request (reply_shown said.field-0) = record { found = said.ensures.found; only = said.ensures.only } in
     λ before shows.
     let matched : IsMatched before m c.args.self.now arm.head w = record {
       shows = shows;
@@ -133,7 +133,7 @@ returns-in_ok-check_reply-in-FromServer-clause-passes c =
       found = sym c.waiting_for.ensures.found ∙ ap (option_map (λ (w : ℕ × RequestMessage). asked_shown w.0 w.1)) c.in-Some.is;
       unique = c.in-Some.ensures.unique;
     } in
-    reply_passes before m c.args.self.now arm.head w (reply_shown said.reply) arm.ensures.passes
+    reply_passes before m c.args.self.now arm.head w (reply_shown said.field-0) arm.ensures.passes
     (λ zero. let yes = c.is_empty.ensures.1 zero in let no = c.if-is_empty.false in absurd cc) matched one c.in_ok-check_reply-in-FromServer.ensures.ok
 
 pub returns-in_ok-check_reply-in-FromServer-clause-shows :
@@ -142,9 +142,9 @@ returns-in_ok-check_reply-in-FromServer-clause-shows c =
     let m = message c.args.packet.now in
     let arm = c.in_ok-head-in-FromServer in
     let w = asked_shown c.in-Some.asked c.in-Some.message in
-    let said = c.in_ok-reply-in-FromServer in
+    let said = c.in_ok-reply_body-in-FromServer in
     let is : IsOnlyHead m arm.head = record { is = (c.in-FromServer.is, arm.ensures.found); only = arm.ensures.only } in
-    let one : IsOnlyReply m w.request (reply_shown said.reply) = record { found = said.ensures.found; only = said.ensures.only } in
+    let one : IsOnlyReply m w.request (reply_shown said.field-0) = record { found = said.ensures.found; only = said.ensures.only } in
     λ before shows.
     let matched : IsMatched before m c.args.self.now arm.head w = record {
       shows = shows;
@@ -153,9 +153,9 @@ returns-in_ok-check_reply-in-FromServer-clause-shows c =
       found = sym c.waiting_for.ensures.found ∙ ap (option_map (λ (w : ℕ × RequestMessage). asked_shown w.0 w.1)) c.in-Some.is;
       unique = c.in-Some.ensures.unique;
     } in
-    shows_answered before m c.args.self.now _ arm.head w (reply_shown said.reply) matched said.ensures.found c.in_ok-check_reply-in-FromServer.ensures.ok.0
+    shows_answered before m c.args.self.now _ arm.head w (reply_shown said.field-0) matched said.ensures.found c.in_ok-check_reply-in-FromServer.ensures.ok.0
     (subst (λ (flags : Option ℕ). NotesReply c.args.self.now c.note_reply-at.new.self arm.head.unique flags) c.agreed_flags-flags.ensures c.note_reply-at.ensures.noted)
-    (reply_passes before m c.args.self.now arm.head w (reply_shown said.reply) arm.ensures.passes
+    (reply_passes before m c.args.self.now arm.head w (reply_shown said.field-0) arm.ensures.passes
     (λ zero. let yes = c.is_empty.ensures.1 zero in let no = c.if-is_empty.false in absurd cc) matched one c.in_ok-check_reply-in-FromServer.ensures.ok)
 
 pub returns-in_ok-check_reply-in-FromServer-clause-event :
@@ -164,7 +164,7 @@ returns-in_ok-check_reply-in-FromServer-clause-event c =
     let m = message c.args.packet.now in
     let arm = c.in_ok-head-in-FromServer in
     let w = asked_shown c.in-Some.asked c.in-Some.message in
-    let said = c.in_ok-reply-in-FromServer in
+    let said = c.in_ok-reply_body-in-FromServer in
     let is : IsOnlyHead m arm.head = record { is = (c.in-FromServer.is, arm.ensures.found); only = arm.ensures.only } in
     λ before shows.
     let matched : IsMatched before m c.args.self.now arm.head w = record {
