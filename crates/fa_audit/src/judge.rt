@@ -11,7 +11,7 @@ ghost use Rattle.fa_audit.specs.Line.{IsCoded};
 ghost use Rattle.fa_audit.specs.Starts.{IsStartOf, IsNoStart, IsOrderRefused};
 ghost use Rattle.fa_audit.specs.parts.Answers.{Tells, IsTreeRefused};
 
-use crate::protocol::{good_calls, good_calls_in};
+use crate::protocol::{good_calls, good_calls_of_bytes};
 use crate::verdict::{AuditError, StartError};
 use fa_capture::Capture;
 use fa_check::{Verdict, check};
@@ -75,7 +75,7 @@ pub fn audit(
     // A code that is told has a text.
     ensures codes { IfOk result IsCoded }
 {
-    answer_in(alloc, capture, tree, order)
+    answer_of_bytes(alloc, capture, tree, order)
 }
 
 /// Judges a capture that was read, as [`audit`] judges one by its bytes.
@@ -159,7 +159,7 @@ pub fn start<'a>(
     Ok((calls, first))
 }
 
-/// What an order starts with, as [`start`] tells it, where the capture is given by its bytes: they are gone through once.
+/// What an order starts with, as [`start`] tells it, where the capture is given by its bytes: their records are gone through once.
 ///
 /// # Errors
 ///
@@ -167,8 +167,8 @@ pub fn start<'a>(
 ///
 /// # Cost
 ///
-/// That of [`start`].
-pub(crate) fn start_in<'a>(
+/// That of [`start`], and constant time for each record, which is judged for the framing here.
+pub(crate) fn start_of_bytes<'a>(
     alloc: Global,
     bytes: &'a [u8],
     tree: Option<&[u8]>,
@@ -177,7 +177,7 @@ pub(crate) fn start_in<'a>(
     ensures good { IfOk result (λ start. IsStartOf bytes.now (option_copied tree.entry) start.0 start.1) }
     ensures none { IfErr result (IsNoStart bytes.now (option_copied tree.entry)) }
 {
-    let calls = good_calls_in(alloc, bytes)?;
+    let calls = good_calls_of_bytes(alloc, bytes)?;
     let first = given_tree(alloc, tree)?;
     Ok((calls, first))
 }
@@ -222,7 +222,7 @@ fn answer(
 }
 
 /// An answer for the capture by its bytes, the tree and the order.
-fn answer_in(
+fn answer_of_bytes(
     alloc: Global,
     capture: &[u8],
     tree: Option<&[u8]>,
@@ -232,7 +232,7 @@ fn answer_in(
     requires order_text { length order.now ≤ MAX_TEXT_BYTES }
     ensures { Tells capture.now (option_copied tree.entry) order.now result }
 {
-    match start_in(alloc, capture, tree) {
+    match start_of_bytes(alloc, capture, tree) {
         Ok((calls, first)) => answer_from(alloc, &calls, first, order),
         Err(error) => error.answer(),
     }

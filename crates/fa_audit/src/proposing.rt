@@ -14,7 +14,7 @@ ghost use Rattle.fa_audit.specs.Proposed.{IsStart, IsProposed, IsProposalTold, I
 ghost use Rattle.fa_audit.specs.Starts.{IsStartOf, IsNoStart};
 ghost use Rattle.fa_audit.specs.parts.Answers.{text_answered};
 
-use crate::judge::{start, start_in};
+use crate::judge::{start, start_of_bytes};
 use crate::running::{MAX_TEXT_INPUT_BYTES, RunFault, input_bytes, stored_capture, tell};
 use crate::status::Status;
 use crate::verdict::StartError;
@@ -56,7 +56,7 @@ pub fn proposal(alloc: Global, capture: &[u8], tree: Option<&[u8]>) -> Result<Ve
     // A code that is told has a text.
     ensures codes { IfErr result (λ error. IfOk (answer_of error) IsCoded) }
 {
-    proposed_in(alloc, capture, tree)
+    proposed_of_bytes(alloc, capture, tree)
 }
 
 /// The text of an order that is proposed for a capture that was read, as [`proposal`] is for one by its bytes.
@@ -78,21 +78,25 @@ pub fn proposed(
     ensures none { IfErr result (λ error. (bytes : List ℕ) → IsCaptureOf bytes capture.now → IsNoStart bytes (option_copied tree.entry) error) }
 {
     let (calls, first) = start(alloc, capture, tree)?;
-    order_text(alloc, &calls, first)
+    text_from(alloc, &calls, first)
 }
 
-/// The text of an order that is proposed for a capture by its bytes, which are gone through once.
-fn proposed_in(alloc: Global, capture: &[u8], tree: Option<&[u8]>) -> Result<Vec<u8>, StartError>
+/// The text of an order that is proposed for a capture by its bytes, whose records are gone through once.
+fn proposed_of_bytes(
+    alloc: Global,
+    capture: &[u8],
+    tree: Option<&[u8]>,
+) -> Result<Vec<u8>, StartError>
     requires { IfSome (option_copied tree) (λ text. length text ≤ MAX_TEXT_BYTES) }
     ensures text { IfOk result (λ text. IsProposed capture.now (option_copied tree.entry) text.items) }
     ensures none { IfErr result (IsNoStart capture.now (option_copied tree.entry)) }
 {
-    let (calls, first) = start_in(alloc, capture, tree)?;
-    order_text(alloc, &calls, first)
+    let (calls, first) = start_of_bytes(alloc, capture, tree)?;
+    text_from(alloc, &calls, first)
 }
 
 /// The text of an order that is proposed from what it starts with.
-fn order_text(alloc: Global, calls: &Calls<'_>, first: Tree) -> Result<Vec<u8>, StartError>
+fn text_from(alloc: Global, calls: &Calls<'_>, first: Tree) -> Result<Vec<u8>, StartError>
     ensures text { IfOk result (λ text. (bytes : List ℕ) (tree : Option (List ℕ)) → IsStartOf bytes tree calls.now first → IsProposed bytes tree text.items) }
     ensures memory { IfErr result (λ error. error ≡ StartError.Memory) }
 {

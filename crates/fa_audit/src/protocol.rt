@@ -49,11 +49,8 @@ fn accept<'a>(
     ensures shows { OnOk result ((c : List Message) → ShowBoth c session.old ledger.old → length c < MAX_MESSAGES → ShowBoth (c ++ message packet.now ∷ []) session.new ledger.new) }
     ensures refused { IfErr result (λ error. (c : List Message) → ShowBoth c session.old ledger.old → length c < MAX_MESSAGES → IsRefusal c (message packet.now) error) }
 {
-    // The event is looked at where it lies: it is never moved.
-    match session.accept(packet) {
-        Ok(ref event) => ledger.accept(event)?,
-        Err(error) => return Err(MessageError::from(error)),
-    }
+    let event = session.accept(packet)?;
+    ledger.accept(&event)?;
     Ok(())
 }
 
@@ -110,8 +107,8 @@ pub(crate) fn good_calls<'a>(alloc: Global, capture: &Capture<'a>) -> Result<Cal
     }
 }
 
-/// The calls of a good capture by its bytes. Each record is judged for the framing as the walk comes to it, so the bytes are gone through
-/// once, where a [`Capture`] would be read before its messages are.
+/// The calls of a good capture by its bytes. Each record is judged for the framing as the walk comes to it, so the records are gone
+/// through once, where a [`Capture`] would be read before its messages are.
 ///
 /// # Errors
 ///
@@ -119,8 +116,8 @@ pub(crate) fn good_calls<'a>(alloc: Global, capture: &Capture<'a>) -> Result<Cal
 ///
 /// # Cost
 ///
-/// One pass, at each message that of [`Session::accept`] and [`Ledger::accept`].
-pub(crate) fn good_calls_in(alloc: Global, bytes: &[u8]) -> Result<Calls<'_>, Broken>
+/// One pass, at each message that of [`Walk::next`], [`Session::accept`] and [`Ledger::accept`].
+pub(crate) fn good_calls_of_bytes(alloc: Global, bytes: &[u8]) -> Result<Calls<'_>, Broken>
     ensures good { IfOk result (AreCallsOf bytes.now) }
     ensures fault { IfErr result (IsCaptureRefused bytes.now) }
 {

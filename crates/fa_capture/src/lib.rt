@@ -1,11 +1,10 @@
 //! Captures of /dev/fuse traffic: from bytes to messages.
 //!
 //! [`read_capture`] splits the bytes of a capture in either [`Format`] into [`Packet`]s, whose bytes are slices of the
-//! capture, and tells the first fault of the framing; a [`Walk`] does so one packet at a time, a [`Feed`] with a capture that comes in
-//! pieces, and [`Incoming`] with one that comes in pieces and is not kept. [`front`] gives the capture of its first messages, and [`migrate`] writes one anew in the
-//! format that has times.
-//! [`Input`] and [`Output`] are where bytes come from and go to, and [`read_all`] reads the whole of an
-//! input.
+//! capture, and tells the first fault of the framing; a [`Walk`] does so one packet at a time, a [`Feed`] with a capture
+//! that comes in pieces, and [`Incoming`] with one that comes in pieces and is not kept. [`front`] gives the capture of its
+//! first messages, and [`migrate`] writes one anew in the format that has times. [`Input`] and [`Output`] are where bytes
+//! come from and go to, and [`read_all`] reads the whole of an input.
 #![tactic(auto)]
 
 mod capture;

@@ -67,8 +67,8 @@ impl Stop {
 
 /// A walk over the records of a capture, each of which is judged as the walk comes to it.
 ///
-/// It tells what [`read_capture`](crate::read_capture) tells, in one pass: the packets one after the other, and behind them the framing
-/// fault, if there is one.
+/// It tells what [`read_capture`](crate::read_capture) tells of bytes that begin with a magic, in one pass: the packets one after the
+/// other, and behind them the framing fault, if there is one.
 #[derive(Drop)]
 pub struct Walk<'a> {
     so_far: Progress,
@@ -90,7 +90,8 @@ impl<'a> Model for Walk<'a> {
 }
 
 impl<'a> Walk<'a> {
-    /// The packets of a capture, none of them read; `None` where the first 8 bytes are the magic of no [`Format`], or there are fewer.
+    /// The packets of a capture, none of them read; `None` where the first 8 bytes are the magic of no [`Format`], or there are fewer:
+    /// the fault of such bytes is [`NO_MAGIC`](crate::codes::NO_MAGIC) at 0.
     ///
     /// Takes no memory, in constant time.
     pub fn new(bytes: &'a [u8]) -> Option<Self>
@@ -111,7 +112,7 @@ impl<'a> Walk<'a> {
     /// # Errors
     ///
     /// The code of the framing fault that the capture has behind the packets that were read, as [`read_capture`] tells it, which
-    /// stands at their number. They are then as they were, and the next call tells it again.
+    /// stands at their number. The walk is then as it was, and the next call tells it again.
     ///
     /// # Cost
     ///

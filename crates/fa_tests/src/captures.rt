@@ -42,7 +42,7 @@ fn walked(bytes: &[u8]) -> Ending {
     let Some(mut walk) = Walk::new(bytes) else {
         return (0, codes::NO_MAGIC);
     };
-    for count in 0..MAX_MESSAGES as u32 {
+    for count in 0..=MAX_MESSAGES as u32 {
         match walk.next() {
             Ok(Some(_)) => {}
             Ok(None) => return (count, 0),

@@ -95,10 +95,7 @@ fn accept<'a>(
     ensures refused { IfErr result (λ error. (c : List Message) → AreShown c session.old standing.old → length c < MAX_MESSAGES → IsRefusal c (message packet.now) error) }
     ensures kept { IfErr result (λ error. standing.new ≡ standing.old) }
 {
-    // The event is looked at where it lies: it is never moved.
-    match session.accept(packet) {
-        Ok(ref event) => standing.accept(event)?,
-        Err(error) => return Err(MessageError::from(error)),
-    }
+    let event = session.accept(packet)?;
+    standing.accept(&event)?;
     Ok(())
 }

@@ -3,7 +3,7 @@ use Rattle.fa_capture.specs.Message.{message, recorded, without_times}
 use Rattle.fa_capture.proofs.CallerLemmas.{are_bytes}
 use Rattle.fa_watch.specs.Refusals.{IsRefusal}
 use Rattle.fa_audit.proofs.ProtocolLemmas.{few_taken, one_taken, refused_taken, framing_taken, all_taken_in, without_magic}
-use Rattle.fa_audit.proofs.protocol.good_calls_in.Goals as goal
+use Rattle.fa_audit.proofs.protocol.good_calls_of_bytes.Goals as goal
 
 pub returns-in_default-clause-fault : goal.returns-in_default-clause-fault
 returns-in_default-clause-fault c = without_magic c.args.bytes.now (c.in_default.ensures.none refl)

@@ -1,5 +1,5 @@
 use Rattle.fa_audit.proofs.AuditLemmas.{no_start_told}
-use Rattle.fa_audit.proofs.judge.answer_in.Goals as goal
+use Rattle.fa_audit.proofs.judge.answer_of_bytes.Goals as goal
 
 pub returns-in-Err : goal.returns-in-Err
 returns-in-Err c = rw c.answer.ensures (no_start_told c.args.capture.now _ c.args.order.now c.in-Err.error c.in-Err.ensures.none)

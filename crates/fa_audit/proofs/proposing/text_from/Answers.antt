@@ -1,5 +1,5 @@
 use Rattle.fa_audit.proofs.ProposalLemmas.{text_proposed}
-use Rattle.fa_audit.proofs.proposing.order_text.Goals as goal
+use Rattle.fa_audit.proofs.proposing.text_from.Goals as goal
 
 pub returns-clause-text : goal.returns-clause-text
 returns-clause-text c = λ bytes tree start.

@@ -1,6 +1,6 @@
 use Rattle.std.proofs.lemmas.Result.{err_from_is_err_and}
 use Rattle.fa_audit.proofs.AuditLemmas.{start_of, capture_no_start, tree_no_start}
-use Rattle.fa_audit.proofs.judge.start_in.Goals as goal
+use Rattle.fa_audit.proofs.judge.start_of_bytes.Goals as goal
 
 pub returns-in_err-calls-clause-none : goal.returns-in_err-calls-clause-none
 returns-in_err-calls-clause-none c =
