@@ -9,3 +9,4 @@ pub mod KnownLaws
 pub mod OperationLaws
 pub mod ItemLaws
 pub mod ListingLaws
+pub mod ViewLaws

@@ -25,7 +25,7 @@ use Rattle.fa_bodies.proofs.ItemLaws.{byte_in, u64_begins, IsBytes-drop}
 -- ---- numbers
 
 -- any four bytes are a number
-u32_begins : (bytes : List ℕ) → IsBytes bytes → 4 ≤ length bytes → (u32_in bytes < 2 ^ 32) × (bytes ≡ le32 (u32_in bytes) ++ drop 4 bytes)
+pub u32_begins : (bytes : List ℕ) → IsBytes bytes → 4 ≤ length bytes → (u32_in bytes < 2 ^ 32) × (bytes ≡ le32 (u32_in bytes) ++ drop 4 bytes)
 u32_begins bytes fits len =
     let at = byte_in 4 bytes fits in (
       omega (arith, at 0 (omega arith), at 1 (omega arith), at 2 (omega arith), at 3 (omega arith)),
@@ -35,7 +35,7 @@ u32_begins bytes fits len =
 -- ---- fields at the front of bytes
 
 -- numbers and unread bytes, but no names
-abbrev IsNumbers : List Field → Type 0
+abbrev pub IsNumbers : List Field → Type 0
 IsNumbers [] = Unit {0}
 IsNumbers (U32 n ∷ fields) = IsNumbers fields
 IsNumbers (U64 n ∷ fields) = IsNumbers fields
@@ -43,7 +43,7 @@ IsNumbers (Unread count ∷ fields) = IsNumbers fields
 IsNumbers _ = ⊥
 
 -- the fields with the values that stand in the bytes from a place on
-abbrev values_at : ℕ → List Field → List ℕ → List Field
+abbrev pub values_at : ℕ → List Field → List ℕ → List Field
 values_at k [] bytes = []
 values_at k (U32 n ∷ fields) bytes = U32 (u32_in (drop k bytes)) ∷ values_at (k + 4) fields bytes
 values_at k (U64 n ∷ fields) bytes = U64 (u64_in (drop k bytes)) ∷ values_at (k + 8) fields bytes
@@ -51,7 +51,7 @@ values_at k (Unread count ∷ fields) bytes = Unread count ∷ values_at (k + co
 values_at k (other ∷ fields) bytes = other ∷ values_at k fields bytes
 
 -- long enough bytes begin with the fields
-values-begin : (fs : List Field) (k end : ℕ) (bytes : List ℕ) → IsNumbers fs → IsBytes bytes → k + byte_count fs ≡ end → end ≤ length bytes → BeginsWith (drop k bytes) (values_at k fs bytes) (drop end bytes)
+pub values-begin : (fs : List Field) (k end : ℕ) (bytes : List ℕ) → IsNumbers fs → IsBytes bytes → k + byte_count fs ≡ end → end ≤ length bytes → BeginsWith (drop k bytes) (values_at k fs bytes) (drop end bytes)
 values-begin [] k end bytes numbers fits is_end len = ap (λ (n : ℕ). drop n bytes) (omega arith)
 values-begin (U32 n ∷ fs) k end bytes numbers fits is_end len =
     let here = u32_begins (drop k bytes) (IsBytes-drop k bytes fits) (omega (arith, length-drop k bytes)) in
@@ -72,12 +72,12 @@ values-begin (Name x ∷ fs) k end bytes numbers fits is_end len = absurd number
 values-begin (Target x ∷ fs) k end bytes numbers fits is_end len = absurd numbers
 
 -- any 88 bytes are attributes
-attributes_begin : (bytes : List ℕ) → IsBytes bytes → 88 ≤ length bytes → BeginsWith bytes (attr (attributes_in bytes)) (drop 88 bytes)
+pub attributes_begin : (bytes : List ℕ) → IsBytes bytes → 88 ≤ length bytes → BeginsWith bytes (attr (attributes_in bytes)) (drop 88 bytes)
 unfolding attributes_in
 attributes_begin bytes fits len = values-begin (attr (attributes_in bytes)) 0 88 bytes tt fits refl len
 
 -- any 128 bytes are an entry_out
-entry_out_begins : (bytes : List ℕ) → IsBytes bytes → 128 ≤ length bytes → BeginsWith bytes (entry_out (entry_out_in bytes)) (drop 128 bytes)
+pub entry_out_begins : (bytes : List ℕ) → IsBytes bytes → 128 ≤ length bytes → BeginsWith bytes (entry_out (entry_out_in bytes)) (drop 128 bytes)
 unfolding entry_out_in
 entry_out_begins bytes fits len =
     let numbers : List Field = U64 0 ∷ U64 0 ∷ U64 0 ∷ U64 0 ∷ U32 0 ∷ U32 0 ∷ [] in

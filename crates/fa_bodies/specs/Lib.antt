@@ -24,3 +24,5 @@ pub mod Numbers
 -- the same lists computed, since what an iterator has left must be a function: nothing is to be learned there
 pub mod Items
 pub mod Listing
+-- and the structs that are held by their bytes, computed from these
+pub mod Views

@@ -14,10 +14,11 @@ use Rattle.fa_bodies.specs.Dirents.{PlainDirent, AreEntries}
 use Rattle.fa_bodies.specs.Fields.{BeginsWith, IsSpelled}
 use Rattle.fa_bodies.specs.Listing.{entries_left}
 use Rattle.fa_bodies.specs.Structs.{out_header, entry_out, attr_out, open_out, write_out, init_out}
+use Rattle.fa_bodies.specs.Views.{entry_shown, attr_shown}
 use Rattle.fa_bodies.specs.Requests.{PlainBody, PlainRequest, MayBeAnswered, length_checks}
 use Rattle.fa_bodies.specs.Requests.PlainBody.{Lookup, Forget, Getattr, Setattr, Readlink, Symlink, Mknod, Mkdir, Unlink, Rmdir, Rename, Link, Open, Read, Write, Release, Flush, Init, Opendir, Readdir, Releasedir, Create, BatchForget, Readdirplus, Rename2, Passed}
 
--- What a reply says, without where its payload lies in memory.
+-- What a reply says, without where its payload, its entry or its attributes lie in memory.
 pub data PlainReply : Type 0 where
   Refused : (error : ℤ) → PlainReply
   Empty : PlainReply
@@ -35,9 +36,9 @@ pub data PlainReply : Type 0 where
 abbrev pub reply_shown : Reply → PlainReply
 reply_shown (declared.Refused error) = Refused error
 reply_shown declared.Empty = Empty
-reply_shown (declared.Entry e) = Entry e
-reply_shown (declared.Created e o) = Created e o
-reply_shown (declared.Attributes a) = Attributes a
+reply_shown (declared.Entry e) = Entry (entry_shown e)
+reply_shown (declared.Created e o) = Created (entry_shown e) o
+reply_shown (declared.Attributes a) = Attributes (attr_shown a)
 reply_shown (declared.Opened o) = Opened o
 reply_shown (declared.Written size) = Written size
 reply_shown (declared.Bytes payload) = Bytes payload.now

@@ -23,8 +23,9 @@ use Rattle.fa_bodies.specs.FlagBits.{fattr_size}
 use Rattle.fa_bodies.specs.Flags.{HasFlag, fattr_bits, rename_bits}
 use Rattle.fa_bodies.specs.Modes.{mode_bits, IsNodeMode}
 use Rattle.fa_bodies.specs.Structs.{in_header, forget_in, getattr_in, setattr_in, mknod_in, mkdir_in, rename_in, rename2_in, link_in, open_in, read_in, write_in, release_in, flush_in, init_in, create_in, batch_forget_in}
+use Rattle.fa_bodies.specs.Views.{setattr_shown}
 
--- The body of a request, without where its names and payloads lie in memory.
+-- The body of a request, without where its names, its payload or what SETATTR asks for lie in memory.
 pub data PlainBody : Type 0 where
   Lookup : (name : List ℕ) → PlainBody
   Forget : (nlookup : ℕ) → PlainBody
@@ -54,7 +55,7 @@ pub data PlainBody : Type 0 where
   -- an operation that is read by its header alone, or a RENAME2 with flags that are not judged
   Passed : PlainBody
 
--- A request, without where its names and payloads lie in memory.
+-- A request, without where parts of its body lie in memory.
 pub record PlainRequest : Type 0 where
   pub unique : ℕ
   pub node : ℕ
@@ -66,7 +67,7 @@ abbrev pub body_shown : RequestBody → PlainBody
 body_shown (declared.Lookup name) = Lookup name.now
 body_shown (declared.Forget nlookup) = Forget nlookup
 body_shown (declared.Getattr g) = Getattr g
-body_shown (declared.Setattr s) = Setattr s
+body_shown (declared.Setattr s) = Setattr (setattr_shown s)
 body_shown declared.Readlink = Readlink
 body_shown (declared.Symlink name target) = Symlink name.now target.now
 body_shown (declared.Mknod mode rdev umask name) = Mknod mode rdev umask name.now

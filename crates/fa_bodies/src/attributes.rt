@@ -1,11 +1,13 @@
 //! Attributes of files, as replies have them.
 
-ghost use Rattle.std.specs.Prelude.{refl};
+ghost use Rattle.std.specs.Prelude.{◌≡◌, ◌≤◌, length, refl};
 ghost use Rattle.fa_bodies.specs.Structs.{attr, attr_out};
+ghost use Rattle.fa_bodies.specs.Views.{attr_out_in};
 
 use crate::block::Block;
 use crate::fields::{skip, u32_at, u64_at};
 use crate::mode::Mode;
+use crate::views::AttrBytes;
 
 /// Attributes of a file (`struct fuse_attr`). Times are seconds and nanoseconds, `size` counts
 /// bytes, and `blocks` counts 512 of them.
@@ -105,4 +107,40 @@ impl Block for AttrOut {
     }
 
     ghost sized = { λ block. refl };
+}
+
+/// The attributes at the front of bytes, and how long they stay valid.
+fn attributes_at(bytes: &[u8]) -> AttrOut
+    requires { 104 ≤ length bytes.now }
+    ensures { result ≡ attr_out_in bytes.now }
+{
+    let (attributes, _rest) = AttrOut::at(bytes);
+    attributes
+}
+
+impl<'a> AttrBytes<'a> {
+    ghost use Rattle.std.specs.Prelude.{◌≡◌, IfSome, IfNone};
+    ghost use Rattle.fa_bodies.specs.Fields.{IsSpelled};
+    ghost use Rattle.fa_bodies.specs.Views.{attr_shown};
+
+    /// The attributes that bytes are as a whole.
+    pub(crate) fn whole(bytes: &'a [u8]) -> Option<Self>
+        ensures found { IfSome result (λ attributes. IsSpelled bytes.now (attr_out (attr_shown attributes))) }
+        ensures none { IfNone result
+            ((attributes : AttrOut) → IsSpelled bytes.now (attr_out attributes) → ⊥) }
+    {
+        if bytes.len() != AttrOut::LEN {
+            return None;
+        }
+        Some(AttrBytes { bytes })
+    }
+
+    /// The whole struct, as [`AttrOut`] has it.
+    ///
+    /// Takes no memory, in constant time.
+    pub fn read(&self) -> AttrOut
+        ensures { result ≡ attr_shown self.now }
+    {
+        attributes_at(self.bytes)
+    }
 }

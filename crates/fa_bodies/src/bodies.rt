@@ -16,6 +16,7 @@ use crate::names::{name_at, whole_name, whole_target};
 use crate::opcodes::*;
 use crate::rename_flags::RenameFlags;
 use crate::requests::RequestBody;
+use crate::views::SetattrBytes;
 use bitflags::Flags;
 use fa_capture::codes;
 
@@ -50,7 +51,7 @@ fn body_of(opcode: u32, body: &[u8]) -> Option<RequestBody<'_>>
         }),
         FORGET => forget(body),
         GETATTR => Some(RequestBody::Getattr(whole(body)?)),
-        SETATTR => Some(RequestBody::Setattr(whole(body)?)),
+        SETATTR => Some(RequestBody::Setattr(SetattrBytes::whole(body)?)),
         READLINK => readlink(body),
         SYMLINK => symlink(body),
         MKNOD => mknod(body),
@@ -254,7 +255,7 @@ fn is_within_limit(body: &RequestBody<'_>) -> bool
             *offset <= MAX_FILE_BYTES && u64::from(*size) <= MAX_FILE_BYTES - *offset
         }
         RequestBody::Setattr(setattr) => {
-            !setattr.valid.contains(FattrFlags::SIZE) || setattr.size <= MAX_FILE_BYTES
+            !setattr.valid().contains(FattrFlags::SIZE) || setattr.size() <= MAX_FILE_BYTES
         }
         RequestBody::Lookup { .. }
         | RequestBody::Forget { .. }

@@ -1,7 +1,8 @@
 //! Messages of /dev/fuse: from the bytes of a packet to requests and replies.
 //!
 //! The structs and numbers are those of `fuse.h` at protocol 7.31, little-endian. No reader takes
-//! memory: each name, target and payload is a slice of the message that it was read from. The readers
+//! memory: each name, target and payload is a slice of the message that it was read from, and the large structs, of
+//! entries, attributes and SETATTR, are read field by field where they lie in it ([`EntryBytes`] and its like). The readers
 //! do not look at a packet's direction.
 #![tactic(auto)]
 
@@ -30,6 +31,7 @@ mod replies;
 mod requests;
 mod setattr;
 mod successes;
+mod views;
 mod walking;
 
 pub use attributes::{AttrOut, Attributes};
@@ -48,4 +50,5 @@ pub use rename_flags::RenameFlags;
 pub use replies::{Reply, ReplyHead};
 pub use requests::{ROOT_ID, Request, RequestBody};
 pub use setattr::SetattrIn;
+pub use views::{AttrBytes, EntryBytes, SetattrBytes};
 pub use walking::{entries, items};

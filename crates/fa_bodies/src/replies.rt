@@ -1,10 +1,9 @@
 //! Replies, as the server sends them.
 
-use crate::attributes::AttrOut;
 use crate::dirent::Entries;
-use crate::entry::EntryOut;
 use crate::handles::OpenOut;
 use crate::init::Negotiated;
+use crate::views::{AttrBytes, EntryBytes};
 
 /// The head of a message from the server (`struct fuse_out_header`) without its length.
 #[derive(Clone, Copy, Debug)]
@@ -16,7 +15,7 @@ pub struct ReplyHead {
     pub error: i32,
 }
 
-/// What a reply says to its request. Payloads are slices of the message.
+/// What a reply says to its request. Payloads are slices of the message, and entries and attributes lie in it.
 #[derive(Clone, Copy, Debug)]
 pub enum Reply<'a> {
     /// The request failed with this error number, which is below 0.
@@ -25,11 +24,14 @@ pub enum Reply<'a> {
     Empty,
     /// The file of a name: LOOKUP, SYMLINK, MKNOD, MKDIR, LINK. To LOOKUP the node id 0 says that the
     /// name is not there.
-    Entry(EntryOut),
+    Entry(EntryBytes<'a>),
     /// The file of a name, and its open handle: CREATE.
-    Created { entry: EntryOut, open: OpenOut },
+    Created {
+        entry: EntryBytes<'a>,
+        open: OpenOut,
+    },
     /// The attributes of a file: GETATTR, SETATTR.
-    Attributes(AttrOut),
+    Attributes(AttrBytes<'a>),
     /// An open handle: OPEN, OPENDIR.
     Opened(OpenOut),
     /// How many bytes were written: WRITE.

@@ -9,13 +9,14 @@ use crate::handles::{FlushIn, OpenIn, ReadIn, ReleaseIn};
 use crate::init::InitIn;
 use crate::mode::Mode;
 use crate::rename_flags::RenameFlags;
-use crate::setattr::SetattrIn;
+use crate::views::SetattrBytes;
 
 /// The node id of the root (`FUSE_ROOT_ID` of `fuse.h`).
 pub const ROOT_ID: u64 = 1;
 
 /// What a request asks for, by its operation (`enum fuse_opcode` of `fuse.h`). Fields have the names of `fuse.h`, and
-/// what is of no use is left out. Names, targets and payloads are slices of the message.
+/// what is of no use is left out. Names, targets and payloads are slices of the message, and what SETATTR asks for lies in
+/// it.
 #[derive(Clone, Copy, Debug)]
 pub enum RequestBody<'a> {
     /// The file of a name in the directory of the request's node.
@@ -29,7 +30,7 @@ pub enum RequestBody<'a> {
     /// The attributes of the node's file.
     Getattr(GetattrIn),
     /// A change of attributes of the node's file.
-    Setattr(SetattrIn),
+    Setattr(SetattrBytes<'a>),
     /// The target of a symbolic link.
     Readlink,
     /// A new symbolic link with this name and target in the directory of the node.

@@ -4,13 +4,13 @@ ghost use Rattle.std.specs.Prelude.{IfSome, IfNone};
 ghost use Rattle.fa_bodies.specs.Requests.{body_shown};
 ghost use Rattle.fa_bodies.specs.Replies.{PlainReply, IsEntryBody, IsAttributesBody, IsOpenedBody, IsNegotiatedBody, IsCreatedBody, IsWrittenBody, IsBytesBody, IsListedBody, IsEmptyBody, IsSuccessBody, reply_shown};
 
-use crate::block::{front, whole};
-use crate::entry::EntryOut;
+use crate::block::whole;
 use crate::handles::WriteOut;
 use crate::init::negotiated_body;
 use crate::opcodes::INTERRUPT;
 use crate::replies::Reply;
 use crate::requests::RequestBody;
+use crate::views::{AttrBytes, EntryBytes};
 use crate::walking::listing;
 
 /// What the body of a success says to a request with this opcode and body.
@@ -53,7 +53,7 @@ fn entry(body: &[u8]) -> Option<Reply<'_>>
     ensures found { IfSome result (λ reply. IsEntryBody body.now (reply_shown reply)) }
     ensures none { IfNone result ((reply : PlainReply) → IsEntryBody body.now reply → ⊥) }
 {
-    Some(Reply::Entry(whole(body)?))
+    Some(Reply::Entry(EntryBytes::whole(body)?))
 }
 
 /// The attributes of a file.
@@ -61,7 +61,7 @@ fn attributes(body: &[u8]) -> Option<Reply<'_>>
     ensures found { IfSome result (λ reply. IsAttributesBody body.now (reply_shown reply)) }
     ensures none { IfNone result ((reply : PlainReply) → IsAttributesBody body.now reply → ⊥) }
 {
-    Some(Reply::Attributes(whole(body)?))
+    Some(Reply::Attributes(AttrBytes::whole(body)?))
 }
 
 /// An open handle.
@@ -77,7 +77,7 @@ fn created(body: &[u8]) -> Option<Reply<'_>>
     ensures found { IfSome result (λ reply. IsCreatedBody body.now (reply_shown reply)) }
     ensures none { IfNone result ((reply : PlainReply) → IsCreatedBody body.now reply → ⊥) }
 {
-    let (entry, rest): (EntryOut, &[u8]) = front(body)?;
+    let (entry, rest) = EntryBytes::front(body)?;
     let open = whole(rest)?;
     Some(Reply::Created { entry, open })
 }

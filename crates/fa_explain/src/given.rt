@@ -1,6 +1,6 @@
 //! What replies give, and open.
 
-use fa_bodies::{Dirent, Entries, EntryOut, Reply, Request, RequestBody};
+use fa_bodies::{Dirent, Entries, Reply, Request, RequestBody};
 
 /// The nodes that a reply gives: each of them stands for one lookup.
 #[derive(Clone, Copy)]
@@ -15,8 +15,8 @@ impl<'a> Given<'a> {
     /// The nodes that a reply to a request gives.
     pub fn by(asked: &RequestBody<'_>, reply: &Reply<'a>) -> Self {
         match reply {
-            Reply::Entry(entry) => Given::looked_up(asked, entry),
-            Reply::Created { entry, .. } => Given::One(entry.nodeid),
+            Reply::Entry(entry) => Given::looked_up(asked, entry.nodeid()),
+            Reply::Created { entry, .. } => Given::One(entry.nodeid()),
             Reply::Listed(entries) => {
                 if entries.is_plus() {
                     Given::Listed(*entries)
@@ -29,16 +29,10 @@ impl<'a> Given<'a> {
     }
 
     /// The node of a name: to LOOKUP 0 stands for none.
-    fn looked_up(asked: &RequestBody<'_>, entry: &EntryOut) -> Self {
+    fn looked_up(asked: &RequestBody<'_>, nodeid: u64) -> Self {
         match asked {
-            RequestBody::Lookup { .. } => {
-                if entry.nodeid == 0 {
-                    Given::Nothing
-                } else {
-                    Given::One(entry.nodeid)
-                }
-            }
-            _ => Given::One(entry.nodeid),
+            RequestBody::Lookup { .. } if nodeid == 0 => Given::Nothing,
+            _ => Given::One(nodeid),
         }
     }
 }
@@ -111,7 +105,7 @@ impl Opened {
             Reply::Created { entry, open } => Some(Opened::Given(Handle {
                 fh: open.fh,
                 kind: HandleKind::File,
-                node: entry.nodeid,
+                node: entry.nodeid(),
             })),
             _ => None,
         }
@@ -129,7 +123,7 @@ impl Opened {
 pub(crate) fn handle_used(asked: &Request<'_>) -> Option<Handle> {
     let (fh, kind) = match &asked.body {
         RequestBody::Getattr(getattr) => (getattr.fh, HandleKind::File),
-        RequestBody::Setattr(setattr) => (setattr.fh, HandleKind::File),
+        RequestBody::Setattr(setattr) => (setattr.fh(), HandleKind::File),
         RequestBody::Read(read) => (read.fh, HandleKind::File),
         RequestBody::Write { fh, .. } => (*fh, HandleKind::File),
         RequestBody::Release(release) => (release.fh, HandleKind::File),

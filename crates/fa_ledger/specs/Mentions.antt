@@ -35,9 +35,13 @@ handle uses = record { names = λ node. node ∷ []; takes = λ node. []; uses =
 abbrev pub entry_for : (EntryOut → List ℕ) → Mentions
 entry_for gives = record { names = λ node. node ∷ []; takes = λ node. []; uses = None; gives = gives }
 
--- the node that an entry gives, if any: 0 stands for none
+-- the node with this id, if any: 0 stands for none
+abbrev pub node_with : ℕ → List ℕ
+node_with nodeid = (if nodeid == 0 then [] else nodeid ∷ [])
+
+-- the node that an entry gives, if any
 abbrev pub node_of : EntryOut → List ℕ
-node_of entry = (if entry.nodeid == 0 then [] else entry.nodeid ∷ [])
+node_of entry = node_with entry.nodeid
 
 -- the node of the header, and another
 abbrev pub two_nodes : ℕ → Mentions

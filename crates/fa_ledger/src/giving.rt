@@ -6,7 +6,7 @@ ghost use Rattle.fa_bodies.specs.Dirents.{PlainDirent, dirent_shown};
 ghost use Rattle.fa_bodies.specs.Listing.{entries_left};
 ghost use Rattle.fa_bodies.specs.Requests.{body_shown};
 ghost use Rattle.fa_bodies.specs.Replies.{reply_shown};
-ghost use Rattle.fa_ledger.specs.Mentions.{node_of};
+ghost use Rattle.fa_ledger.specs.Mentions.{node_with};
 ghost use Rattle.fa_ledger.specs.Counts.{nodes_given, nodes_of_entry, nodes_of_listing};
 ghost use Rattle.fa_ledger.specs.Passing.{MayBeGiven};
 ghost use Rattle.std.specs.Option.{option_to_list};
@@ -16,7 +16,7 @@ use crate::key::{HandleKind, Key};
 use crate::name::NodeName;
 use crate::nodes::Nodes;
 use bitflags::Flags;
-use fa_bodies::{Dirent, Entries, EntryOut, InitFlags, OpenOut, ROOT_ID, Reply, RequestBody};
+use fa_bodies::{Dirent, Entries, InitFlags, OpenOut, ROOT_ID, Reply, RequestBody};
 use std::alloc::{AllocError, Global};
 use std::slice;
 
@@ -44,14 +44,14 @@ impl GivenNames {
     }
 }
 
-/// The node that an entry gives, if any: 0 stands for none.
-fn node_of(entry: &EntryOut) -> Option<u64>
-    ensures { option_to_list result ≡ node_of entry.now }
+/// The node with this id, if any: 0 stands for none.
+fn node_with(nodeid: u64) -> Option<u64>
+    ensures { option_to_list result ≡ node_with nodeid }
 {
-    if entry.nodeid == 0 {
+    if nodeid == 0 {
         return None;
     }
-    Some(entry.nodeid)
+    Some(nodeid)
 }
 
 /// The node that an entry of a listing gives, if any: a READDIR and the entries `.` and `..` give none.
@@ -62,7 +62,7 @@ fn node_listed(dirent: &Dirent<'_>) -> Option<u64>
     if dirent.name == b".".as_slice() || dirent.name == b"..".as_slice() {
         return None;
     }
-    node_of(entry)
+    node_with(entry.nodeid)
 }
 
 /// The node that a reply which is no listing gives, if any.
@@ -71,14 +71,14 @@ fn node_given(body: &RequestBody<'_>, reply: &Reply<'_>) -> Option<u64>
 {
     match reply {
         Reply::Entry(entry) => match body {
-            RequestBody::Lookup { .. } => node_of(entry),
+            RequestBody::Lookup { .. } => node_with(entry.nodeid()),
             RequestBody::Symlink { .. }
             | RequestBody::Mknod { .. }
             | RequestBody::Mkdir { .. }
-            | RequestBody::Link { .. } => Some(entry.nodeid),
+            | RequestBody::Link { .. } => Some(entry.nodeid()),
             _ => None,
         },
-        Reply::Created { entry, .. } => Some(entry.nodeid),
+        Reply::Created { entry, .. } => Some(entry.nodeid()),
         _ => None,
     }
 }

@@ -74,8 +74,8 @@ pub(crate) fn handle_used(body: &RequestBody<'_>) -> Option<(u64, HandleKind)>
             used.then_some((getattr.fh, HandleKind::File))
         }
         RequestBody::Setattr(setattr) => {
-            let used = setattr.valid.contains(FattrFlags::FH);
-            used.then_some((setattr.fh, HandleKind::File))
+            let used = setattr.valid().contains(FattrFlags::FH);
+            used.then_some((setattr.fh(), HandleKind::File))
         }
         RequestBody::Read(read) => Some((read.fh, HandleKind::File)),
         RequestBody::Write { fh, .. } => Some((*fh, HandleKind::File)),

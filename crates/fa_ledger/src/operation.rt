@@ -161,7 +161,7 @@ fn entry_as(reply: Option<&Reply<'_>>) -> Option<Outcome<EntryOut>>
     match reply {
         None => Some(Outcome::Unanswered),
         Some(Reply::Refused(error)) => Some(Outcome::Fails(*error)),
-        Some(Reply::Entry(entry)) => Some(Outcome::Succeeds(*entry)),
+        Some(Reply::Entry(entry)) => Some(Outcome::Succeeds(entry.read())),
         Some(_) => None,
     }
 }
@@ -173,7 +173,7 @@ fn created_as(reply: Option<&Reply<'_>>) -> Option<Outcome<(EntryOut, OpenOut)>>
     match reply {
         None => Some(Outcome::Unanswered),
         Some(Reply::Refused(error)) => Some(Outcome::Fails(*error)),
-        Some(Reply::Created { entry, open }) => Some(Outcome::Succeeds((*entry, *open))),
+        Some(Reply::Created { entry, open }) => Some(Outcome::Succeeds((entry.read(), *open))),
         Some(_) => None,
     }
 }
@@ -185,7 +185,7 @@ fn attributes_as(reply: Option<&Reply<'_>>) -> Option<Outcome<AttrOut>>
     match reply {
         None => Some(Outcome::Unanswered),
         Some(Reply::Refused(error)) => Some(Outcome::Fails(*error)),
-        Some(Reply::Attributes(attributes)) => Some(Outcome::Succeeds(*attributes)),
+        Some(Reply::Attributes(attributes)) => Some(Outcome::Succeeds(attributes.read())),
         Some(_) => None,
     }
 }
@@ -260,7 +260,7 @@ impl<'a> Action<'a> {
         match body {
             RequestBody::Lookup { name } => Action::lookup(*name, reply),
             RequestBody::Getattr(_) => Action::getattr(reply),
-            RequestBody::Setattr(setattr) => Action::setattr(*setattr, reply),
+            RequestBody::Setattr(setattr) => Action::setattr(setattr.read(), reply),
             RequestBody::Readlink => Action::readlink(reply),
             RequestBody::Symlink { name, target } => Action::symlink(*name, *target, reply),
             RequestBody::Mknod {

@@ -3,8 +3,8 @@
 use crate::messages::{answer_code, asked_bytes, said, to_server};
 use bitflags::Flags;
 use fa_bodies::{
-    Attributes, EntryOut, FattrFlags, FopenFlags, GetattrFlags, InitFlags, Kind, Mode, OpenFlags,
-    OpenOut, ReadIn, ReleaseIn, RenameFlags, Reply, RequestBody, SetattrIn, request,
+    Attributes, EntryBytes, FattrFlags, FopenFlags, GetattrFlags, InitFlags, Kind, Mode, OpenFlags,
+    OpenOut, ReadIn, ReleaseIn, RenameFlags, Reply, RequestBody, SetattrBytes, request,
 };
 use fa_capture::codes::REPLY_BODY;
 use std::alloc::{AllocError, Global};
@@ -51,11 +51,12 @@ fn counted(alloc: Global, len: usize) -> Result<Vec<u8>, AllocError> {
     Ok(body)
 }
 
-fn of_setattr(s: &SetattrIn) -> Numbers {
+fn of_setattr(setattr: &SetattrBytes<'_>) -> Numbers {
+    let s = setattr.read();
     numbers(&[
-        u64::from(s.valid.bits()),
-        s.fh,
-        s.size,
+        u64::from(setattr.valid().bits()),
+        setattr.fh(),
+        setattr.size(),
         s.lock_owner,
         s.atime,
         s.mtime,
@@ -366,9 +367,10 @@ fn fields_of_requests(rt: HostRuntime) {
     assert!(rt; forgotten == Some(true));
 }
 
-fn of_entry(e: &EntryOut) -> Numbers {
+fn of_entry(entry: &EntryBytes<'_>) -> Numbers {
+    let e = entry.read();
     numbers(&[
-        e.nodeid,
+        entry.nodeid(),
         e.generation,
         e.entry_valid,
         e.attr_valid,
@@ -405,13 +407,14 @@ fn of_open(o: &OpenOut) -> Numbers {
 fn of_reply(reply: &Reply<'_>) -> [Numbers; 3] {
     let none = [0; 15];
     match reply {
-        Reply::Entry(e) => [of_entry(e), of_attributes(&e.attr), none],
+        Reply::Entry(entry) => [of_entry(entry), of_attributes(&entry.read().attr), none],
         Reply::Created { entry, open } => [
             of_entry(entry),
-            of_attributes(&entry.attr),
+            of_attributes(&entry.read().attr),
             of_open(open),
         ],
-        Reply::Attributes(a) => {
+        Reply::Attributes(attributes) => {
+            let a = attributes.read();
             let valid = numbers(&[a.attr_valid, u64::from(a.attr_valid_nsec)]);
             [valid, of_attributes(&a.attr), none]
         }

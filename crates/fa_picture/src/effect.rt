@@ -1,7 +1,7 @@
 //! What requests may do to the tree.
 
 use bitflags::Flags;
-use fa_bodies::{FattrFlags, OpenFlags, RequestBody, SetattrIn};
+use fa_bodies::{FattrFlags, OpenFlags, RequestBody};
 
 /// What a request may do to the tree, whatever it is answered.
 #[derive(Clone, Copy, PartialEq, Eq)]
@@ -26,7 +26,7 @@ impl Effect {
             | RequestBody::Readdir(_)
             | RequestBody::Readdirplus(_) => Effect::Leaves,
             RequestBody::Open(open) => Effect::of_open(open.flags),
-            RequestBody::Setattr(setattr) => Effect::of_setattr(setattr),
+            RequestBody::Setattr(setattr) => Effect::of_setattr(setattr.valid()),
             RequestBody::Symlink { .. }
             | RequestBody::Mknod { .. }
             | RequestBody::Mkdir { .. }
@@ -56,9 +56,9 @@ impl Effect {
         }
     }
 
-    /// What a SETATTR may do: owners and times are not of the tree (this profile).
-    fn of_setattr(setattr: &SetattrIn) -> Effect {
-        if setattr.valid.contains(FattrFlags::MODE) || setattr.valid.contains(FattrFlags::SIZE) {
+    /// What a SETATTR of these attributes may do: owners and times are not of the tree (this profile).
+    fn of_setattr(valid: FattrFlags) -> Effect {
+        if valid.contains(FattrFlags::MODE) || valid.contains(FattrFlags::SIZE) {
             Effect::MayChange
         } else {
             Effect::Leaves

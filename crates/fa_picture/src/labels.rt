@@ -64,8 +64,8 @@ fn extent(text: &mut Text, body: &RequestBody<'_>) {
         RequestBody::Readdir(read) | RequestBody::Readdirplus(read) => {
             text.field(", at ", read.offset)
         }
-        RequestBody::Setattr(setattr) if setattr.valid.contains(FattrFlags::SIZE) => {
-            text.field(", size ", setattr.size)
+        RequestBody::Setattr(setattr) if setattr.valid().contains(FattrFlags::SIZE) => {
+            text.field(", size ", setattr.size())
         }
         _ => {}
     }
@@ -128,8 +128,8 @@ pub(crate) fn error(text: &mut Text, error: i32) {
 /// Writes what a success says.
 fn success(text: &mut Text, reply: &Reply<'_>) {
     match reply {
-        Reply::Entry(entry) | Reply::Created { entry, .. } => size(text, &entry.attr),
-        Reply::Attributes(told) => size(text, &told.attr),
+        Reply::Entry(entry) | Reply::Created { entry, .. } => size(text, &entry.read().attr),
+        Reply::Attributes(told) => size(text, &told.read().attr),
         Reply::Bytes(bytes) => text.count(bytes.len(), " byte", " bytes"),
         Reply::Listed(entries) => listed(text, *entries),
         _ => {}

@@ -4,6 +4,7 @@ ghost use Rattle.fa_bodies.specs.Requests.{IsRequest, request_shown};
 ghost use Rattle.fa_bodies.specs.Replies.{IsReply, reply_shown};
 
 use fa_bodies::{Reply, Request};
+use std::mem::size_of;
 
 /// A request, with the message that it is.
 #[derive(Clone, Copy, Debug)]
@@ -54,3 +55,5 @@ pub enum Event<'a> {
         at: u32,
     },
 }
+
+const _: () = prove!(size_of::<Event<'static>>() <= 176);

@@ -135,8 +135,8 @@ fn other_node(asked: &Asked<'_>) -> Option<u64> {
 /// The node that an answer gives.
 fn given_node(call: &Call<'_>) -> Option<u64> {
     match &call.answer {
-        Some(Reply::Entry(entry)) => Some(entry.nodeid),
-        Some(Reply::Created { entry, .. }) => Some(entry.nodeid),
+        Some(Reply::Entry(entry)) => Some(entry.nodeid()),
+        Some(Reply::Created { entry, .. }) => Some(entry.nodeid()),
         _ => None,
     }
 }

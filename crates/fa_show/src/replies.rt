@@ -7,8 +7,7 @@ use crate::text::Text;
 use crate::words::{self, FOPEN_FLAGS};
 use bitflags::Flags;
 use fa_bodies::{
-    AttrOut, Attributes, Dirent, Entries, EntryOut, Negotiated, OpenOut, Reply, RequestBody,
-    opcodes,
+    Attributes, Dirent, Entries, EntryOut, Negotiated, OpenOut, Reply, RequestBody, opcodes,
 };
 use fa_capture::Packet;
 
@@ -75,9 +74,9 @@ fn answer(text: &mut Text, asked: &Asked<'_>, told: &Told<'_>, reply: &Reply<'_>
     match reply {
         Reply::Refused(error) => words::error(text, *error),
         Reply::Empty => text.word("ok"),
-        Reply::Entry(entry) => entry_of(text, asked.opcode, entry),
-        Reply::Created { entry, open } => created(text, entry, open),
-        Reply::Attributes(AttrOut { attr, .. }) => attributes(text, attr),
+        Reply::Entry(entry) => entry_of(text, asked.opcode, &entry.read()),
+        Reply::Created { entry, open } => created(text, &entry.read(), open),
+        Reply::Attributes(found) => attributes(text, &found.read().attr),
         Reply::Opened(open) => opened(text, open),
         Reply::Written(count) => text.field("written ", u64::from(*count)),
         Reply::Bytes(bytes) => bytes_of(text, asked.opcode, bytes),

@@ -47,7 +47,7 @@ fn about_body(text: &mut Text, asked: &Asked<'_>, body: &RequestBody<'_>) {
             new_name,
         } => naming::link(text, *oldnodeid, new_name),
         RequestBody::Getattr(getattr) => opening::getattr(text, getattr),
-        RequestBody::Setattr(setattr) => opening::setattr(text, setattr),
+        RequestBody::Setattr(setattr) => opening::setattr(text, &setattr.read()),
         RequestBody::Read(read) | RequestBody::Readdir(read) | RequestBody::Readdirplus(read) => {
             opening::range(text, read.fh, read.offset, read.size)
         }
@@ -105,7 +105,7 @@ fn further_body(text: &mut Text, asked: &Asked<'_>, body: &RequestBody<'_>) {
             naming::made(text, *mode, *umask);
         }
         RequestBody::Open(open) => opening::flags(text, open.flags),
-        RequestBody::Setattr(setattr) => opening::set(text, setattr),
+        RequestBody::Setattr(setattr) => opening::set(text, &setattr.read()),
         RequestBody::Write {
             write_flags,
             payload,
