@@ -18,6 +18,8 @@ pub use Rattle.fa_capture.proofs.ReadingLemmas.{one_recording}
 pub use Rattle.fa_capture.proofs.ReadingLemmas.{records_length, messages_on}
 -- a migrated capture and the one that it was made of hold the same messages
 pub use Rattle.fa_capture.proofs.MigrateLemmas.{migrated_reads, reads_migrated}
+-- an output that takes all that it is given
+pub use Rattle.fa_capture.proofs.OutputLemmas.{still_unbroken}
 -- bytes have a reading
 pub use Rattle.fa_capture.proofs.ReadingThereLemmas.{reading_is_there}
 -- packets are as many as their messages

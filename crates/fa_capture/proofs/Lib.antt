@@ -9,6 +9,7 @@ pub mod PieceLemmas
 pub mod BytesLemmas
 pub mod StopLemmas
 pub mod PacketLemmas
+pub mod OutputLemmas
 pub mod MigrateLemmas
 pub mod TimeLemmas
 pub mod ListLemmas

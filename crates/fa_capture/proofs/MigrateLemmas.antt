@@ -1,6 +1,8 @@
 -- What is written of a capture's records is the capture that holds them.
 use Rattle.std.proofs.Common.{◌≡◌, ℕ, ◌≤◌, List, [], ◌∷◌, ◌++◌, length, Option, Some, None, refl, sym, ap, subst, ◌∙◌, append_assoc, arith}
 use Rattle.std.specs.Prelude.{All}
+use Rattle.std.specs.Io.KnownBytes.{Appends, append_known}
+use Rattle.std.proofs.KnownBytes.{Appends-trans}
 use Rattle.std.specs.List.{AllByRecursion}
 use Rattle.std.specs.Int.{w32, w64, to_le_bytes}
 use Rattle.std.proofs.lemmas.List.{append-nil}
@@ -56,33 +58,31 @@ not_migrated bytes rs is fault here r = (without_times rs, (rs, refl, subst (IsR
 
 -- ---- what is written
 
--- a record that is put together part by part behind what is there
-pub record_put : (r : Recorded) (old one two three four time length_bytes : List ℕ) (d : ℕ) → d ≡ direction_byte r.message.direction → time ≡ to_le_bytes w64 r.time → length_bytes ≡ to_le_bytes w32 (length r.message.bytes)
-    → one ≡ old ++ d ∷ [] → two ≡ one ++ time → three ≡ two ++ length_bytes → four ≡ three ++ r.message.bytes → four ≡ old ++ record_spelling Timed r
-record_put r old one two three four time length_bytes d d_is time_is length_is one_is two_is three_is four_is =
+-- a record goes out part by part
+pub record_put : (r : Recorded) (old one two three four : Option (List ℕ)) (d : ℕ) (time size : List ℕ) → d ≡ direction_byte r.message.direction → time ≡ to_le_bytes w64 r.time → size ≡ to_le_bytes w32 (length r.message.bytes)
+    → Appends old one (d ∷ []) → Appends one two time → Appends two three size → Appends three four r.message.bytes → Appends old four (record_spelling Timed r)
+record_put r old one two three four d time size direction_is time_is size_is first second third fourth =
     let body : List ℕ = r.message.bytes in
-    let parts : four ≡ (((old ++ d ∷ []) ++ time) ++ length_bytes) ++ body = cc in
-    let joined : (((old ++ d ∷ []) ++ time) ++ length_bytes) ++ body ≡ old ++ (d ∷ time ++ (length_bytes ++ body)) =
-    append_assoc ((old ++ d ∷ []) ++ time) length_bytes body ∙ append_assoc (old ++ d ∷ []) time (length_bytes ++ body) ∙ append_assoc old (d ∷ []) (time ++ (length_bytes ++ body)) in
-    let same : d ∷ time ++ (length_bytes ++ body) ≡ record_spelling Timed r = cc in
-    parts ∙ joined ∙ ap (λ (x : List ℕ). old ++ x) same
+    let same : (d ∷ []) ++ (time ++ (size ++ body)) ≡ record_spelling Timed r = cc in
+    subst (Appends old four) same (Appends-trans old one four (d ∷ []) (time ++ (size ++ body)) first (Appends-trans one two four time (size ++ body) second (Appends-trans two three four size body third fourth)))
 
--- no record is written behind the magic
-pub none_written : (none first written : List ℕ) → none ≡ [] → first ≡ magic Timed → written ≡ none ++ first → written ≡ capture_spelling Timed []
-none_written none first written empty begins is =
+-- no record is put behind the magic
+pub none_put : (old new : Option (List ℕ)) (none first gathered : List ℕ) → none ≡ [] → first ≡ magic Timed → Appends (append_known old none) (append_known new gathered) first → Appends old (append_known new gathered) (capture_spelling Timed [])
+none_put None new none first gathered empty begins put = tt
+none_put (Some xs) None none first gathered empty begins put = absurd put
+none_put (Some xs) (Some ys) none first gathered empty begins put =
     let magic_alone : capture_spelling Timed [] ≡ magic Timed = append-nil (magic Timed) in
-    let joined : none ++ first ≡ magic Timed = cc in
-    is ∙ joined ∙ sym magic_alone
+    let joined : (xs ++ none) ++ first ≡ xs ++ first = ap (λ (x : List ℕ). (xs ++ x) ++ first) empty ∙ ap (λ (x : List ℕ). x ++ first) (append-nil xs) in
+    put ∙ joined ∙ ap (λ (x : List ℕ). xs ++ x) (begins ∙ sym magic_alone)
 
 -- and one more
-pub one_more_written : (front : List Recorded) (r : Recorded) (written longer : List ℕ) → written ≡ capture_spelling Timed front → longer ≡ written ++ record_spelling Timed r
-    → longer ≡ capture_spelling Timed (front ++ r ∷ [])
-one_more_written front r written longer so_far is =
+pub one_more_put : (old between new : Option (List ℕ)) (front : List Recorded) (r : Recorded) → Appends old between (capture_spelling Timed front) → Appends between new (record_spelling Timed r) → Appends old new (capture_spelling Timed (front ++ r ∷ []))
+one_more_put old between new front r so_far put =
     let spelled : capture_spelling Timed (front ++ r ∷ []) ≡ capture_spelling Timed front ++ record_spelling Timed r =
     spelled_on Timed front [] r ∙ ap (λ (x : List ℕ). capture_spelling Timed front ++ x) (append-nil (record_spelling Timed r)) in
-    is ∙ ap (λ (x : List ℕ). x ++ record_spelling Timed r) so_far ∙ sym spelled
+    subst (Appends old new) (sym spelled) (Appends-trans old between new (capture_spelling Timed front) (record_spelling Timed r) so_far put)
 
--- ---- the records that are written, and those that are left
+-- ---- the records that are put, and those that are left
 
 -- no fault was found
 without_fault : (fault : Option CaptureFault) → ((f : CaptureFault) → fault ≡ Some f → ⊥) → fault ≡ None
@@ -93,26 +93,31 @@ without_fault (Some f) other = absurd (other f refl)
 pub memory_refused : (bytes : List ℕ) (rs : List Recorded) (fault : Option CaptureFault) → ((f : CaptureFault) → fault ≡ Some f → ⊥) → IsRecording bytes rs fault → IsMigrateError bytes Memory
 memory_refused bytes rs fault other r = (without_times rs, (rs, refl, subst (IsRecording bytes rs) (without_fault fault other) r))
 
--- so all records are written
-pub all_left : (bytes : List ℕ) (rs left : List Recorded) (fault : Option CaptureFault) → ((f : CaptureFault) → fault ≡ Some f → ⊥) → left ≡ rs → IsRecording bytes rs fault → IsRecording bytes left None
-all_left bytes rs left fault other same r = subst (IsRecording bytes left) (without_fault fault other) (subst (λ (x : List Recorded). IsRecording bytes x fault) (sym same) r)
+-- so all is written behind nothing
+pub all_put : (bytes written before : List ℕ) (rs : List Recorded) (fault : Option CaptureFault) → ((f : CaptureFault) → fault ≡ Some f → ⊥) → IsRecording bytes rs fault → before ≡ [] → written ≡ before ++ capture_spelling Timed rs → IsMigrated bytes written
+all_put bytes written before rs fault other r nothing is = record {
+  records = rs;
+  hold = subst (IsRecording bytes rs) (without_fault fault other) r;
+  spelled = is ∙ ap (λ (x : List ℕ). x ++ capture_spelling Timed rs) nothing;
+}
 
--- the first of those that are left is written
-pub one_fewer : (bytes : List ℕ) (front left rest : List Recorded) (r : Recorded) → left ≡ r ∷ rest → IsRecording bytes (front ++ left) None → IsRecording bytes ((front ++ r ∷ []) ++ rest) None
-one_fewer bytes front left rest r is held =
-    subst (λ (x : List Recorded). IsRecording bytes x None) (ap (λ (x : List Recorded). front ++ x) is ∙ sym (append_assoc front (r ∷ []) rest)) held
+-- the first of those that are left is put
+pub one_fewer : (all front left rest : List Recorded) (r : Recorded) → left ≡ r ∷ rest → all ≡ front ++ left → all ≡ (front ++ r ∷ []) ++ rest
+one_fewer all front left rest r is held = held ∙ ap (λ (x : List Recorded). front ++ x) is ∙ sym (append_assoc front (r ∷ []) rest)
 
 -- it is within the limit
-pub first_short : (bytes : List ℕ) (front left rest : List Recorded) (r : Recorded) → left ≡ r ∷ rest → IsRecording bytes (front ++ left) None → length r.message.bytes ≤ MAX_MESSAGE_BYTES
-first_short bytes front left rest r is held =
-    let framed : IsFramed (without_times front ++ r.message ∷ without_times rest) =
-    subst IsFramed (ap (λ (x : List Recorded). without_times (front ++ x)) is ∙ messages_on front rest r) held.records.framed in
-    one_of (without_times front) (without_times rest) r.message (recursion_from_All (λ (m : Message). length m.bytes ≤ MAX_MESSAGE_BYTES) (without_times front ++ r.message ∷ without_times rest) framed.each)
+pub first_short : (all front left rest : List Recorded) (r : Recorded) → left ≡ r ∷ rest → all ≡ front ++ left → IsFramed (without_times all) → length r.message.bytes ≤ MAX_MESSAGE_BYTES
+first_short all front left rest r is held framed =
+    let all_framed : IsFramed (without_times front ++ r.message ∷ without_times rest) =
+    subst IsFramed (ap without_times held ∙ ap (λ (x : List Recorded). without_times (front ++ x)) is ∙ messages_on front rest r) framed in
+    one_of (without_times front) (without_times rest) r.message (recursion_from_All (λ (m : Message). length m.bytes ≤ MAX_MESSAGE_BYTES) (without_times front ++ r.message ∷ without_times rest) all_framed.each)
 
--- none is left
-pub all_written : (bytes written : List ℕ) (front left : List Recorded) → left ≡ [] → IsRecording bytes (front ++ left) None → written ≡ capture_spelling Timed front → IsMigrated bytes written
-all_written bytes written front left none held is = record {
-  records = front;
-  hold = subst (λ (x : List Recorded). IsRecording bytes x None) (ap (λ (x : List Recorded). front ++ x) none ∙ append-nil front) held;
-  spelled = is;
-}
+-- none is left, and what is gathered goes out
+pub all_gathered_put : (old new put : Option (List ℕ)) (gathered last : List ℕ) (all front left : List Recorded) → left ≡ [] → all ≡ front ++ left
+    → Appends old (append_known new gathered) (capture_spelling Timed front) → last ≡ gathered → Appends new put last → Appends old put (capture_spelling Timed all)
+all_gathered_put None new put gathered last all front left none held so_far same goes = tt
+all_gathered_put (Some xs) None put gathered last all front left none held so_far same goes = absurd so_far
+all_gathered_put (Some xs) (Some ys) None gathered last all front left none held so_far same goes = absurd goes
+all_gathered_put (Some xs) (Some ys) (Some zs) gathered last all front left none held so_far same goes =
+    let every : front ≡ all = sym (held ∙ ap (λ (x : List Recorded). front ++ x) none ∙ append-nil front) in
+    goes ∙ ap (λ (x : List ℕ). ys ++ x) same ∙ so_far ∙ ap (λ (x : List Recorded). xs ++ capture_spelling Timed x) every

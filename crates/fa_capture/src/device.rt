@@ -37,6 +37,14 @@ impl<T> Device<T> {
             broken: false,
         }
     }
+
+    /// The reader or the writer that it stands over. Takes no memory.
+    pub fn into_inner(self) -> T
+        ensures { result ≡ device_inner self }
+    {
+        let Device { inner, .. } = self;
+        inner
+    }
 }
 
 impl<R: Read> Input for Device<R> {
