@@ -1,5 +1,5 @@
 -- Text that was written, a piece behind the other.
-use Rattle.std.proofs.Common.{◌≡◌, ℕ, Bool, true, false, ◌||◌, List, [], ◌++◌, Option, refl, ◌∙◌, arith}
+use Rattle.std.proofs.Common.{ℕ, List, [], ◌++◌, Option, arith}
 use Rattle.std.specs.Io.KnownBytes.{Appends}
 use Rattle.std.proofs.KnownBytes.{Appends-nil, Appends-trans}
 use Rattle.std.proofs.lemmas.List.Elements.{All-append}
@@ -21,11 +21,3 @@ added_more old between new first second = record {
   printing = All-append IsPrintingByte first.text second.text first.printing second.printing;
   added = Appends-trans old between new first.text second.text first.added second.added;
 }
-
-no_more : (b : Bool) → (b || false) ≡ b
-no_more true = refl
-no_more false = refl
-
--- an output that took what it was given is no more broken than it was
-pub still_unbroken : (old between new : Bool) → between ≡ old → new ≡ (between || false) → new ≡ old
-still_unbroken old between new before after = after ∙ no_more between ∙ before

@@ -1,6 +1,7 @@
 use Rattle.std.specs.Io.KnownBytes.{Appends}
 use Rattle.std.proofs.lemmas.Result.{on_ok_weaker}
-use Rattle.fa_show.proofs.AddedLemmas.{added_text, added_more, still_unbroken}
+use Rattle.fa_capture.proofs.CallerLemmas.{still_unbroken}
+use Rattle.fa_show.proofs.AddedLemmas.{added_text, added_more}
 use Rattle.fa_show.proofs.showing.write_lines.Goals as goal
 use Rattle.fa_show.proofs.showing.write_lines.Goals.{then-takes+in_ok-write_line, else-takes}
 
