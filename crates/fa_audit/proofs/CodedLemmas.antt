@@ -10,9 +10,7 @@ use Rattle.fa_capture.specs.declared.capture.Capture.{Capture}
 use Rattle.std.proofs.Math.Logic.{∥∥₁_elim}
 use Rattle.std.proofs.Props.{props}
 use Rattle.fa_capture.specs.Message.{Message, Recorded, without_times}
-use Rattle.fa_capture.specs.Reading.{HasMagic, IsReading, IsFault, IsMigrateError, record_checks}
-use Rattle.fa_capture.specs.declared.migration.MigrateError.{MigrateError}
-use Rattle.fa_capture.specs.declared.migration.MigrateError.TheVariants as migrating
+use Rattle.fa_capture.specs.Reading.{HasMagic, IsReading, IsFault, record_checks}
 use Rattle.fa_capture.specs.Framing.{counted_bytes}
 use Rattle.fa_capture.specs.declared.codes.TheConstants.{NO_MAGIC}
 use Rattle.fa_capture.specs.declared.format.Format.{Format}
@@ -74,12 +72,6 @@ framing_cases bytes rs f false lacks fault =
 pub framing_coded : (bytes : List ℕ) (c : List Message) (framing : Option CaptureFault) (at code : ℕ) → IsReading bytes c framing → framing ≡ Some (record { whole = at; code = code }) → IsSome (text_of code)
 framing_coded bytes c framing at code read is =
     framing_cases bytes read.0 (record { whole = at; code = code }) (is_some (text_of code)) refl (subst (IsFault bytes read.0) is read.2.ended)
-
--- of a capture that is not migrated too
-pub unmigrated_coded : (bytes : List ℕ) (error : MigrateError) (f : CaptureFault) → error ≡ migrating.Fault f → IsMigrateError bytes error → IsSome (text_of f.code)
-unmigrated_coded bytes error f is refused =
-    let told = subst (IsMigrateError bytes) is refused in
-    framing_coded bytes told.0 (Some f) f.whole f.code told.1 refl
 
 pub fault_coded : (capture : List ℕ) (at code : ℕ) → IsFirstFault capture at code → IsSome (text_of code)
 fault_coded capture at code first =

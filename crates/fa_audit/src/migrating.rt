@@ -8,7 +8,7 @@ ghost use Rattle.fa_audit.specs.Migrated.{IsMigratedTold, IsMigratedFrom};
 
 use crate::running::{MAX_CAPTURE_INPUT_BYTES, RunFault, input_bytes, tell};
 use crate::status::Status;
-use fa_capture::{CaptureFault, Input, MigrateError, Output, migrate};
+use fa_capture::{Input, Output, put_migrated, read_capture};
 use fa_check::Verdict;
 use std::alloc::Global;
 
@@ -21,24 +21,24 @@ fn tell_migrated<W: Output>(alloc: Global, bytes: &[u8], out: &mut W) -> Result<
     ensures read { IsErrOf result RunFault.Read → ⊥ }
     ensures write { IsErrOf result RunFault.Write ↔ (W.is_broken out.new ≡ true) }
 {
-    match migrate(alloc, bytes) {
-        Ok(migrated) => {
-            out.put(&migrated)?;
-            Ok(Status::Legal.number())
-        }
-        Err(MigrateError::Fault(CaptureFault { whole, code })) => {
-            tell(alloc, Ok(Verdict::Fault { at: whole, code }), out)
-        }
-        Err(MigrateError::Memory) => Err(RunFault::Memory),
+    let capture = read_capture(bytes);
+    if let Some(fault) = capture.fault {
+        let verdict = Verdict::Fault {
+            at: fault.whole,
+            code: fault.code,
+        };
+        return tell(alloc, Ok(verdict), out);
     }
+    put_migrated(&capture, out)?;
+    Ok(Status::Legal.number())
 }
 
-/// Migrates a capture: reads it, writes the capture with times that holds the same messages by one put, and answers the status.
+/// Migrates a capture: reads it, writes the capture with times that holds the same messages, and answers the status.
 ///
-/// That is the capture of [`migrate`]: times are those that the capture has, and 0 where it has none. No message is judged. Where the
-/// capture has a framing fault, the line of that fault and a line feed are written, as [`run`](crate::run) writes them. The status is
-/// 0 with a capture and 1 with a fault. The input is read to its end before anything is written. No mark of the input or of the output
-/// is set at the call.
+/// That is the capture of [`migrate`](fa_capture::migrate): times are those that the capture has, and 0 where it has none. No message is
+/// judged. Where the capture has a framing fault, the line of that fault and a line feed are written, as [`run`](crate::run) writes them.
+/// The status is 0 with a capture and 1 with a fault. The input is read to its end before anything is written. No mark of the input or of
+/// the output is set at the call.
 ///
 /// Which bytes were read and written is said where the input and the output tell their bytes, as those over memory do. Files and
 /// standard output do not: of a call on them it is said alone that the status is that of an answer on some bytes.
@@ -53,7 +53,7 @@ fn tell_migrated<W: Output>(alloc: Global, bytes: &[u8], out: &mut W) -> Result<
 ///
 /// # Cost
 ///
-/// That of [`read_all`](fa_capture::read_all) and of [`migrate`].
+/// That of [`read_all`](fa_capture::read_all) and of [`put_migrated`]: the capture is held, and what is written is not.
 pub fn run_migrate<R: Input, W: Output>(
     alloc: Global,
     capture: &mut R,
