@@ -714,7 +714,7 @@ fn watch_command<'a>(alloc: Global) -> Result<Command<'a>, AllocError> {
     named(
         alloc,
         WATCH,
-        "Tells the first fault of a capture as soon as it is written, or that it has none",
+        "Reads a capture while it is written, and tells its first fault or that it has none",
         help_texts::WATCH,
     )
     .arg(capture_option(alloc))

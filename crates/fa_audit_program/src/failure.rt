@@ -12,7 +12,7 @@ use thiserror::Error;
 /// Why the program has no answer. The text of each ends its lines.
 #[derive(Debug, Drop, Error)]
 pub enum Failure<'a> {
-    /// The command line is no call.
+    /// The command line is invalid.
     #[error("{0}")]
     CommandLine(clap::Error),
     /// A word of the command line is not UTF-8.
