@@ -1077,6 +1077,17 @@ tried_checks() {
     check "tried, hanging: is told" tries 125 "not tried: requests were never answered: no client got on for 1 seconds"
     trying -- false
     check "tried, no mount: is told" tries 125 "not tried: no mount: "
+    trying -- "$work/no-server"
+    check "tried, no server: is told" tries 125 "not tried: no mount: $work/no-server: No such file or directory$"
+    if compile_example "$work/hello" "$examples/hello_ll.c"; then
+        trying --rounds 2 --calls 100 -- "$work/hello" -f
+        check "tried, with files of its own: is legal" tries 0 "^seed 2: .*: legal: "
+        check "tried, with files of its own: is told" grep -q "^fuse-try: the server begins with files of its own" "$work/errors"
+    fi
+    trying --rounds 2 --calls 100 --mounted -- "$work/memory"
+    check "tried, from a mount: is legal" tries 0 "^seed 2: .*: legal: "
+    trying --mounted --lower -- "$work/memory"
+    check "tried, from a mount and a folder: is no call" [ "$status" -eq 4 ]
     check "tried: nothing is left" leaves_nothing
     TMPDIR="$work" "$work/recorder/fuse-try" --audit "$program" --seconds 60 -- "$work/memory" > "$work/seen" 2> "$work/errors" &
     servers+=($!)

@@ -9,6 +9,8 @@ import time
 from trying import captures, judging, serving, shrinking, work
 
 NOT_TRIED = 125
+# Of a tree text: its first line, the root's and the last one.
+LINES_OF_EMPTY_ROOT = 3
 
 
 class Round:
@@ -39,7 +41,7 @@ class Round:
 
 class Rounds:
     """
-    What is asked for (of `words`: server, lower, trace, patience, kinds, clients, calls, seed, seconds, rounds, lists, keep, shrink),
+    What is asked for (of `words`: server, lower, mounted, trace, patience, kinds, clients, calls, seed, seconds, rounds, lists, keep, shrink),
     the folder that all takes place in, and the auditor.
     """
 
@@ -50,6 +52,9 @@ class Rounds:
 
     def run(self):
         """The worst status of the rounds, up to the first with a finding."""
+        if not self.words.lower and not self.words.mounted and self.has_files():
+            told_on_error("the server begins with files of its own: what they are is taken from a mount before each round")
+            self.words.mounted = True
         until, worst, seed = time.monotonic() + self.words.seconds, judging.LEGAL, self.words.seed
         while True:
             name = "script" if self.words.lists else f"seed {seed}"
@@ -61,6 +66,8 @@ class Rounds:
             if found.is_finding():
                 if self.words.keep:
                     self.keep_finding(found)
+                else:
+                    told_on_error("--keep FOLDER makes a finding small, and keeps what shows it and says why")
                 return found.verdict.status
             worst, seed = max(worst, found.verdict.status), seed + 1
             if time.monotonic() >= until or seed - self.words.seed == self.words.rounds:
@@ -98,16 +105,29 @@ class Rounds:
 
     def try_lists(self, lists):
         """Starts the server in a new folder, has the lists of calls carried out, a client for each, and has what was recorded judged."""
-        place = tempfile.mkdtemp(dir=self.folder)
+        return self.in_new_folder(lambda server: self.try_on(server, lists))
+
+    def has_files(self):
+        """Whether a mount of the server, which is not recorded, has files. Where there is no mount, a round will say so."""
         try:
-            return self.try_in(place, lists)
+            text = self.in_new_folder(lambda server: server.tree_of_mount(self.words.patience))
+        except serving.NotTried:
+            return False
+        return len(text.splitlines()) > LINES_OF_EMPTY_ROOT
+
+    def in_new_folder(self, use):
+        """What comes of a server that has a new folder, of which nothing is left."""
+        words, place = self.words, tempfile.mkdtemp(dir=self.folder)
+        try:
+            return use(serving.Server(place, words.server, ["--trace"] if words.trace else [], words.lower, "link" in words.kinds))
         finally:
             if serving.take_down(self.folder):
                 serving.remove(place)
 
-    def try_in(self, place, lists):
+    def try_on(self, server, lists):
         words = self.words
-        server = serving.Server(place, words.server, ["--trace"] if words.trace else [], words.lower, "link" in words.kinds)
+        if words.mounted:
+            server.begin_with(server.tree_of_mount(words.patience))
         server.start(words.patience)
         clients = work.Clients(server.mount, lists)
         if clients.wait(words.patience, self.progress):

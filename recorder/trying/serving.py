@@ -152,6 +152,14 @@ def fill(lower, has_links):
         os.link(os.path.join(lower, "d0/a"), os.path.join(lower, "d1/d"))
 
 
+def built(name):
+    """A program of the recorder."""
+    program = os.path.join(RECORDER, name)
+    if not os.path.exists(program):
+        raise NotTried(f"{program} is not built: make -C {RECORDER}")
+    return program
+
+
 class Server:
     """One start of a server, with a folder, a mount and a capture of its own."""
 
@@ -171,14 +179,35 @@ class Server:
 
     def start(self, patience):
         """Returns when its mount is there, which it may be so many seconds late."""
-        program = os.path.join(RECORDER, "fuse-record")
-        if not os.path.exists(program):
-            raise NotTried(f"{program} is not built: make -C {RECORDER}")
-        with open(self.said, "wb") as said:
-            process = subprocess.Popen(
-                [program, *self.options, "--", *self.words],
-                stdin=subprocess.DEVNULL, stdout=said, stderr=said, start_new_session=True,
-            )
+        self.mount_by([built("fuse-record"), *self.options, "--", *self.words], patience)
+
+    def tree_of_mount(self, patience):
+        """The tree text of a mount of the server, which is not recorded and is gone again."""
+        self.mount_by(self.words, patience)
+        try:
+            text = subprocess.run([built("fuse-tree"), self.mount], capture_output=True, timeout=patience, check=True).stdout
+        except subprocess.TimeoutExpired as error:
+            raise NotTried(f"no tree text of a mount in {patience} seconds") from error
+        except subprocess.CalledProcessError as error:
+            raise NotTried(f"no tree text of a mount: {error.stderr.decode(errors='replace').strip()}") from error
+        if not self.unmounted():
+            raise NotTried(f"the server did not end in {PATIENCE} seconds after the unmount")
+        return text.decode("ascii")
+
+    def begin_with(self, text):
+        """What is recorded is judged from this tree text."""
+        self.tree = os.path.join(self.folder, "begun.tree")
+        with open(self.tree, "w", encoding="ascii") as file:
+            file.write(text)
+
+    def mount_by(self, command, patience):
+        """Starts it, and returns when its mount is there."""
+        try:
+            with open(self.said, "wb") as said:
+                process = subprocess.Popen(
+                    command, stdin=subprocess.DEVNULL, stdout=said, stderr=said, start_new_session=True, umask=0)
+        except OSError as error:
+            raise NotTried(f"no mount: {command[0]}: {error.strerror}") from error
         until = time.monotonic() + patience
         while not is_mounted(self.mount):
             if process.poll() is not None and (process.returncode != 0 or not reap()):
@@ -189,6 +218,12 @@ class Server:
 
     def end(self):
         """Unmounts, and waits for the server's end. What the recorder then says is what keeps the capture from being judged, or nothing."""
+        if not self.unmounted():
+            return f"the server did not end in {PATIENCE} seconds after the unmount"
+        return self.fault_told()
+
+    def unmounted(self):
+        """Unmounts, and waits for the server's end. Whether that came."""
         until = time.monotonic() + PATIENCE
         while is_mounted(self.mount) and not unmount(self.mount) and time.monotonic() < until:
             time.sleep(0.002)
@@ -196,9 +231,9 @@ class Server:
             unmount(self.mount, MNT_DETACH)
         while reap():
             if time.monotonic() > until:
-                return f"the server did not end in {PATIENCE} seconds after the unmount"
+                return False
             time.sleep(0.002)
-        return self.fault_told()
+        return True
 
     def fault_told(self):
         """What the recorder says at the end where not all was answered or recorded."""
@@ -217,5 +252,5 @@ class Server:
         with open(self.said, encoding="utf-8", errors="replace") as file:
             lines = file.read().strip().splitlines()
         own = [line for line in lines if not line.startswith("fuse-record: ")]
-        ended = [line.rsplit(": ", 1)[1] for line in lines if line not in own]
+        ended = [line.removeprefix("fuse-record: ") if self.words[0] in line else line.rsplit(": ", 1)[1] for line in lines if line not in own]
         return ": ".join((*ended[-1:], *own[-1:])) or "it said nothing"
