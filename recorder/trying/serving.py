@@ -252,5 +252,6 @@ class Server:
         with open(self.said, encoding="utf-8", errors="replace") as file:
             lines = file.read().strip().splitlines()
         own = [line for line in lines if not line.startswith("fuse-record: ")]
-        ended = [line.removeprefix("fuse-record: ") if self.words[0] in line else line.rsplit(": ", 1)[1] for line in lines if line not in own]
+        told = [line.removeprefix("fuse-record: ") for line in lines if line not in own]
+        ended = [line if line.startswith(f"{self.words[0]}: ") else line.rsplit(": ", 1)[1] for line in told]
         return ": ".join((*ended[-1:], *own[-1:])) or "it said nothing"
