@@ -1,14 +1,4 @@
 -- The lemmas for the crates above.
-use Rattle.std.proofs.Common.{◌⊎◌, ℕ, List, Option, IfOk, IfErr, IsErrOf, Result}
-use Rattle.fa_ledger.specs.Passing.{IsFirstFault}
-use Rattle.fa_audit.specs.declared.found.Judgement.{Judgement}
-use Rattle.fa_audit.specs.declared.verdict.StartError.{StartError}
-use Rattle.fa_audit.specs.declared.verdict.StartError.TheVariants.{Memory}
-use Rattle.fa_audit.specs.Line.{IsCoded, IsCodedJudgement}
-use Rattle.fa_audit.specs.Proposed.{IsStart}
-use Rattle.fa_audit.specs.Searched.{IsJudged, IsJudgeAnswer}
-use Rattle.fa_audit.specs.Verdict.{IsTreeTextAtFault}
-use Rattle.fa_audit.specs.Starts.{IsNoStart}
 -- each code that is told has a text
 pub use Rattle.fa_audit.proofs.CodedLemmas.{fault_coded, no_start_coded}
 pub use Rattle.fa_audit.proofs.SearchLemmas.{judged_coded}

@@ -1,6 +1,6 @@
 -- A message that is known to be a reply to a request.
 use Rattle.std.proofs.Common.{◌≡◌, ℕ, ℤ, pos, ◌≤◌, List, [], length, Bool, Option, None, Some, refl, sym, subst, inl, arith}
-use Rattle.std.specs.Prelude.{IsSome, IfNone, IfSome}
+use Rattle.std.specs.Prelude.{IsSome, IfNone}
 use Rattle.std.proofs.Math.Logic.{∥∥₁_elim}
 use Rattle.std.proofs.Props.{props}
 use Rattle.fa_bodies.specs.declared.replies.Reply.{Reply}
@@ -8,7 +8,7 @@ use Rattle.fa_bodies.specs.Dirents.{PlainDirent, AreEntries, HoldsEntries}
 use Rattle.fa_bodies.specs.Fields.{BeginsWith}
 use Rattle.fa_bodies.specs.Structs.{out_header}
 use Rattle.fa_bodies.specs.Requests.{PlainRequest, PlainBody}
-use Rattle.fa_bodies.specs.Replies.{PlainReply, IsReply, IsListedBody, IsSuccessBody, Says, reply_shown}
+use Rattle.fa_bodies.specs.Replies.{PlainReply, IsReply, IsListedBody, IsSuccessBody, Says}
 use Rattle.fa_bodies.specs.Replies.PlainReply.{Listed}
 use Rattle.fa_bodies.proofs.FieldLaws.{length-fields}
 use Rattle.fa_bodies.proofs.ListingLaws.{holds-one, whole-entries}

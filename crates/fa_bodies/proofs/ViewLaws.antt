@@ -7,7 +7,7 @@ use Rattle.fa_bodies.specs.declared.attributes.AttrOut.{AttrOut}
 use Rattle.fa_bodies.specs.declared.entry.EntryOut.{EntryOut}
 use Rattle.fa_bodies.specs.declared.flags.FattrFlags.{FattrFlags}
 use Rattle.fa_bodies.specs.declared.setattr.SetattrIn.{SetattrIn}
-use Rattle.fa_bodies.specs.Fields.{Field, BeginsWith, IsSpelled, byte_count, le32, le64}
+use Rattle.fa_bodies.specs.Fields.{Field, BeginsWith, IsSpelled, le32, le64}
 use Rattle.fa_bodies.specs.Fields.Field.{U32, U64, Unread}
 use Rattle.fa_bodies.specs.Structs.{attr, attr_out, entry_out, setattr_in}
 use Rattle.fa_bodies.specs.Listing.{u32_in, u64_in, attributes_in, entry_out_in}

@@ -1,9 +1,8 @@
 -- What the code that cuts an order knows of each entry, by the calls, and of the entries so far.
 use Rattle.std.proofs.Common.{◌≡◌, ◌⊎◌, ℕ, suc, ◌+◌, ◌<◌, ◌≤◌, List, [], ◌∷◌, ◌++◌, length, take, drop, Option, None, Some, refl, sym, ap, subst, ◌∙◌, inl, inr, arith}
-use Rattle.std.specs.Prelude.{map, slice_get, option_map, IfNone, IsTrue, ◌↔◌, nat_lt}
-use Rattle.std.specs.List.{slice_index_or}
+use Rattle.std.specs.Prelude.{slice_get, option_map, IfNone, IsTrue, ◌↔◌, nat_lt}
 use Rattle.std.proofs.lemmas.Bool.{cases_lt, ltb-true, lt-ltb}
-use Rattle.std.proofs.lemmas.List.{length-map, take-append-drop}
+use Rattle.std.proofs.lemmas.List.{take-append-drop}
 use Rattle.std.proofs.lemmas.Option.{slice_get_within, slice_get-get_or, same_Some}
 use Rattle.fa_capture.specs.Message.{Message}
 use Rattle.fa_capture.proofs.CallerLemmas.{take_one_more, get_from_drop}
@@ -12,7 +11,6 @@ use Rattle.fa_ledger.specs.declared.call.Call.{Call}
 use Rattle.fa_ledger.specs.declared.calls.Calls.{Calls}
 use Rattle.fa_ledger.specs.Calls.{PlainCall, call_shown, answer_shown}
 use Rattle.fa_ledger.specs.Kinds.{KeepsTree}
-use Rattle.fa_tree.proofs.CallerLemmas.{shown_at}
 use Rattle.fa_order.specs.declared.entry.Entry.{Entry}
 use Rattle.fa_check.specs.Orders.{IsTreeRequestAt}
 use Rattle.fa_check.specs.Verdicts.{AreMessagesOf}

@@ -1,6 +1,6 @@
 -- One more entry: the checks of its place by calls are those by messages, and what is replayed goes on.
 use Rattle.std.proofs.Common.{◌≡◌, ℕ, ◌+◌, ◌<◌, ◌≤◌, Bool, true, List, [], ◌∷◌, ◌++◌, length, set, Option, Some, None, refl, sym, ap, subst, ◌∙◌, inl, inr, arith}
-use Rattle.std.specs.Prelude.{slice_get, map, Contains}
+use Rattle.std.specs.Prelude.{slice_get, Contains}
 use Rattle.std.proofs.lemmas.Bool.{cases_lt, cases_eq}
 use Rattle.std.proofs.lemmas.List.{length-append}
 use Rattle.std.proofs.lemmas.Option.{slice_get_within, same_Some}
@@ -10,7 +10,7 @@ use Rattle.fa_capture.specs.Message.{Message}
 use Rattle.fa_capture.proofs.CallerLemmas.{get_set_same, get_set_other, get_set_back, snoc_cases}
 use Rattle.fa_session.specs.Answers.{IsRequestAt, IsAnsweredBy, IsUnanswered}
 use Rattle.fa_ledger.specs.declared.calls.Calls.{Calls}
-use Rattle.fa_ledger.specs.Calls.{PlainAnswer, PlainCall, AreCalls, call_shown}
+use Rattle.fa_ledger.specs.Calls.{PlainAnswer, PlainCall, AreCalls}
 use Rattle.fa_ledger.specs.Choices.{Allows, AllowsBy, MayBePlaced}
 use Rattle.fa_ledger.specs.Operations.{PlainOperation, operation_of}
 use Rattle.fa_ledger.specs.SoFar.{listing_so_far}

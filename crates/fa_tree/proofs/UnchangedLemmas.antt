@@ -1,5 +1,5 @@
 -- Steps that leave the tree as it is: of what failed, and of what only reads, gives no node and opens no directory anew.
-use Rattle.std.proofs.Common.{◌≡◌, ℕ, Bool, false, List, [], Option, ap, subst, ◌∙◌, sym, refl}
+use Rattle.std.proofs.Common.{◌≡◌, ℕ, Bool, false, List, [], Option, ap, ◌∙◌, refl}
 use Rattle.std.specs.Ordering.{nat_cmp}
 use Rattle.std.specs.FinMap.{FinMap}
 use Rattle.fa_bodies.specs.Dirents.{PlainDirent}

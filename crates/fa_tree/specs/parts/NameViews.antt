@@ -8,7 +8,7 @@ use Rattle.std.specs.FinSet as set
 use Rattle.std.specs.FinSet.{FinSet}
 use Rattle.fa_tree.specs.declared.id.FileId.{FileId}
 use Rattle.fa_tree.specs.State as state
-use Rattle.fa_tree.specs.State.{place_cmp, name_cmp, file_eq, OpenDirectory}
+use Rattle.fa_tree.specs.State.{name_cmp, file_eq, OpenDirectory}
 use Rattle.fa_tree.specs.declared.slots.Place.{Place}
 use Rattle.fa_tree.specs.declared.slots.Slot.{Slot}
 use Rattle.fa_tree.specs.declared.slots.Slot.TheVariants.{There, Gone}

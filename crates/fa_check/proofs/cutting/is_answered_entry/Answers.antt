@@ -1,8 +1,5 @@
-use Rattle.std.proofs.Common.{◌≡◌, length, arith, rules, vec_len}
-use Rattle.std.specs.Prelude.{map}
-use Rattle.std.proofs.lemmas.List.{length-map}
+use Rattle.std.proofs.Common.{arith}
 use Rattle.std.proofs.lemmas.Option.{slice_get_within}
-use Rattle.fa_ledger.specs.Calls.{call_shown}
 use Rattle.fa_check.proofs.CuttingLemmas.{on_none, no_call, found_as, shown_not_done, done_test}
 use Rattle.fa_check.proofs.cutting.is_answered_entry.Goals as goal
 

@@ -1,8 +1,6 @@
-use Rattle.std.proofs.Common.{◌≡◌, ℕ, length, inl, sym, subst, ap, ◌∙◌, arith, rules, vec_len}
-use Rattle.std.specs.Prelude.{map, Option}
-use Rattle.std.proofs.lemmas.List.{length-map}
+use Rattle.std.proofs.Common.{ℕ, inl, sym, subst, ap, ◌∙◌, arith}
+use Rattle.std.specs.Prelude.{Option}
 use Rattle.std.proofs.lemmas.Option.{slice_get_within}
-use Rattle.fa_ledger.specs.Calls.{call_shown}
 use Rattle.fa_ledger.specs.Kinds.{KeepsTree}
 use Rattle.fa_ledger.specs.Operations.{PlainOperation}
 use Rattle.fa_check.specs.Cuts.{Stays, wrote_without}

@@ -1,5 +1,3 @@
-use Rattle.std.specs.Prelude.{map}
-use Rattle.fa_ledger.specs.Calls.{call_shown}
 use Rattle.fa_check.proofs.PlacingLemmas.{AreAnswersOf}
 use Rattle.fa_check.proofs.unplaced_answers.answers_of.Given as goal
 

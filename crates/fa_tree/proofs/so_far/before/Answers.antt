@@ -1,4 +1,4 @@
-use Rattle.std.proofs.Common.{map, ap, ◌∙◌}
+use Rattle.std.proofs.Common.{ap, ◌∙◌}
 use Rattle.std.specs.Prelude.{option_map}
 use Rattle.fa_ledger.specs.Calls.{PlainCall, call_shown}
 use Rattle.fa_tree.proofs.SoFarLemmas.{rising, asked_there, asked_nowhere, goes_on}

@@ -1,6 +1,5 @@
-use Rattle.std.proofs.Common.{◌≡◌, ◌<◌, ◌-◌, List, ◌++◌, length, map}
+use Rattle.std.proofs.Common.{◌≡◌, ◌<◌, ◌-◌, List, ◌++◌, length}
 use Rattle.fa_bodies.specs.Dirents.{PlainDirent}
-use Rattle.fa_ledger.specs.Calls.{call_shown}
 use Rattle.fa_ledger.specs.SoFar.{listing_so_far}
 use Rattle.fa_tree.specs.parts.TallyParts.{Notes}
 use Rattle.fa_tree.proofs.SoFarLemmas.{left_so_far}

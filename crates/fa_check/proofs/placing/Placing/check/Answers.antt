@@ -1,10 +1,7 @@
-use Rattle.std.proofs.Common.{◌≡◌, ◌<◌, length, false, sym, subst, ◌∙◌, vec_len, arith, rules}
-use Rattle.std.specs.Prelude.{map}
-use Rattle.std.proofs.lemmas.List.{length-map}
+use Rattle.std.proofs.Common.{◌≡◌, ◌<◌, length, false, sym, subst, ◌∙◌, arith}
 use Rattle.std.proofs.lemmas.Option.{slice_get_within, same_Some}
 use Rattle.fa_ledger.specs.Calls.{PlainCall, call_shown}
 use Rattle.fa_ledger.specs.Choices.{Allows}
-use Rattle.fa_tree.proofs.CallerLemmas.{shown_at}
 use Rattle.fa_check.proofs.MarkLemmas.{mark_at}
 use Rattle.fa_check.proofs.PlacingLemmas.{fails_early, fails_choice, place_holds}
 use Rattle.fa_check.proofs.placing.Placing.check.Goals as goal

@@ -1,9 +1,7 @@
-use Rattle.std.proofs.Common.{◌≡◌, ◌<◌, ℕ, length, false, true, None, Some, sym, ap, subst, ◌∙◌, arith}
-use Rattle.std.specs.Prelude.{map, slice_get, option_map}
-use Rattle.std.proofs.lemmas.List.{length-map}
+use Rattle.std.proofs.Common.{◌≡◌, ◌<◌, ℕ, length, false, true, None, Some, sym, ap, ◌∙◌, arith}
+use Rattle.std.specs.Prelude.{slice_get, option_map}
 use Rattle.std.proofs.lemmas.Option.{slice_get_within, same_Some}
 use Rattle.fa_ledger.specs.Calls.{PlainCall, call_shown, answer_shown}
-use Rattle.fa_tree.proofs.CallerLemmas.{shown_at}
 use Rattle.fa_check.specs.Marks.{IsUnset}
 use Rattle.fa_check.specs.Replays.{IsAnswerAt}
 use Rattle.fa_check.proofs.GoodLemmas.{asked_rise}

@@ -1,5 +1,3 @@
-use Rattle.std.specs.Prelude.{map}
-use Rattle.fa_ledger.specs.Calls.{call_shown}
 use Rattle.fa_check.proofs.EndLemmas.{IsNoneLeft}
 use Rattle.fa_check.proofs.placing.Placing.least_left.Given as goal
 

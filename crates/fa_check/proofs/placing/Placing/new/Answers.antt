@@ -1,7 +1,4 @@
-use Rattle.std.proofs.Common.{◌≡◌, length, refl, subst, ◌∙◌, sym, rules}
-use Rattle.std.specs.Prelude.{map}
-use Rattle.std.proofs.lemmas.List.{length-map}
-use Rattle.fa_ledger.specs.Calls.{call_shown}
+use Rattle.std.proofs.Common.{◌≡◌, length, refl, subst}
 use Rattle.fa_check.specs.Marks.{AreUnset}
 use Rattle.fa_check.proofs.PlacingLemmas.{none_placed}
 use Rattle.fa_check.proofs.VerdictLemmas.{none_replayed}

@@ -1,9 +1,7 @@
-use Rattle.std.proofs.Common.{◌≡◌, length, refl, ap, arith, rules, vec_len}
-use Rattle.std.specs.Prelude.{map, option_map}
-use Rattle.std.proofs.lemmas.List.{length-map}
+use Rattle.std.proofs.Common.{◌≡◌, length, refl, ap, arith}
+use Rattle.std.specs.Prelude.{option_map}
 use Rattle.std.proofs.lemmas.Option.{slice_get_within}
 use Rattle.fa_ledger.specs.Calls.{PlainAnswer, call_shown, answer_shown}
-use Rattle.fa_tree.proofs.CallerLemmas.{shown_at}
 use Rattle.fa_check.proofs.GoodLemmas.{answer_below}
 use Rattle.fa_check.proofs.PlacingLemmas.{none_of, count_fits, placed_still, placed_less}
 use Rattle.fa_check.proofs.placing.Placing.note.Goals as goal

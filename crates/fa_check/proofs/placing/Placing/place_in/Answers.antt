@@ -1,11 +1,8 @@
 use Rattle.std.proofs.Common.{arith, subst}
-use Rattle.std.specs.Prelude.{map}
-use Rattle.std.proofs.lemmas.List.{length-map}
 use Rattle.std.proofs.lemmas.Option.{slice_get_within}
 use Rattle.std.proofs.lemmas.Result.{err_from_is_err_and}
 use Rattle.fa_capture.specs.Checks.{AllHold, FirstFailure}
 use Rattle.fa_ledger.specs.declared.calls.Calls.{Calls}
-use Rattle.fa_ledger.specs.Calls.{call_shown}
 use Rattle.fa_check.specs.Replays.{IsPlacing, IsCallOf}
 use Rattle.fa_check.specs.parts.Placing.{place_checks}
 use Rattle.fa_check.proofs.GoodLemmas.{one_place}

@@ -1,7 +1,4 @@
-use Rattle.std.proofs.Common.{◌<◌, length, vec_len, arith, rules}
-use Rattle.std.specs.Prelude.{◌≡◌}
 use Rattle.fa_ledger.specs.Calls.{call_shown}
-use Rattle.fa_tree.proofs.CallerLemmas.{shown_at}
 use Rattle.fa_check.proofs.placing.Placing.place_of.Goals as goal
 
 pub returns-then-call-at-clause-found : goal.returns-then-call-at-clause-found

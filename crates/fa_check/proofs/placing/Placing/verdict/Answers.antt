@@ -1,7 +1,4 @@
-use Rattle.std.proofs.Common.{◌≡◌, ◌-◌, ◌<◌, ◌^◌, length, subst, sym, arith, rules}
-use Rattle.std.specs.Prelude.{map}
-use Rattle.std.proofs.lemmas.List.{length-map}
-use Rattle.fa_ledger.specs.Calls.{call_shown}
+use Rattle.std.proofs.Common.{◌≡◌, ◌-◌, ◌<◌, ◌^◌, length, subst, sym, arith}
 use Rattle.fa_check.specs.Verdicts.{IsLegalWith}
 use Rattle.fa_check.proofs.GoodLemmas.{few_calls}
 use Rattle.fa_check.proofs.MarkLemmas.{count_within}

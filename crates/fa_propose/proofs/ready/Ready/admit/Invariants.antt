@@ -1,6 +1,5 @@
-use Rattle.std.proofs.Common.{List, map, length, ◌-◌}
+use Rattle.std.proofs.Common.{List, length, ◌-◌}
 use Rattle.fa_capture.specs.Message.{Message}
-use Rattle.fa_ledger.specs.Calls.{call_shown}
 use Rattle.fa_order.specs.declared.entry.Entry.{Entry}
 use Rattle.fa_check.specs.Verdicts.{AreMessagesOf}
 use Rattle.fa_check.specs.Replays.{IsFront}

@@ -1,6 +1,5 @@
-use Rattle.std.proofs.Common.{[], ◌∷◌, ◌++◌, map, subst}
+use Rattle.std.proofs.Common.{[], ◌∷◌, ◌++◌, subst}
 use Rattle.std.specs.Prelude.{IfSome}
-use Rattle.fa_ledger.specs.Calls.{call_shown}
 use Rattle.fa_check.specs.Replays.{IsReplayed}
 use Rattle.fa_propose.specs.parts.Ready.{IsTriedSo}
 use Rattle.fa_propose.proofs.MatchLemmas.{stuck}

@@ -2,7 +2,6 @@ use Rattle.std.proofs.Common.{Some, refl, sym, ap, subst, ◌∙◌, is_some}
 use Rattle.std.specs.Map.{keys_of}
 use Rattle.std.specs.Option.{option_and_then}
 use Rattle.fa_tree.specs.State as state
-use Rattle.fa_tree.specs.State.{place_cmp}
 use Rattle.fa_tree.specs.parts.MemberParts.{AreMembers}
 use Rattle.fa_tree.specs.parts.SlotParts.{slot_at, gone_at, file_in, AreAllThere}
 use Rattle.fa_tree.proofs.NameLemmas.{get-names_shown}

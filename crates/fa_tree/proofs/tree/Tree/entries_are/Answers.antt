@@ -1,6 +1,4 @@
 use Rattle.fa_bodies.specs.Listing.{entries_left}
-use Rattle.std.specs.Prelude.{map}
-use Rattle.fa_ledger.specs.Calls.{call_shown}
 use Rattle.fa_ledger.specs.SoFar.{listing_so_far}
 use Rattle.fa_tree.specs.parts.OpenParts.{open_of}
 use Rattle.fa_tree.specs.parts.TreeView.{tree_shown}

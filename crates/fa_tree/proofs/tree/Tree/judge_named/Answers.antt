@@ -1,4 +1,3 @@
-use Rattle.std.specs.Prelude.{map}
 use Rattle.fa_ledger.specs.Calls.{call_shown}
 use Rattle.fa_ledger.specs.Operations.{list_shown}
 use Rattle.fa_ledger.specs.SoFar.{listing_so_far}

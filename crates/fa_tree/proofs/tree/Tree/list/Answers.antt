@@ -1,5 +1,5 @@
 use Rattle.std.proofs.Common.{rules, ◌≡◌, [], sym, subst, ◌∙◌}
-use Rattle.std.specs.Prelude.{map, length}
+use Rattle.std.specs.Prelude.{length}
 use Rattle.std.specs.Vec.{vec_len}
 use Rattle.std.proofs.lemmas.Result.{err_from_is_err_and}
 use Rattle.fa_ledger.specs.Calls.{call_shown}

@@ -1,7 +1,6 @@
-use Rattle.std.proofs.Common.{map, subst}
+use Rattle.std.proofs.Common.{subst}
 use Rattle.std.specs.Prelude.{OnOk}
 use Rattle.fa_ledger.specs.declared.calls.Calls.{Calls}
-use Rattle.fa_ledger.specs.Calls.{call_shown}
 use Rattle.fa_ledger.specs.SoFar.{listing_so_far}
 use Rattle.fa_tree.specs.Steps.{OfCallAt, Steps}
 use Rattle.fa_tree.proofs.tree.Tree.step.Goals as goal
