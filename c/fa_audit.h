@@ -36,7 +36,10 @@ enum {
  * over any pointer, and the length 0. line and *size overlap neither each other nor the bytes that are read.
  *
  * It calls malloc, realloc and free of the program, which have to be of one allocator and to align a block to each power of two up to 16
- * that divides its size. It is not to be called from a signal handler, or from the forked child of a process with threads. */
+ * that divides its size. It is not to be called from a signal handler, or from the forked child of a process with threads.
+ *
+ * Its tables are hashed with the same seed at each call, so that a capture can be made on which it takes long. The program fa_audit draws a
+ * seed. */
 uint8_t fa_audit_check(const uint8_t *capture, size_t capture_length, const uint8_t *tree, size_t tree_length, bool has_tree,
                        const uint8_t *order, size_t order_length, uint8_t *line, size_t line_length, size_t *size);
 

@@ -16,7 +16,7 @@ use crate::protocol::good_calls;
 use crate::running::{MAX_TEXT_INPUT_BYTES, RunFault, input_bytes, stored_capture, tell};
 use crate::status::Status;
 use crate::verdict::CutError;
-use fa_capture::{Capture, Input, Output, read_capture};
+use fa_capture::{Capture, Input, Output, Seed, read_capture};
 use fa_check::cut;
 use fa_order::{read_order, write_order};
 use std::alloc::Global;
@@ -105,9 +105,9 @@ fn tell_cut<W: Output>(
 /// and answers the status.
 ///
 /// Where the capture has a fault or the order text is not in its grammar, the line of the fault and a line feed are written, as
-/// [`run`](crate::run) writes them. The status is 0 with an order text, 1 at a fault of the capture, and 3 where the order text is
-/// not in its grammar. The inputs are read before anything is judged, as [`run`](crate::run) reads them, and no tree is read. No mark
-/// of an input or of the output is set at the call.
+/// [`run`](crate::run) writes them. The status is 0 with an order text, 1 at a fault of the capture, and 3 where the order text is not in its
+/// grammar. The inputs are read before anything is judged, as [`run`](crate::run) reads them, and no tree is read. Tables are hashed with the
+/// seed. No mark of an input or of the output is set at the call.
 ///
 /// Which bytes were read and written is said where the inputs and the output tell their bytes, as those over memory do. Files and
 /// standard output do not: of a call on them it is said alone that the status is that of an answer on some bytes.
@@ -126,6 +126,7 @@ fn tell_cut<W: Output>(
 /// That of [`run`](crate::run) for the inputs, and of [`cut_order`].
 pub fn run_cut<R: Input, W: Output>(
     alloc: Global,
+    seed: Seed,
     capture: &mut R,
     order: &mut R,
     messages: u32,
@@ -163,7 +164,7 @@ pub fn run_cut<R: Input, W: Output>(
     let order = input_bytes(alloc, order, MAX_TEXT_INPUT_BYTES)?;
     tell_cut(
         alloc,
-        left_of(alloc, &stored.capture(), &order, messages),
+        left_of(alloc, &stored.capture().with_seed(seed), &order, messages),
         out,
     )
 }

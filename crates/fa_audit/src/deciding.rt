@@ -28,7 +28,7 @@ use crate::searching::found_from;
 use crate::shortest::shortest_without;
 use crate::status::Status;
 use crate::verdict::StartError;
-use fa_capture::{Capture, Input, Output, read_capture};
+use fa_capture::{Capture, Input, Output, Seed, read_capture};
 use fa_ledger::Calls;
 use fa_search::{Budget, Finding, Listener, Nobody};
 use fa_tree::Tree;
@@ -260,6 +260,7 @@ pub(crate) fn tell_judgement<W: Output>(
 /// Reads the capture, and tells what is judged on an empty root.
 fn judge_on_empty_root<R: Input, L: Listener, W: Output>(
     alloc: Global,
+    seed: Seed,
     capture: &mut R,
     budget: Budget,
     listener: &mut L,
@@ -281,7 +282,13 @@ fn judge_on_empty_root<R: Input, L: Listener, W: Output>(
     let stored = stored_capture(alloc, capture)?;
     tell_judgement(
         alloc,
-        judged(alloc, &stored.capture(), None, budget, listener),
+        judged(
+            alloc,
+            &stored.capture().with_seed(seed),
+            None,
+            budget,
+            listener,
+        ),
         out,
     )
 }
@@ -289,6 +296,7 @@ fn judge_on_empty_root<R: Input, L: Listener, W: Output>(
 /// Reads the capture and then the tree, and tells what is judged on that tree.
 fn judge_on_tree<R: Input, L: Listener, W: Output>(
     alloc: Global,
+    seed: Seed,
     capture: &mut R,
     tree: &mut R,
     budget: Budget,
@@ -317,7 +325,13 @@ fn judge_on_tree<R: Input, L: Listener, W: Output>(
     let tree = input_bytes(alloc, tree, MAX_TEXT_INPUT_BYTES)?;
     tell_judgement(
         alloc,
-        judged(alloc, &stored.capture(), Some(&tree), budget, listener),
+        judged(
+            alloc,
+            &stored.capture().with_seed(seed),
+            Some(&tree),
+            budget,
+            listener,
+        ),
         out,
     )
 }
@@ -325,12 +339,12 @@ fn judge_on_tree<R: Input, L: Listener, W: Output>(
 /// Judges a capture by a search of all its orders: reads the capture, and then the tree if one is handed in, writes the line of what is
 /// judged and a line feed by one put, and answers the status.
 ///
-/// The line is `legal: M messages, P placed, L left out` with the status 0, `no order: message N: code C: TEXT` with 6, or
-/// `gave up: message N` with 7. Behind `no order`, where M is found, a second line is written, `the first M messages alone have no order`.
-/// Where there is no start for an order the line of the fault is written, as [`run`](crate::run) writes it, with the
-/// status 1 at a fault of the capture, and 3 where the tree text is not in its grammar. The inputs are read before anything is judged, as
-/// [`run`](crate::run) reads them. The listener is told how far each search has come, as [`search`](fa_search::search) tells it. No mark of an
-/// input or of the output is set at the call.
+/// The line is `legal: M messages, P placed, L left out` with the status 0, `no order: message N: code C: TEXT` with 6, or `gave up: message
+/// N` with 7. Behind `no order`, where M is found, a second line is written, `the first M messages alone have no order`. Where there is no
+/// start for an order the line of the fault is written, as [`run`](crate::run) writes it, with the status 1 at a fault of the capture, and 3
+/// where the tree text is not in its grammar. The inputs are read before anything is judged, as [`run`](crate::run) reads them. The listener
+/// is told how far each search has come, as [`search`](fa_search::search) tells it. Tables are hashed with the seed. No mark of an input or
+/// of the output is set at the call.
 ///
 /// Which bytes were read and written is said where the inputs and the output tell their bytes, as those over memory do. Files and
 /// standard output do not: of a call on them it is said alone that the status is that of an answer on some bytes.
@@ -349,6 +363,7 @@ fn judge_on_tree<R: Input, L: Listener, W: Output>(
 /// That of [`run`](crate::run) for the inputs, and of [`judge_capture`].
 pub fn run_judge<R: Input, L: Listener, W: Output>(
     alloc: Global,
+    seed: Seed,
     capture: &mut R,
     tree: Option<&mut R>,
     budget: Budget,
@@ -387,7 +402,7 @@ pub fn run_judge<R: Input, L: Listener, W: Output>(
         Keeps (W.written out.old) (W.written out.new) }
 {
     match tree {
-        None => judge_on_empty_root(alloc, capture, budget, listener, out),
-        Some(tree) => judge_on_tree(alloc, capture, tree, budget, listener, out),
+        None => judge_on_empty_root(alloc, seed, capture, budget, listener, out),
+        Some(tree) => judge_on_tree(alloc, seed, capture, tree, budget, listener, out),
     }
 }

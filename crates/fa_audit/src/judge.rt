@@ -13,7 +13,7 @@ ghost use Rattle.fa_audit.specs.parts.Answers.{Tells, IsTreeRefused};
 
 use crate::protocol::{good_calls, good_calls_of_bytes};
 use crate::verdict::{AuditError, StartError};
-use fa_capture::Capture;
+use fa_capture::{Capture, Seed};
 use fa_check::{Verdict, check};
 use fa_ledger::Calls;
 use fa_order::{Entry, TextError, read_order};
@@ -118,15 +118,15 @@ pub fn audit_capture(
 }
 
 /// The tree that the server began with.
-pub(crate) fn given_tree(alloc: Global, tree: Option<&[u8]>) -> Result<Tree, StartError>
+pub(crate) fn given_tree(alloc: Global, seed: Seed, tree: Option<&[u8]>) -> Result<Tree, StartError>
     requires { IfSome (option_copied tree) (λ text. length text ≤ MAX_TEXT_BYTES) }
     ensures given { IfOk result (IsGivenTree (option_copied tree.entry)) }
     ensures refused { IfErr result (IsTreeRefused (option_copied tree.entry)) }
 {
     let Some(text) = tree else {
-        return Ok(Tree::empty(alloc, ROOT_BITS)?);
+        return Ok(Tree::empty(alloc, seed, ROOT_BITS)?);
     };
-    match read_tree(alloc, text) {
+    match read_tree(alloc, seed, text) {
         Ok(tree) => Ok(tree),
         Err(TextError::Line(line)) => Err(StartError::TreeText { line }),
         Err(TextError::Memory) => Err(StartError::Memory),
@@ -155,7 +155,7 @@ pub fn start<'a>(
     ensures none { IfErr result (λ error. (bytes : List ℕ) → IsCaptureOf bytes capture.now → IsNoStart bytes (option_copied tree.entry) error) }
 {
     let calls = good_calls(alloc, capture)?;
-    let first = given_tree(alloc, tree)?;
+    let first = given_tree(alloc, capture.seed, tree)?;
     Ok((calls, first))
 }
 
@@ -178,7 +178,7 @@ pub(crate) fn start_of_bytes<'a>(
     ensures none { IfErr result (IsNoStart bytes.now (option_copied tree.entry)) }
 {
     let calls = good_calls_of_bytes(alloc, bytes)?;
-    let first = given_tree(alloc, tree)?;
+    let first = given_tree(alloc, Seed::default(), tree)?;
     Ok((calls, first))
 }
 

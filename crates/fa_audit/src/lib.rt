@@ -7,6 +7,9 @@
 //! inputs to an output: they are the commands `check`, `propose`, `search`, `judge`, `cut`, `front`, `migrate`, `watch` and `show` of the
 //! program `fa_audit`. What says why, `fa_reasons`, stands on the parts that they are made of: [`start`], [`entries_of`], [`proposed`],
 //! [`judged`], [`judged_lines_and_status`], [`line_and_status`] and [`input_bytes`].
+//!
+//! Runs hash their tables with a seed that they are given, and calls on a [`Capture`](fa_capture::Capture) with that of the capture. Calls on
+//! bytes hash them with the default one.
 #![tactic(auto)]
 
 mod cutting;

@@ -18,7 +18,7 @@ use crate::judge::{start, start_of_bytes};
 use crate::running::{MAX_TEXT_INPUT_BYTES, RunFault, input_bytes, stored_capture, tell};
 use crate::status::Status;
 use crate::verdict::StartError;
-use fa_capture::{Capture, Input, Output};
+use fa_capture::{Capture, Input, Output, Seed};
 use fa_ledger::Calls;
 use fa_order::write_order;
 use fa_propose::propose;
@@ -131,6 +131,7 @@ fn tell_proposal<W: Output>(
 /// Reads the capture, and tells what is proposed on an empty root.
 fn propose_on_empty_root<R: Input, W: Output>(
     alloc: Global,
+    seed: Seed,
     capture: &mut R,
     out: &mut W,
 ) -> Result<u8, RunFault>
@@ -148,12 +149,17 @@ fn propose_on_empty_root<R: Input, W: Output>(
     ensures refused { IsErrOf result RunFault.Memory → Keeps (W.written out.old) (W.written out.new) }
 {
     let stored = stored_capture(alloc, capture)?;
-    tell_proposal(alloc, proposed(alloc, &stored.capture(), None), out)
+    tell_proposal(
+        alloc,
+        proposed(alloc, &stored.capture().with_seed(seed), None),
+        out,
+    )
 }
 
 /// Reads the capture and then the tree, and tells what is proposed on that tree.
 fn propose_on_tree<R: Input, W: Output>(
     alloc: Global,
+    seed: Seed,
     capture: &mut R,
     tree: &mut R,
     out: &mut W,
@@ -178,16 +184,19 @@ fn propose_on_tree<R: Input, W: Output>(
 {
     let stored = stored_capture(alloc, capture)?;
     let tree = input_bytes(alloc, tree, MAX_TEXT_INPUT_BYTES)?;
-    tell_proposal(alloc, proposed(alloc, &stored.capture(), Some(&tree)), out)
+    tell_proposal(
+        alloc,
+        proposed(alloc, &stored.capture().with_seed(seed), Some(&tree)),
+        out,
+    )
 }
 
 /// Proposes an order for a capture: reads the capture, and then the tree if one is handed in, writes the text of the order that
 /// is proposed by one put, and answers the status.
 ///
-/// Where there is no order to propose, the line of the fault and a line feed are written, as [`run`](crate::run) writes
-/// them. The status is 0 with an order text, 1 at a fault of the capture, and 3 where the tree text is not in its grammar. The
-/// inputs are read before anything is judged, as [`run`](crate::run) reads them. No mark of an input or of the output is set at the
-/// call.
+/// Where there is no order to propose, the line of the fault and a line feed are written, as [`run`](crate::run) writes them. The status is 0
+/// with an order text, 1 at a fault of the capture, and 3 where the tree text is not in its grammar. The inputs are read before anything is
+/// judged, as [`run`](crate::run) reads them. Tables are hashed with the seed. No mark of an input or of the output is set at the call.
 ///
 /// Which bytes were read and written is said where the inputs and the output tell their bytes, as those over memory do. Files and
 /// standard output do not: of a call on them it is said alone that the status is that of an answer on some bytes.
@@ -206,6 +215,7 @@ fn propose_on_tree<R: Input, W: Output>(
 /// That of [`run`](crate::run) for the inputs, and of [`proposal`].
 pub fn run_propose<R: Input, W: Output>(
     alloc: Global,
+    seed: Seed,
     capture: &mut R,
     tree: Option<&mut R>,
     out: &mut W,
@@ -242,7 +252,7 @@ pub fn run_propose<R: Input, W: Output>(
         Keeps (W.written out.old) (W.written out.new) }
 {
     match tree {
-        None => propose_on_empty_root(alloc, capture, out),
-        Some(tree) => propose_on_tree(alloc, capture, tree, out),
+        None => propose_on_empty_root(alloc, seed, capture, out),
+        Some(tree) => propose_on_tree(alloc, seed, capture, tree, out),
     }
 }

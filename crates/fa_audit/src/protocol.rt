@@ -10,7 +10,7 @@ ghost use Rattle.fa_check.specs.Verdicts.{AreMessagesOf};
 ghost use Rattle.fa_audit.specs.parts.Protocol.{ShowBoth, messages_of};
 ghost use Rattle.fa_audit.specs.parts.Answers.{AreCallsOf, IsCaptureRefused};
 
-use fa_capture::{Capture, CaptureFault, Packet, Walk, codes};
+use fa_capture::{Capture, CaptureFault, Packet, Seed, Walk, codes};
 use fa_ledger::{Calls, Ledger};
 use fa_session::Session;
 use fa_watch::MessageError;
@@ -73,8 +73,8 @@ pub(crate) fn calls_of_front<'a>(
     ensures calls { IfOk result (λ calls. AreMessagesOf calls (take messages (messages_of capture.now))) }
     ensures fault { IfErr result (λ broken. (bytes : List ℕ) → IsCaptureOf bytes capture.now → IsCaptureRefused bytes broken) }
 {
-    let mut session = Session::new(alloc);
-    let mut ledger = Ledger::new(alloc);
+    let mut session = Session::new(alloc, capture.seed);
+    let mut ledger = Ledger::new(alloc, capture.seed);
     let mut at = 0;
     for packet in capture.packets().take(messages) {
         match accept(&mut session, &mut ledger, &packet) {
@@ -127,8 +127,9 @@ pub(crate) fn good_calls_of_bytes(alloc: Global, bytes: &[u8]) -> Result<Calls<'
             code: codes::NO_MAGIC,
         });
     };
-    let mut session = Session::new(alloc);
-    let mut ledger = Ledger::new(alloc);
+    let seed = Seed::default();
+    let mut session = Session::new(alloc, seed);
+    let mut ledger = Ledger::new(alloc, seed);
     let mut taken = 0;
     loop {
         let packet = match walk.next() {

@@ -15,7 +15,8 @@ use crate::line::{order_fault_text, tree_fault_text, verdict_text};
 use crate::status::Status;
 use crate::verdict::AuditError;
 use fa_capture::{
-    Broken, Feed, FeedError, Input, Output, PIECE, Pull, ReadError, SPARE_PULLS, Stored, read_all,
+    Broken, Feed, FeedError, Input, Output, PIECE, Pull, ReadError, SPARE_PULLS, Seed, Stored,
+    read_all,
 };
 use fa_check::Verdict;
 use std::alloc::{AllocError, AllocFailed, Global};
@@ -228,6 +229,7 @@ pub(crate) fn tell<W: Output>(
 /// Reads the capture and then the order, and tells what the audit answers of them on an empty root.
 fn run_on_empty_root<R: Input, W: Output>(
     alloc: Global,
+    seed: Seed,
     capture: &mut R,
     order: &mut R,
     out: &mut W,
@@ -254,7 +256,7 @@ fn run_on_empty_root<R: Input, W: Output>(
     let order = input_bytes(alloc, order, MAX_TEXT_INPUT_BYTES)?;
     tell(
         alloc,
-        audit_capture(alloc, &stored.capture(), None, &order),
+        audit_capture(alloc, &stored.capture().with_seed(seed), None, &order),
         out,
     )
 }
@@ -262,6 +264,7 @@ fn run_on_empty_root<R: Input, W: Output>(
 /// Reads the capture, the tree and then the order, and tells what the audit answers of them.
 fn run_on_tree<R: Input, W: Output>(
     alloc: Global,
+    seed: Seed,
     capture: &mut R,
     tree: &mut R,
     order: &mut R,
@@ -294,7 +297,12 @@ fn run_on_tree<R: Input, W: Output>(
     let order = input_bytes(alloc, order, MAX_TEXT_INPUT_BYTES)?;
     tell(
         alloc,
-        audit_capture(alloc, &stored.capture(), Some(&tree), &order),
+        audit_capture(
+            alloc,
+            &stored.capture().with_seed(seed),
+            Some(&tree),
+            &order,
+        ),
         out,
     )
 }
@@ -302,10 +310,10 @@ fn run_on_tree<R: Input, W: Output>(
 /// Audits a capture against an order: reads the capture, the tree if one is handed in, and then the order, writes the line of
 /// the audit's answer and a line feed by one put, and answers the status.
 ///
-/// The status is 0 where the verdict is legal, 1 at a fault of the capture, 2 where the order is not shown to explain
-/// the capture, and 3 where the tree text or the order text is not in its grammar. All inputs are read before anything is
-/// judged: the texts to their end, and so is the capture, unless its framing has a fault before that no byte behind it could mend;
-/// what it has behind that fault is not read. No mark of an input or of the output is set at the call.
+/// The status is 0 where the verdict is legal, 1 at a fault of the capture, 2 where the order is not shown to explain the capture, and 3
+/// where the tree text or the order text is not in its grammar. All inputs are read before anything is judged: the texts to their end, and so
+/// is the capture, unless its framing has a fault before that no byte behind it could mend; what it has behind that fault is not read. Tables
+/// are hashed with the seed. No mark of an input or of the output is set at the call.
 ///
 /// Which bytes were read and written is said where the inputs and the output tell their bytes, as those over memory do. Files and
 /// standard output do not: of a call on them it is said alone that the status is that of an answer on some bytes.
@@ -325,6 +333,7 @@ fn run_on_tree<R: Input, W: Output>(
 /// the capture takes memory for its bytes and a thirty-second part more.
 pub fn run<R: Input, W: Output>(
     alloc: Global,
+    seed: Seed,
     capture: &mut R,
     tree: Option<&mut R>,
     order: &mut R,
@@ -367,7 +376,7 @@ pub fn run<R: Input, W: Output>(
         Keeps (W.written out.old) (W.written out.new) }
 {
     match tree {
-        None => run_on_empty_root(alloc, capture, order, out),
-        Some(tree) => run_on_tree(alloc, capture, tree, order, out),
+        None => run_on_empty_root(alloc, seed, capture, order, out),
+        Some(tree) => run_on_tree(alloc, seed, capture, tree, order, out),
     }
 }

@@ -24,7 +24,7 @@ use crate::running::{MAX_TEXT_INPUT_BYTES, RunFault, input_bytes, stored_capture
 use crate::shortest::shortest_without;
 use crate::status::Status;
 use crate::verdict::StartError;
-use fa_capture::{Capture, Input, Output, read_capture};
+use fa_capture::{Capture, Input, Output, Seed, read_capture};
 use fa_ledger::Calls;
 use fa_order::write_order;
 use fa_search::{Budget, Finding, Listener, Nobody, search};
@@ -177,6 +177,7 @@ fn tell_search<W: Output>(
 /// Reads the capture, and tells what is found on an empty root.
 fn search_on_empty_root<R: Input, L: Listener, W: Output>(
     alloc: Global,
+    seed: Seed,
     capture: &mut R,
     budget: Budget,
     listener: &mut L,
@@ -198,7 +199,13 @@ fn search_on_empty_root<R: Input, L: Listener, W: Output>(
     let stored = stored_capture(alloc, capture)?;
     tell_search(
         alloc,
-        searched(alloc, &stored.capture(), None, budget, listener),
+        searched(
+            alloc,
+            &stored.capture().with_seed(seed),
+            None,
+            budget,
+            listener,
+        ),
         out,
     )
 }
@@ -206,6 +213,7 @@ fn search_on_empty_root<R: Input, L: Listener, W: Output>(
 /// Reads the capture and then the tree, and tells what is found on that tree.
 fn search_on_tree<R: Input, L: Listener, W: Output>(
     alloc: Global,
+    seed: Seed,
     capture: &mut R,
     tree: &mut R,
     budget: Budget,
@@ -234,7 +242,13 @@ fn search_on_tree<R: Input, L: Listener, W: Output>(
     let tree = input_bytes(alloc, tree, MAX_TEXT_INPUT_BYTES)?;
     tell_search(
         alloc,
-        searched(alloc, &stored.capture(), Some(&tree), budget, listener),
+        searched(
+            alloc,
+            &stored.capture().with_seed(seed),
+            Some(&tree),
+            budget,
+            listener,
+        ),
         out,
     )
 }
@@ -242,13 +256,12 @@ fn search_on_tree<R: Input, L: Listener, W: Output>(
 /// Searches all orders of a capture: reads the capture, and then the tree if one is handed in, writes the text of an order that is legal
 /// by one put, and answers the status.
 ///
-/// Where there is none, `no order: message N: code C: TEXT` and a line feed are written, and behind them, where M is found,
-/// `the first M messages alone have no order` and a line feed; where the budget was spent before it is known whether there is one,
-/// `gave up: message N` and a line feed; and where there is no start for an order the line of the fault and a line feed, as
-/// [`run`](crate::run) writes them. The status is 0 with an order text, 1 at a fault of the capture, 3 where the tree text is not in its
-/// grammar, 6 where there is no order, and 7 where the search gave up. The inputs are read before anything is judged, as
-/// [`run`](crate::run) reads them. The listener is told how far each search has come, as [`search`] tells it. No mark of an input or of the
-/// output is set at the call.
+/// Where there is none, `no order: message N: code C: TEXT` and a line feed are written, and behind them, where M is found, `the first M
+/// messages alone have no order` and a line feed; where the budget was spent before it is known whether there is one, `gave up: message N`
+/// and a line feed; and where there is no start for an order the line of the fault and a line feed, as [`run`](crate::run) writes them. The
+/// status is 0 with an order text, 1 at a fault of the capture, 3 where the tree text is not in its grammar, 6 where there is no order, and 7
+/// where the search gave up. The inputs are read before anything is judged, as [`run`](crate::run) reads them. The listener is told how far
+/// each search has come, as [`search`] tells it. Tables are hashed with the seed. No mark of an input or of the output is set at the call.
 ///
 /// Which bytes were read and written is said where the inputs and the output tell their bytes, as those over memory do. Files and
 /// standard output do not: of a call on them it is said alone that the status is that of an answer on some bytes.
@@ -267,6 +280,7 @@ fn search_on_tree<R: Input, L: Listener, W: Output>(
 /// That of [`run`](crate::run) for the inputs, and of [`search_order`].
 pub fn run_search<R: Input, L: Listener, W: Output>(
     alloc: Global,
+    seed: Seed,
     capture: &mut R,
     tree: Option<&mut R>,
     budget: Budget,
@@ -305,7 +319,7 @@ pub fn run_search<R: Input, L: Listener, W: Output>(
         Keeps (W.written out.old) (W.written out.new) }
 {
     match tree {
-        None => search_on_empty_root(alloc, capture, budget, listener, out),
-        Some(tree) => search_on_tree(alloc, capture, tree, budget, listener, out),
+        None => search_on_empty_root(alloc, seed, capture, budget, listener, out),
+        Some(tree) => search_on_tree(alloc, seed, capture, tree, budget, listener, out),
     }
 }

@@ -74,7 +74,7 @@ pub(crate) fn shortest_without<L: Listener>(
         IfSome shortest (IsShortestWithout (messages_of capture.now) first)) }
     ensures refused { IfErr result (IsTreeRefused (option_copied tree.entry)) }
 {
-    let first = given_tree(alloc, tree)?;
+    let first = given_tree(alloc, capture.seed, tree)?;
     let shortest = shortest_from(alloc, capture, &first, stop, of_a_front(budget), listener);
     // It has many tables: they are proved to go in one place.
     drop(first);

@@ -8,7 +8,7 @@ ghost use Rattle.fa_audit.specs.Showing.{IsShown};
 
 use crate::running::{MAX_CAPTURE_INPUT_BYTES, RunFault, input_bytes};
 use crate::status::Status;
-use fa_capture::{Input, Output, read_capture};
+use fa_capture::{Input, Output, Seed, read_capture};
 use fa_show::{Choice, ShowError, show};
 use std::alloc::Global;
 
@@ -30,8 +30,8 @@ impl From<ShowError> for RunFault {
 /// 0 whenever the lines were written, since what is shown is no verdict.
 ///
 /// The lines are those of [`show`], written in blocks. A message that is refused is shown with its code and left out of what follows; a
-/// framing fault is the last line. What is written is printing ASCII and line feeds alone, whatever the capture holds. The input is
-/// read to its end before anything is written. No mark of the input or of the output is set at the call.
+/// framing fault is the last line. What is written is printing ASCII and line feeds alone, whatever the capture holds. The input is read to
+/// its end before anything is written. Tables are hashed with the seed. No mark of the input or of the output is set at the call.
 ///
 /// Which bytes were read and written is said where the input and the output tell their bytes, as those over memory do. Files and
 /// standard output do not: of a call on them it is said alone how it ends.
@@ -49,6 +49,7 @@ impl From<ShowError> for RunFault {
 /// That of [`read_all`](fa_capture::read_all) and of [`show`].
 pub fn run_show<R: Input, W: Output>(
     alloc: Global,
+    seed: Seed,
     capture: &mut R,
     choice: &Choice<'_>,
     out: &mut W,
@@ -73,6 +74,6 @@ pub fn run_show<R: Input, W: Output>(
     ensures refused { IsErrOf result RunFault.Memory → Keeps (W.written out.old) (W.written out.new) }
 {
     let bytes = input_bytes(alloc, capture, MAX_CAPTURE_INPUT_BYTES)?;
-    show(alloc, &read_capture(&bytes), choice, out)?;
+    show(alloc, &read_capture(&bytes).with_seed(seed), choice, out)?;
     Ok(Status::Legal.number())
 }

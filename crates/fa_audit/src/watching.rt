@@ -8,7 +8,7 @@ ghost use Rattle.fa_audit.specs.parts.Seeing.{IsCodedSeen};
 
 use crate::running::{RunFault, tell};
 use crate::status::Status;
-use fa_capture::{Input, Output};
+use fa_capture::{Input, Output, Seed};
 use fa_check::Verdict;
 use fa_watch::{Seen, WatchError, watch};
 use std::alloc::Global;
@@ -49,8 +49,8 @@ fn tell_seen<W: Output>(alloc: Global, seen: Seen, out: &mut W) -> Result<u8, Ru
 /// Watches a stream: reads a capture as it comes, and writes a line and a line feed by one put where its first fault was read, with at
 /// most [`PIECE`](fa_capture::PIECE) bytes behind it, or once it came to its end without one.
 ///
-/// The line is `fault: message N: code C: TEXT`, as [`run`](crate::run) writes it, with the status 1, or `good: M messages` with the
-/// status 0. No order is judged, and no message is kept. No mark of the input or of the output is set at the call.
+/// The line is `fault: message N: code C: TEXT`, as [`run`](crate::run) writes it, with the status 1, or `good: M messages` with the status
+/// 0. No order is judged, and no message is kept. Tables are hashed with the seed. No mark of the input or of the output is set at the call.
 ///
 /// Which bytes were read and written is said where the input and the output tell their bytes, as those over memory do. Files, pipes and
 /// standard output do not: of a call on them it is said alone that the status is that of an answer on some bytes.
@@ -68,6 +68,7 @@ fn tell_seen<W: Output>(alloc: Global, seen: Seen, out: &mut W) -> Result<u8, Ru
 /// That of [`watch`].
 pub fn run_watch<R: Input, W: Output>(
     alloc: Global,
+    seed: Seed,
     capture: &mut R,
     out: &mut W,
 ) -> Result<u8, RunFault>
@@ -87,6 +88,6 @@ pub fn run_watch<R: Input, W: Output>(
     ensures unread { IsErrOf result RunFault.Read → Keeps (W.written out.old) (W.written out.new) }
     ensures refused { IsErrOf result RunFault.Memory → Keeps (W.written out.old) (W.written out.new) }
 {
-    let seen = watch(alloc, capture)?;
+    let seen = watch(alloc, seed, capture)?;
     tell_seen(alloc, seen, out)
 }

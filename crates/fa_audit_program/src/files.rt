@@ -6,7 +6,7 @@ ghost use Rattle.fa_capture.specs.Streams.{is_failed, is_interrupted, IsWithin, 
 
 use crate::failure::{Cause, Failure};
 use fa_audit::{MAX_CAPTURE_INPUT_BYTES, MAX_TEXT_INPUT_BYTES, RunFault};
-use fa_capture::{Broken, Input, Output, Pull};
+use fa_capture::{Broken, Input, Output, Pull, Seed};
 use std::fs::File;
 use std::io::{Error, ErrorKind, Read, Write};
 use std::rt::Files;
@@ -16,6 +16,9 @@ const STANDARD_INPUT: &str = "-";
 
 /// The file that is standard input.
 const STANDARD_INPUT_FILE: &str = "/dev/stdin";
+
+/// The file of which each read gives random bytes.
+const RANDOM_FILE: &str = "/dev/urandom";
 
 /// A file as an input, which remembers what the system said where it could not be read.
 #[derive(Drop)]
@@ -97,6 +100,19 @@ impl<F: Read> Input for Source<'_, F> {
     fn interrupted(&self) -> bool {
         self.interrupted
     }
+}
+
+/// A seed that nobody else knows; the default one, the same in each run, where the system has no random bytes.
+pub fn random_seed<R: Files>(rt: &R) -> Seed {
+    random_number(rt).map(Seed::new).unwrap_or_default()
+}
+
+/// A random number, where the system has one.
+fn random_number<R: Files>(rt: &R) -> Option<u64> {
+    let mut bytes = [0; 8];
+    let mut file = File::open(rt, RANDOM_FILE).ok()?;
+    file.read_exact(&mut bytes).ok()?;
+    Some(u64::from_le_bytes(bytes))
 }
 
 /// The file of a capture as an input.

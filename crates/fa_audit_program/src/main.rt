@@ -33,7 +33,7 @@ use crate::command_line::{
     PagePaths, ProposePaths, ReportPaths, SearchPaths, ShowPaths, Topic, WatchPaths,
 };
 use crate::failure::{Cause, Failure, Printing};
-use crate::files::{Sink, Source, open_capture, open_text, open_text_if_any};
+use crate::files::{Sink, Source, open_capture, open_text, open_text_if_any, random_seed};
 use fa_audit::{
     Budget, Listener, RunFault, SoFar, Status, run, run_cut, run_front, run_judge, run_migrate,
     run_propose, run_search, run_show, run_watch,
@@ -162,6 +162,7 @@ fn check<'a, R: AllocGlobal + Files + Print>(
     let mut out = Sink::new(io::writer(rt));
     let ran = run(
         rt.alloc(),
+        random_seed(rt),
         &mut capture,
         tree.as_mut(),
         &mut order,
@@ -187,7 +188,13 @@ fn propose<'a, R: AllocGlobal + Files + Print>(
     let mut capture = open_capture(rt, paths.capture)?;
     let mut tree = open_text_if_any(rt, paths.tree)?;
     let mut out = Sink::new(io::writer(rt));
-    let ran = run_propose(rt.alloc(), &mut capture, tree.as_mut(), &mut out);
+    let ran = run_propose(
+        rt.alloc(),
+        random_seed(rt),
+        &mut capture,
+        tree.as_mut(),
+        &mut out,
+    );
     let cause = capture.cause().or(text_cause(&tree));
     ended(ran, cause, &out)
 }
@@ -202,6 +209,7 @@ fn search<'a, R: AllocGlobal + Files + Print + Eprint>(
     let mut out = Sink::new(io::writer(rt));
     let ran = run_search(
         rt.alloc(),
+        random_seed(rt),
         &mut capture,
         tree.as_mut(),
         budget(paths.steps),
@@ -237,6 +245,7 @@ fn plain_judge<'a, R: AllocGlobal + Files + Print + Eprint>(
     let mut out = Sink::new(io::writer(rt));
     let ran = run_judge(
         rt.alloc(),
+        random_seed(rt),
         &mut capture,
         tree.as_mut(),
         budget(paths.steps),
@@ -260,6 +269,7 @@ fn explained_judge<'a, R: AllocGlobal + Files + Print + Eprint>(
     let mut out = Sink::new(io::writer(rt));
     let ran = run_explained_judge(
         rt.alloc(),
+        random_seed(rt),
         &mut capture,
         tree.as_mut(),
         budget(paths.steps),
@@ -311,7 +321,14 @@ fn cut<'a, R: AllocGlobal + Files + Print>(
     let mut capture = open_capture(rt, paths.capture)?;
     let mut order = open_text(rt, paths.order)?;
     let mut out = Sink::new(io::writer(rt));
-    let ran = run_cut(rt.alloc(), &mut capture, &mut order, paths.at, &mut out);
+    let ran = run_cut(
+        rt.alloc(),
+        random_seed(rt),
+        &mut capture,
+        &mut order,
+        paths.at,
+        &mut out,
+    );
     let cause = capture.cause().or(order.cause());
     ended(ran, cause, &out)
 }
@@ -345,7 +362,7 @@ fn watch<'a, R: AllocGlobal + Files + Print>(
 ) -> Result<u8, Failure<'a>> {
     let mut capture = open_capture(rt, paths.capture)?;
     let mut out = Sink::new(io::writer(rt));
-    let ran = run_watch(rt.alloc(), &mut capture, &mut out);
+    let ran = run_watch(rt.alloc(), random_seed(rt), &mut capture, &mut out);
     ended(ran, capture.cause(), &out)
 }
 
@@ -356,7 +373,13 @@ fn show<'a, R: AllocGlobal + Files + Print>(
 ) -> Result<u8, Failure<'a>> {
     let mut capture = open_capture(rt, paths.capture)?;
     let mut out = Sink::new(io::writer(rt));
-    let ran = run_show(rt.alloc(), &mut capture, &paths.choice, &mut out);
+    let ran = run_show(
+        rt.alloc(),
+        random_seed(rt),
+        &mut capture,
+        &paths.choice,
+        &mut out,
+    );
     ended(ran, capture.cause(), &out)
 }
 
@@ -371,6 +394,7 @@ fn explain<'a, R: AllocGlobal + Files + Print>(
     let mut out = Sink::new(io::writer(rt));
     let ran = run_explain(
         rt.alloc(),
+        random_seed(rt),
         &mut capture,
         tree.as_mut(),
         order.as_mut(),
@@ -397,7 +421,7 @@ fn picture<'a, R: AllocGlobal + Files + Print>(
     let Some(order) = paths.order else {
         let mut capture = open_capture(rt, paths.capture)?;
         let mut out = Sink::new(io::writer(rt));
-        let ran = run_picture(rt.alloc(), &mut capture, view, &mut out);
+        let ran = run_picture(rt.alloc(), random_seed(rt), &mut capture, view, &mut out);
         return ended(ran, capture.cause(), &out);
     };
     order_page(rt, paths, order, &OrderPage::Picture(view))
@@ -416,6 +440,7 @@ fn order_page<'a, R: AllocGlobal + Files + Print>(
     let mut out = Sink::new(io::writer(rt));
     let ran = run_order_page(
         rt.alloc(),
+        random_seed(rt),
         &mut capture,
         tree.as_mut(),
         &mut order,
@@ -465,6 +490,7 @@ fn judged_report<'a, R: AllocGlobal + Files + Print + Eprint>(
     let mut out = Sink::new(io::writer(rt));
     let ran = run_report(
         rt.alloc(),
+        random_seed(rt),
         &mut capture,
         tree.as_mut(),
         budget(call.steps),

@@ -5,7 +5,7 @@ ghost use Rattle.fa_capture.specs.Device.{device_failed, device_interrupted};
 
 use crate::answers::{ROOT, SECOND, not_found};
 use fa_audit::{RunFault, run};
-use fa_capture::Device;
+use fa_capture::{Device, Seed};
 use fa_tests::devices::BreakingWriter;
 use std::alloc::Global;
 use std::io;
@@ -61,6 +61,7 @@ fn audited<'x>(
     let mut written = Vec::new(alloc);
     let status = run(
         alloc,
+        Seed::default(),
         &mut capture,
         Some(&mut tree),
         &mut order,
@@ -125,6 +126,7 @@ fn an_output_that_breaks_at_each_call(rt: HostRuntime) {
         };
         let status = run(
             alloc,
+            Seed::default(),
             &mut Device::new(capture.as_slice()),
             Some(&mut Device::new(ROOT)),
             &mut Device::new(SECOND),

@@ -8,7 +8,7 @@ use fa_audit::{
     Budget, Nobody, RunFault, run, run_cut, run_front, run_judge, run_migrate, run_propose,
     run_search, run_watch,
 };
-use fa_capture::{Device, Output};
+use fa_capture::{Device, Output, Seed};
 use fa_reasons::{
     OrderPage, ReportView, View, run_explain, run_explained_judge, run_order_page, run_report,
 };
@@ -124,6 +124,7 @@ look at  Each answered request that acts on the tree stands in an order, one tha
 const AFTER_THE_END: &[u8] = b"\
 order: line 3: code 60: not an order text
 line     \"\", where the text ends
+because  the text ends without the line `end`
 look at  A carriage return, a blank or an empty line, a number with a sign or a zero in front or above 4,294,967,295, another first line than `fuse-order 1`, or something behind `end`, which needs its line feed. `fa_audit propose` writes texts that fit.
 ";
 
@@ -131,7 +132,8 @@ look at  A carriage return, a blank or an empty line, a number with a sign or a 
 const SLASH: &[u8] = b"\
 tree: line 3: code 61: not a tree text
 line     \"f 644 x/y -\"
-look at  A name before its directory, a blank in a name that is not spelled %20, or a file above the limit. `fuse-tree` writes texts that fit.
+because  no line before it begins with d and has the path \"x\"
+look at  A path before its directory or twice, a blank in a name that is not spelled %20, permission bits that are not three octal digits, a carriage return, or no line `end`. `fuse-tree` writes texts that fit.
 ";
 
 /// A text that may be handed in, as an input.
@@ -158,32 +160,72 @@ fn made<'x, W: Output>(
     let mut capture = Device::new(capture);
     let mut tree = input_of(tree);
     let mut order = Device::new(order);
+    let seed = Seed::new(1);
     match call {
-        Call::Check => run(alloc, &mut capture, tree.as_mut(), &mut order, out),
-        Call::Propose => run_propose(alloc, &mut capture, tree.as_mut(), out),
+        Call::Check => run(alloc, seed, &mut capture, tree.as_mut(), &mut order, out),
+        Call::Propose => run_propose(alloc, seed, &mut capture, tree.as_mut(), out),
         Call::Search => {
             let budget = Budget::default();
-            run_search(alloc, &mut capture, tree.as_mut(), budget, &mut Nobody, out)
+            run_search(
+                alloc,
+                seed,
+                &mut capture,
+                tree.as_mut(),
+                budget,
+                &mut Nobody,
+                out,
+            )
         }
         Call::Judge => {
             let budget = Budget::default();
-            run_judge(alloc, &mut capture, tree.as_mut(), budget, &mut Nobody, out)
+            run_judge(
+                alloc,
+                seed,
+                &mut capture,
+                tree.as_mut(),
+                budget,
+                &mut Nobody,
+                out,
+            )
         }
-        Call::Cut(at) => run_cut(alloc, &mut capture, &mut order, at, out),
+        Call::Cut(at) => run_cut(alloc, seed, &mut capture, &mut order, at, out),
         Call::Front(at) => run_front(alloc, &mut capture, at, out),
-        Call::Watch => run_watch(alloc, &mut capture, out),
+        Call::Watch => run_watch(alloc, seed, &mut capture, out),
         Call::Explain => {
             let mut order = Some(order);
-            run_explain(alloc, &mut capture, tree.as_mut(), order.as_mut(), out)
+            run_explain(
+                alloc,
+                seed,
+                &mut capture,
+                tree.as_mut(),
+                order.as_mut(),
+                out,
+            )
         }
-        Call::ExplainProposal => run_explain(alloc, &mut capture, tree.as_mut(), None, out),
+        Call::ExplainProposal => run_explain(alloc, seed, &mut capture, tree.as_mut(), None, out),
         Call::ExplainedJudge => {
             let budget = Budget::default();
-            run_explained_judge(alloc, &mut capture, tree.as_mut(), budget, &mut Nobody, out)
+            run_explained_judge(
+                alloc,
+                seed,
+                &mut capture,
+                tree.as_mut(),
+                budget,
+                &mut Nobody,
+                out,
+            )
         }
         Call::OrderPicture => {
             let page = OrderPage::Picture(View::new());
-            run_order_page(alloc, &mut capture, tree.as_mut(), &mut order, &page, out)
+            run_order_page(
+                alloc,
+                seed,
+                &mut capture,
+                tree.as_mut(),
+                &mut order,
+                &page,
+                out,
+            )
         }
         Call::Report => {
             let budget = Budget::default();
@@ -193,6 +235,7 @@ fn made<'x, W: Output>(
             };
             run_report(
                 alloc,
+                seed,
                 &mut capture,
                 tree.as_mut(),
                 budget,

@@ -20,6 +20,8 @@ pub mod Incoming
 pub mod Streams
 -- the marks of a device
 pub mod Device
+-- what tables are hashed with
+pub mod Seeds
 -- the text of each code
 pub mod Codes
 -- what private contracts alone speak of

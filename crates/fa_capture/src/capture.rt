@@ -7,6 +7,7 @@ ghost use Rattle.fa_capture.specs.Reading.{IsRecording};
 
 use crate::fault::CaptureFault;
 use crate::packets::Packets;
+use crate::seed::Seed;
 
 /// A capture: its packets, and the fault of the framing that ends them, if there is one.
 #[derive(Clone, Copy, Debug)]
@@ -16,6 +17,8 @@ pub struct Capture<'a> {
     pub messages: u32,
     /// Why the packets end before the bytes do: no magic, or the first record that fails a check.
     pub fault: Option<CaptureFault>,
+    /// What the tables of what is made of it are hashed with: [`Seed::default`] where [`with_seed`](Capture::with_seed) gave no other.
+    pub seed: Seed,
     // It is the capture of some bytes; its messages are within the limits, and as many as are told.
     pub ghost framed: { IsFramed (without_times packets.records.0) },
     pub ghost of_bytes: { ∥ ((bytes : List ℕ) × IsRecording bytes packets.records.0 fault) ∥₁ },

@@ -22,6 +22,7 @@ mod output;
 mod packet;
 mod packets;
 mod reading;
+mod seed;
 mod walk;
 
 pub use capture::Capture;
@@ -36,4 +37,5 @@ pub use output::{Broken, Output};
 pub use packet::{Direction, Packet};
 pub use packets::Packets;
 pub use reading::{front, read_capture};
+pub use seed::{KeyHasher, Seed};
 pub use walk::Walk;

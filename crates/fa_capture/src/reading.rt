@@ -10,6 +10,7 @@ use crate::codes;
 use crate::fault::CaptureFault;
 use crate::format::Format;
 use crate::packets::Packets;
+use crate::seed::Seed;
 use crate::walk::{Stop, Walk};
 
 impl<'a> Capture<'a> {
@@ -20,6 +21,22 @@ impl<'a> Capture<'a> {
         ensures { records_left result ≡ records_of self.now }
     {
         self.packets
+    }
+
+    /// The same capture, with this seed in the place of its own: the tables of what is made of it are hashed with that.
+    ///
+    /// Takes no memory, in constant time.
+    pub fn with_seed(self, seed: Seed) -> Self
+        ensures same { (bytes : List ℕ) → IsCaptureOf bytes self.entry → IsCaptureOf bytes result }
+        ensures messages { result.messages ≡ self.entry.messages }
+        ensures seeded { result.seed ≡ seed }
+    {
+        Capture {
+            packets: self.packets,
+            messages: self.messages,
+            fault: self.fault,
+            seed,
+        }
     }
 
     /// The capture of bytes, by where the walk over their records stopped.
@@ -35,6 +52,7 @@ impl<'a> Capture<'a> {
             packets,
             messages: stop.so_far.count as u32,
             fault: stop.fault(),
+            seed: Seed::default(),
         }
     }
 
@@ -46,6 +64,7 @@ impl<'a> Capture<'a> {
             packets: Packets::of(Format::Plain, &[]),
             messages: 0,
             fault: Some(NO_MAGIC_FAULT),
+            seed: Seed::default(),
         }
     }
 }

@@ -70,7 +70,7 @@ fn verdict_along(
     ensures never_unknown { (entry at : ℕ) → result ≡ Ok (NotShown entry at UNKNOWN_HERE) → ⊥ }
 {
     let mut placing = Placing::new(alloc, calls)?;
-    let mut replay = Replay::new(alloc, calls);
+    let mut replay = Replay::new(alloc, tree.seed(), calls);
     for entry in order {
         if let Err(error) = placing.place_in(&mut replay, tree, *entry) {
             return told(placing.count, entry.at, error);

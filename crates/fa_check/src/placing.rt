@@ -134,7 +134,7 @@ impl Placing {
         ensures refused { IfErr result (NextFails calls.now tree.old entry self.old) }
         ensures unchanged { OnErr result ((self.new ≡ self.old) × (tree.new ≡ tree.old)) }
     {
-        let mut replay = Replay::new(*self.marks.allocator(), calls);
+        let mut replay = Replay::new(*self.marks.allocator(), tree.seed(), calls);
         self.place_in(&mut replay, tree, entry)
     }
 

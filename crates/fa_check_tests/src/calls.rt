@@ -2,6 +2,7 @@
 //! folder `cases`, as calls of the program.
 
 use fa_bodies::ROOT_ID as ROOT;
+use fa_capture::Seed;
 use fa_capture::codes::BYTES_READ;
 use fa_check::{Verdict, check, cut};
 use fa_ledger::Calls;
@@ -64,7 +65,7 @@ fn written(rt: &impl Abort, alloc: Global) -> Vec<u8> {
 
 /// The verdict on an order of these calls, from a tree of its root alone.
 fn verdict_on(rt: &impl Abort, alloc: Global, calls: &Calls<'_>, order: &[Entry]) -> Verdict {
-    let tree = Tree::empty(alloc, 0o755).expect(rt, "memory");
+    let tree = Tree::empty(alloc, Seed::default(), 0o755).expect(rt, "memory");
     check(alloc, calls, tree, order).expect(rt, "memory")
 }
 
@@ -118,7 +119,7 @@ fn what_is_answered_of_orders(rt: HostRuntime) {
 fn proposed(rt: &impl Abort, alloc: Global) -> Vec<Entry> {
     let bytes = written(rt, alloc);
     let calls = calls_in(alloc, &bytes).expect(rt, "calls");
-    let tree = Tree::empty(alloc, 0o755).expect(rt, "memory");
+    let tree = Tree::empty(alloc, Seed::default(), 0o755).expect(rt, "memory");
     let order = propose(alloc, &calls, tree).expect(rt, "memory");
     drop(calls);
     order

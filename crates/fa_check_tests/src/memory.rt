@@ -1,6 +1,6 @@
 //! A check to which memory is refused.
 
-use fa_capture::Direction;
+use fa_capture::{Direction, Seed};
 use fa_check::{Verdict, check};
 use fa_ledger::Calls;
 use fa_order::Entry;
@@ -49,9 +49,9 @@ static ORDER: &[Entry] = &[
 
 /// A tree of its root alone, asked for again where memory was refused.
 fn empty_again(alloc: Global) -> Option<Tree> {
-    match Tree::empty(alloc, 0o755) {
+    match Tree::empty(alloc, Seed::default(), 0o755) {
         Ok(tree) => Some(tree),
-        Err(_) => Tree::empty(alloc, 0o755).ok(),
+        Err(_) => Tree::empty(alloc, Seed::default(), 0o755).ok(),
     }
 }
 

@@ -104,7 +104,7 @@ pub(crate) fn explain(
     let Some(handle) = used_by(fault) else {
         return Ok(Advice::First);
     };
-    let mut past = Past::new(alloc);
+    let mut past = Past::new(alloc, capture.seed);
     past.ask_for_handle(handle)?;
     past.read(alloc, capture, fault.number)?;
     let node = past.node(handle.node);

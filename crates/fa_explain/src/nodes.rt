@@ -118,7 +118,7 @@ fn unknown(
         return Ok(());
     };
     let other = other_node(&request.body).unwrap_or(ROOT_ID);
-    let mut past = Past::new(alloc);
+    let mut past = Past::new(alloc, capture.seed);
     past.ask_for(request.node)?;
     past.ask_for(other)?;
     past.read(alloc, capture, fault.number)?;
@@ -158,7 +158,7 @@ fn too_often(
     let Some(request) = request_of(fault) else {
         return Ok(());
     };
-    let mut past = Past::new(alloc);
+    let mut past = Past::new(alloc, capture.seed);
     match &request.body {
         RequestBody::BatchForget { items: bytes, .. } => {
             for (node, _) in items(bytes) {

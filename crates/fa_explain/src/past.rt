@@ -5,8 +5,8 @@ use crate::given::{Given, Handle, HandleKind, Opened, node_listed};
 use crate::handles::HandlePast;
 use crate::nodes::NodePast;
 use fa_bodies::{ROOT_ID, Reply, Request, RequestBody, items};
-use fa_capture::Capture;
 use fa_capture::limits::MAX_MESSAGES;
+use fa_capture::{Capture, Seed};
 use fa_session::{Event, Session, SessionError};
 use indexmap::IndexMap;
 use std::alloc::{AllocError, Global};
@@ -14,15 +14,15 @@ use std::alloc::{AllocError, Global};
 /// What the messages so far say of some nodes, and of a file handle.
 #[derive(Drop)]
 pub(crate) struct Past {
-    nodes: IndexMap<u64, NodePast>,
+    nodes: IndexMap<u64, NodePast, Seed>,
     handle: Option<HandlePast>,
 }
 
 impl Past {
     /// No message came, and nothing is asked for.
-    pub fn new(alloc: Global) -> Self {
+    pub fn new(alloc: Global, seed: Seed) -> Self {
         Past {
-            nodes: IndexMap::new(alloc),
+            nodes: IndexMap::with_hasher(alloc, seed),
             handle: None,
         }
     }
@@ -60,7 +60,7 @@ impl Past {
         capture: &Capture<'_>,
         number: u32,
     ) -> Result<(), AllocError> {
-        let mut session = Session::new(alloc);
+        let mut session = Session::new(alloc, capture.seed);
         let mut packets = capture.packets();
         for taken in 0..(number as usize).min(MAX_MESSAGES) {
             let Some(packet) = packets.next() else {

@@ -28,7 +28,7 @@ use crate::name::NodeName;
 use crate::naming::{handle_used, is_closing, is_tree_request, offset_asked, truncates};
 use crate::tables::{Names, Tables, Used};
 use fa_bodies::{Reply, RequestBody};
-use fa_capture::codes;
+use fa_capture::{Seed, codes};
 use fa_session::{Event, ReplyMessages, RequestMessage};
 use std::alloc::Global;
 
@@ -52,15 +52,15 @@ impl<'a> Books<'a> {
     ghost use Rattle.fa_ledger.specs.parts.TableParts.{AreNames, IsUsedIfAny, asked_checks, IsAskedRefusal, IsAnsweredRefusal, IsLedgerRefusal};
 
     /// Books of no events. What they store later takes memory from `alloc`.
-    pub fn new(alloc: Global) -> Self
+    pub fn new(alloc: Global, seed: Seed) -> Self
         ensures { BooksShow [] result }
     {
         Books {
             alloc,
             truncating: false,
-            tables: Tables::new(alloc),
-            listings: Listings::new(alloc),
-            calls: CallList::new(alloc),
+            tables: Tables::new(alloc, seed),
+            listings: Listings::new(alloc, seed),
+            calls: CallList::new(alloc, seed),
         }
     }
 

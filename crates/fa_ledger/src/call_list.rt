@@ -14,6 +14,7 @@ use crate::messages::CallMessages;
 use crate::name::NodeName;
 use crate::row::Row;
 use crate::waiting_places::WaitingPlaces;
+use fa_capture::Seed;
 use std::alloc::{AllocError, Global};
 use std::marker::Model;
 
@@ -53,12 +54,12 @@ impl<'a> Model for CallList<'a> {
 
 impl<'a> CallList<'a> {
     /// No calls. What it stores later takes memory from `alloc`.
-    pub(crate) fn new(alloc: Global) -> Self
+    pub(crate) fn new(alloc: Global, seed: Seed) -> Self
         ensures { result ≡ [] }
     {
         CallList {
             rows: Vec::new(alloc),
-            waiting: WaitingPlaces::new(alloc),
+            waiting: WaitingPlaces::new(alloc, seed),
         }
     }
 

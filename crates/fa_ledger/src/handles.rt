@@ -11,6 +11,7 @@ ghost use Rattle.fa_ledger.specs.parts.Steps.{opened_again, closed_once, opens_n
 use crate::key::Key;
 use bitflags::Flags;
 use fa_bodies::{FopenFlags, OpenOut};
+use fa_capture::Seed;
 use indexmap::IndexMap;
 use std::alloc::{AllocError, Global};
 
@@ -30,16 +31,16 @@ pub(crate) struct Handle {
 /// The keys that are open.
 #[derive(Drop)]
 pub(crate) struct Handles {
-    pub opened: IndexMap<Key, Handle>,
+    pub opened: IndexMap<Key, Handle, Seed>,
 }
 
 impl Handles {
     /// No key is open. The table takes memory from `alloc` later.
-    pub fn new(alloc: Global) -> Self
+    pub fn new(alloc: Global, seed: Seed) -> Self
         ensures { result.opened.entries ≡ [] }
     {
         Handles {
-            opened: IndexMap::new(alloc),
+            opened: IndexMap::with_hasher(alloc, seed),
         }
     }
 

@@ -11,6 +11,7 @@ ghost use Rattle.fa_ledger.specs.Refusals.{IsNext, IsRefusal};
 use crate::books::Books;
 use crate::calls::Calls;
 use crate::error::LedgerError;
+use fa_capture::Seed;
 use fa_session::Event;
 use std::alloc::Global;
 use std::marker::Model;
@@ -38,15 +39,15 @@ impl<'a> Model for Ledger<'a> {
 }
 
 impl<'a> Ledger<'a> {
-    /// A ledger of no messages. What it stores later takes memory from `alloc`.
+    /// A ledger of no messages. What it stores later takes memory from `alloc`, and its tables are hashed with the seed.
     ///
     /// Takes no memory, in constant time.
-    pub fn new(alloc: Global) -> Self
+    pub fn new(alloc: Global, seed: Seed) -> Self
         ensures { Shows [] result }
     {
         Ledger {
             messages: 0,
-            books: Books::new(alloc),
+            books: Books::new(alloc, seed),
         }
     }
 

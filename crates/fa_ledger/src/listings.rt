@@ -13,6 +13,7 @@ ghost use Rattle.fa_ledger.specs.parts.ListingParts.{place_of, listed_shown, not
 use crate::call::Listing;
 use crate::key::Key;
 use fa_bodies::Entries;
+use fa_capture::Seed;
 use indexmap::IndexMap;
 use std::alloc::{AllocError, Global};
 
@@ -43,23 +44,24 @@ pub(crate) struct ListedOn<'a> {
 /// The offsets that were reached on one handle.
 #[derive(Drop)]
 pub(crate) struct Offsets {
-    pub places: IndexMap<u64, Place>,
+    pub places: IndexMap<u64, Place, Seed>,
 }
 
 /// The offsets that were reached, by the keys that are open.
 #[derive(Drop)]
 pub(crate) struct Listings {
     alloc: Global,
-    pub by_key: IndexMap<Key, Offsets>,
+    seed: Seed,
+    pub by_key: IndexMap<Key, Offsets, Seed>,
 }
 
 impl Offsets {
     /// No offset was reached, and there is room for so many.
-    fn with_capacity(alloc: Global, capacity: usize) -> Result<Self, AllocError>
+    fn with_capacity(alloc: Global, seed: Seed, capacity: usize) -> Result<Self, AllocError>
         ensures none { IfOk result (λ offsets. offsets.places.entries ≡ []) }
         ensures room { IfOk result (λ offsets. capacity ≤ spare offsets.places) }
     {
-        let places = IndexMap::with_capacity(alloc, capacity)?;
+        let places = IndexMap::with_capacity_and_hasher(alloc, capacity, seed)?;
         Ok(Offsets { places })
     }
 
@@ -100,12 +102,13 @@ impl Offsets {
 
 impl Listings {
     /// No offset was reached. What is stored later takes memory from `alloc`.
-    pub fn new(alloc: Global) -> Self
+    pub fn new(alloc: Global, seed: Seed) -> Self
         ensures { result.by_key.entries ≡ [] }
     {
         Listings {
             alloc,
-            by_key: IndexMap::new(alloc),
+            seed,
+            by_key: IndexMap::with_hasher(alloc, seed),
         }
     }
 
@@ -188,7 +191,7 @@ impl Listings {
         match self.by_key.get_mut(key) {
             Some(offsets) => offsets.places.reserve(additional),
             None => {
-                let offsets = Offsets::with_capacity(self.alloc, additional)?;
+                let offsets = Offsets::with_capacity(self.alloc, self.seed, additional)?;
                 self.by_key.insert(*key, offsets)?;
                 Ok(())
             }

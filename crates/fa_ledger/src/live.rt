@@ -21,7 +21,7 @@ use crate::name::NodeName;
 use crate::naming::{is_closing, opens_its_node};
 use crate::tables::{Tables, Used};
 use fa_bodies::{OpenOut, Reply, Request, RequestBody};
-use fa_capture::codes;
+use fa_capture::{Seed, codes};
 use fa_session::{Event, ReplyMessages};
 use indexmap::IndexMap;
 use std::alloc::{AllocError, Global};
@@ -35,7 +35,7 @@ pub(crate) struct Live {
     pub tables: Tables,
     /// For each OPEN and OPENDIR that waits for its answer, by the number of its message, the name that its node had when it was
     /// asked.
-    pub opening: IndexMap<u32, NodeName>,
+    pub opening: IndexMap<u32, NodeName, Seed>,
 }
 
 impl Live {
@@ -43,13 +43,13 @@ impl Live {
     ghost use Rattle.fa_ledger.specs.parts.TableParts.{asked_checks, IsAskedRefusal, IsAnsweredRefusal, IsLedgerRefusal, IsUsedIfAny};
 
     /// What is alive before any event: the root. Its tables take memory from `alloc` later.
-    pub fn new(alloc: Global) -> Self
+    pub fn new(alloc: Global, seed: Seed) -> Self
         ensures { LiveShows [] result }
     {
         Live {
             alloc,
-            tables: Tables::new(alloc),
-            opening: IndexMap::new(alloc),
+            tables: Tables::new(alloc, seed),
+            opening: IndexMap::with_hasher(alloc, seed),
         }
     }
 

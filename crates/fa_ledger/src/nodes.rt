@@ -11,7 +11,7 @@ ghost use Rattle.fa_ledger.specs.parts.Steps.{named_by, given_to, given_again, l
 
 use crate::name::NodeName;
 use fa_bodies::{ROOT_ID, items};
-use fa_capture::codes;
+use fa_capture::{Seed, codes};
 use indexmap::IndexMap;
 use std::alloc::{AllocError, Global};
 
@@ -27,16 +27,16 @@ pub(crate) struct Lookups {
 /// The nodes that are known but for the root, which is always known.
 #[derive(Drop)]
 pub(crate) struct Nodes {
-    pub known: IndexMap<u64, Lookups>,
+    pub known: IndexMap<u64, Lookups, Seed>,
 }
 
 impl Nodes {
     /// No node but the root is known. The table takes memory from `alloc` later.
-    pub fn new(alloc: Global) -> Self
+    pub fn new(alloc: Global, seed: Seed) -> Self
         ensures { result.known.entries ≡ [] }
     {
         Nodes {
-            known: IndexMap::new(alloc),
+            known: IndexMap::with_hasher(alloc, seed),
         }
     }
 

@@ -8,6 +8,7 @@ ghost use Rattle.fa_ledger.specs.Standing.{ShowsStanding, IsNextBehind, IsStandi
 
 use crate::error::LedgerError;
 use crate::live::Live;
+use fa_capture::Seed;
 use fa_session::Event;
 use std::alloc::Global;
 use std::marker::Model;
@@ -33,15 +34,16 @@ impl Model for Standing {
 }
 
 impl Standing {
-    /// What stands before any message: the root alone. What it stores later takes memory from `alloc`.
+    /// What stands before any message: the root alone. What it stores later takes memory from `alloc`, and its tables are hashed with the
+    /// seed.
     ///
     /// Takes no memory, in constant time.
-    pub fn new(alloc: Global) -> Self
+    pub fn new(alloc: Global, seed: Seed) -> Self
         ensures { ShowsStanding [] result }
     {
         Standing {
             messages: 0,
-            live: Live::new(alloc),
+            live: Live::new(alloc, seed),
         }
     }
 

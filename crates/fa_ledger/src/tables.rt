@@ -13,7 +13,7 @@ use crate::name::NodeName;
 use crate::naming::{handle_used, nodes_named};
 use crate::nodes::Nodes;
 use fa_bodies::Request;
-use fa_capture::codes;
+use fa_capture::{Seed, codes};
 use std::alloc::Global;
 
 /// The nodes that are known and the keys that are open.
@@ -45,13 +45,13 @@ impl Tables {
     ghost use Rattle.fa_ledger.specs.parts.TableParts.{NodesShow, KeysShow, AreNamesIfAny, IsUsedIfAny};
 
     /// No node but the root is known, and no key is open. Both tables take memory from `alloc` later.
-    pub fn new(alloc: Global) -> Self
+    pub fn new(alloc: Global, seed: Seed) -> Self
         ensures nodes { result.nodes.known.entries ≡ [] }
         ensures keys { result.handles.opened.entries ≡ [] }
     {
         Tables {
-            nodes: Nodes::new(alloc),
-            handles: Handles::new(alloc),
+            nodes: Nodes::new(alloc, seed),
+            handles: Handles::new(alloc, seed),
         }
     }
 

@@ -3,6 +3,7 @@
 ghost use Rattle.std.specs.Prelude.{◌≡◌, ℕ, nat_eq, cond, [], Some, None, OnOk, OnErr};
 ghost use Rattle.std.specs.Map.{lookup};
 
+use fa_capture::Seed;
 use indexmap::IndexMap;
 use std::alloc::{AllocError, Global};
 use std::marker::Model;
@@ -23,7 +24,7 @@ pub(crate) struct WaitingPlaces {
     /// That of the call that was added last, if it waits.
     newest: Option<WaitingPlace>,
     /// Those of the others.
-    earlier: IndexMap<u32, usize>,
+    earlier: IndexMap<u32, usize, Seed>,
 }
 
 impl Model for WaitingPlaces {
@@ -39,15 +40,15 @@ impl Model for WaitingPlaces {
 }
 
 impl WaitingPlaces {
-    /// None. The table takes memory from `alloc` later.
+    /// None. The table takes memory from `alloc` later, and is hashed with the seed.
     ///
     /// Takes no memory, in constant time.
-    pub fn new(alloc: Global) -> Self
+    pub fn new(alloc: Global, seed: Seed) -> Self
         ensures { result ≡ [] }
     {
         WaitingPlaces {
             newest: None,
-            earlier: IndexMap::new(alloc),
+            earlier: IndexMap::with_hasher(alloc, seed),
         }
     }
 

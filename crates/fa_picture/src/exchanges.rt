@@ -2,7 +2,7 @@
 
 use crate::fault::Fault;
 use fa_bodies::{Request, opcodes};
-use fa_capture::{Capture, Direction, Packet};
+use fa_capture::{Capture, Direction, Packet, Seed};
 use fa_show::{Fate, Line, message_in, request_in};
 use indexmap::IndexMap;
 use std::alloc::{AllocError, Global};
@@ -35,7 +35,7 @@ impl Exchanges {
             partners: Vec::new(alloc),
             fault,
         };
-        let mut waiting = IndexMap::new(alloc);
+        let mut waiting = IndexMap::with_hasher(alloc, capture.seed);
         for packet in capture.packets() {
             match packet.direction {
                 Direction::ToServer => exchanges.ask(&packet, &mut waiting)?,
@@ -49,7 +49,7 @@ impl Exchanges {
     fn ask(
         &mut self,
         packet: &Packet<'_>,
-        waiting: &mut IndexMap<u64, u32>,
+        waiting: &mut IndexMap<u64, u32, Seed>,
     ) -> Result<(), AllocError> {
         let number = self.begin(None)?;
         if self.fault.refusal(number).is_some() {
@@ -65,7 +65,7 @@ impl Exchanges {
     fn answer(
         &mut self,
         packet: &Packet<'_>,
-        waiting: &mut IndexMap<u64, u32>,
+        waiting: &mut IndexMap<u64, u32, Seed>,
     ) -> Result<(), AllocError> {
         let Some(told) = message_in(packet) else {
             self.begin(None)?;

@@ -53,7 +53,7 @@ fn guess(alloc: Global, calls: &Calls<'_>, tree: &mut Tree) -> Result<Vec<Entry>
     ensures { IfOk result (λ order. (c : List Message) → AreMessagesOf calls.now c → IsProposal c tree.old order.items) }
 {
     let mut placing = Placing::new(alloc, calls)?;
-    let mut replay = Replay::new(alloc, calls);
+    let mut replay = Replay::new(alloc, tree.seed(), calls);
     let mut ready = Ready::new(alloc);
     let mut order = Vec::new(alloc);
     while placing.front() < calls.messages as usize {

@@ -17,7 +17,7 @@ use fa_audit::{
     AuditError, MAX_CAPTURE_INPUT_BYTES, MAX_TEXT_INPUT_BYTES, RunFault, StartError, Status,
     audit_capture, entries_of, input_bytes, line_and_status, proposed, start,
 };
-use fa_capture::{Capture, Input, Output, read_capture};
+use fa_capture::{Capture, Input, Output, Seed, read_capture};
 use fa_check::Verdict;
 use fa_explain::{fault_reasons, order_text_reasons, tree_text_reasons};
 use fa_explain_order::{AllOrders, OrderReasons, Search, order_reasons};
@@ -44,7 +44,8 @@ pub struct Explanation {
 ///
 /// Where no order is handed in, it is the one that [`proposal`](fa_audit::proposal) gives, if there is one. Where requests overlapped, the
 /// lines say whether another order explains the answer, if a search of all of them finds that out with 100,000 steps, 4,096 trees and 32
-/// MiB. What they say, and that there are any, no clause says. The tree text and the order text have at most 268,435,456 bytes each.
+/// MiB. What they say, and that there are any, no clause says. The tree text and the order text have at most 268,435,456 bytes each. Tables
+/// are hashed with the seed.
 ///
 /// # Errors
 ///
@@ -57,6 +58,7 @@ pub struct Explanation {
 /// search.
 pub fn explain(
     alloc: Global,
+    seed: Seed,
     capture: &[u8],
     tree: Option<&[u8]>,
     order: Option<&[u8]>,
@@ -68,7 +70,7 @@ pub fn explain(
     // A code that is told has a text.
     ensures codes { IfOk result (λ told. IfOk told.answer IsCoded) }
 {
-    let parsed = read_capture(capture);
+    let parsed = read_capture(capture).with_seed(seed);
     match order {
         Some(order) => explain_order(alloc, capture, &parsed, tree, order),
         None => {
@@ -267,6 +269,7 @@ pub(crate) fn tell_with_reasons<W: Output>(
 /// Reads the capture, and tells what is answered of it and of the order that is proposed, from an empty root, and why.
 fn explain_proposal_on_empty_root<R: Input, W: Output>(
     alloc: Global,
+    seed: Seed,
     capture: &mut R,
     out: &mut W,
 ) -> Result<u8, RunFault>
@@ -284,13 +287,14 @@ fn explain_proposal_on_empty_root<R: Input, W: Output>(
     ensures refused { IsErrOf result RunFault.Memory → Keeps (W.written out.old) (W.written out.new) }
 {
     let capture = input_bytes(alloc, capture, MAX_CAPTURE_INPUT_BYTES)?;
-    let explanation = explain(alloc, &capture, None, None)?;
+    let explanation = explain(alloc, seed, &capture, None, None)?;
     tell_explanation(alloc, explanation, out)
 }
 
 /// Reads the capture and then the tree, and tells what is answered of them and of the order that is proposed, and why.
 fn explain_proposal_on_tree<R: Input, W: Output>(
     alloc: Global,
+    seed: Seed,
     capture: &mut R,
     tree: &mut R,
     out: &mut W,
@@ -314,13 +318,14 @@ fn explain_proposal_on_tree<R: Input, W: Output>(
 {
     let capture = input_bytes(alloc, capture, MAX_CAPTURE_INPUT_BYTES)?;
     let tree = input_bytes(alloc, tree, MAX_TEXT_INPUT_BYTES)?;
-    let explanation = explain(alloc, &capture, Some(&tree), None)?;
+    let explanation = explain(alloc, seed, &capture, Some(&tree), None)?;
     tell_explanation(alloc, explanation, out)
 }
 
 /// Reads the capture and then the order, and tells what is answered of them from an empty root, and why.
 fn explain_order_on_empty_root<R: Input, W: Output>(
     alloc: Global,
+    seed: Seed,
     capture: &mut R,
     order: &mut R,
     out: &mut W,
@@ -344,13 +349,14 @@ fn explain_order_on_empty_root<R: Input, W: Output>(
 {
     let capture = input_bytes(alloc, capture, MAX_CAPTURE_INPUT_BYTES)?;
     let order = input_bytes(alloc, order, MAX_TEXT_INPUT_BYTES)?;
-    let explanation = explain(alloc, &capture, None, Some(&order))?;
+    let explanation = explain(alloc, seed, &capture, None, Some(&order))?;
     tell_explanation(alloc, explanation, out)
 }
 
 /// Reads the capture, the tree and then the order, and tells what is answered of them, and why.
 fn explain_order_on_tree<R: Input, W: Output>(
     alloc: Global,
+    seed: Seed,
     capture: &mut R,
     tree: &mut R,
     order: &mut R,
@@ -380,17 +386,17 @@ fn explain_order_on_tree<R: Input, W: Output>(
     let capture = input_bytes(alloc, capture, MAX_CAPTURE_INPUT_BYTES)?;
     let tree = input_bytes(alloc, tree, MAX_TEXT_INPUT_BYTES)?;
     let order = input_bytes(alloc, order, MAX_TEXT_INPUT_BYTES)?;
-    let explanation = explain(alloc, &capture, Some(&tree), Some(&order))?;
+    let explanation = explain(alloc, seed, &capture, Some(&tree), Some(&order))?;
     tell_explanation(alloc, explanation, out)
 }
 
 /// Says why the audit answers as it does: reads the capture, the tree if one is handed in, and the order if one is, and writes the line of
 /// the audit's answer and the lines of its reasons: the status of the answer.
 ///
-/// Where no order is handed in it is the one that is proposed. The line and the statuses are those of [`run`](fa_audit::run), of a capture of at
-/// most [`MAX_CAPTURE_INPUT_BYTES`] bytes. All inputs are read to their ends before anything is judged. What is written behind the line is
+/// Where no order is handed in it is the one that is proposed. The line and the statuses are those of [`run`](fa_audit::run), of a capture of
+/// at most [`MAX_CAPTURE_INPUT_BYTES`] bytes. All inputs are read to their ends before anything is judged. What is written behind the line is
 /// printing ASCII and line feeds alone, whatever the capture holds; what it says, and that there is anything, no clause says. Line and
-/// reasons are two puts. No mark of an input or of the output is set at the call.
+/// reasons are two puts. Tables are hashed with the seed. No mark of an input or of the output is set at the call.
 ///
 /// Which bytes were read and written is said where the inputs and the output tell their bytes, as those over memory do. Files and
 /// standard output do not: of a call on them it is said alone that the status is that of an answer on some bytes.
@@ -409,6 +415,7 @@ fn explain_order_on_tree<R: Input, W: Output>(
 /// That of [`read_all`](fa_capture::read_all) for each input, and of [`explain`].
 pub fn run_explain<R: Input, W: Output>(
     alloc: Global,
+    seed: Seed,
     capture: &mut R,
     tree: Option<&mut R>,
     order: Option<&mut R>,
@@ -452,12 +459,12 @@ pub fn run_explain<R: Input, W: Output>(
 {
     let Some(tree) = tree else {
         return match order {
-            None => explain_proposal_on_empty_root(alloc, capture, out),
-            Some(order) => explain_order_on_empty_root(alloc, capture, order, out),
+            None => explain_proposal_on_empty_root(alloc, seed, capture, out),
+            Some(order) => explain_order_on_empty_root(alloc, seed, capture, order, out),
         };
     };
     let Some(order) = order else {
-        return explain_proposal_on_tree(alloc, capture, tree, out);
+        return explain_proposal_on_tree(alloc, seed, capture, tree, out);
     };
-    explain_order_on_tree(alloc, capture, tree, order, out)
+    explain_order_on_tree(alloc, seed, capture, tree, order, out)
 }

@@ -16,7 +16,7 @@ use fa_audit::{
     Judgement, MAX_CAPTURE_INPUT_BYTES, MAX_TEXT_INPUT_BYTES, RunFault, StartError, input_bytes,
     judged, judged_lines_and_status, start,
 };
-use fa_capture::{Capture, Input, Output, read_capture};
+use fa_capture::{Capture, Input, Output, Seed, read_capture};
 use fa_check::Verdict;
 use fa_explain::{fault_reasons, tree_text_reasons};
 use fa_explain_order::{
@@ -49,7 +49,8 @@ pub struct ExplainedJudgement {
 /// [`explain`](crate::explain) says of it; where no order is legal, what is asked and answered at the reply past which none goes, and what
 /// differs there on each tree that was alive; and for a legal order which requests were never answered.
 ///
-/// What the lines say, and that there are any, no clause says. The tree text has at most 268,435,456 bytes.
+/// What the lines say, and that there are any, no clause says. The tree text has at most 268,435,456 bytes. Tables are hashed with the
+/// seed.
 ///
 /// # Errors
 ///
@@ -60,6 +61,7 @@ pub struct ExplainedJudgement {
 /// Twice that of [`judge_capture`](fa_audit::judge_capture); and of [`fault_reasons`], [`order_reasons`] or [`no_order_reasons`].
 pub fn explain_judgement<L: Listener>(
     alloc: Global,
+    seed: Seed,
     capture: &[u8],
     tree: Option<&[u8]>,
     budget: Budget,
@@ -72,7 +74,7 @@ pub fn explain_judgement<L: Listener>(
     ensures codes { IfOk result (λ told. IfOk told.answer IsCodedJudgement) }
     ensures fault_codes { IfOk result (λ told. IfErr told.answer (λ error. IfOk (answer_of error) IsCoded)) }
 {
-    let parsed = read_capture(capture);
+    let parsed = read_capture(capture).with_seed(seed);
     let answer = judged(alloc, &parsed, tree, budget, listener);
     let Reasons { text, entries } = reasons_for(alloc, capture, &parsed, tree, budget, &answer)?;
     Ok(ExplainedJudgement {
@@ -282,6 +284,7 @@ fn apart(reasons: &[u8]) -> &[u8]
 /// Reads the capture, and tells what is judged on an empty root, and why.
 fn explained_on_empty_root<R: Input, L: Listener, W: Output>(
     alloc: Global,
+    seed: Seed,
     capture: &mut R,
     budget: Budget,
     listener: &mut L,
@@ -301,13 +304,14 @@ fn explained_on_empty_root<R: Input, L: Listener, W: Output>(
     ensures refused { IsErrOf result RunFault.Memory → Keeps (W.written out.old) (W.written out.new) }
 {
     let capture = input_bytes(alloc, capture, MAX_CAPTURE_INPUT_BYTES)?;
-    let explained = explain_judgement(alloc, &capture, None, budget, listener)?;
+    let explained = explain_judgement(alloc, seed, &capture, None, budget, listener)?;
     tell_explained(alloc, explained, out)
 }
 
 /// Reads the capture and then the tree, and tells what is judged on that tree, and why.
 fn explained_on_tree<R: Input, L: Listener, W: Output>(
     alloc: Global,
+    seed: Seed,
     capture: &mut R,
     tree: &mut R,
     budget: Budget,
@@ -333,7 +337,7 @@ fn explained_on_tree<R: Input, L: Listener, W: Output>(
 {
     let capture = input_bytes(alloc, capture, MAX_CAPTURE_INPUT_BYTES)?;
     let tree = input_bytes(alloc, tree, MAX_TEXT_INPUT_BYTES)?;
-    let explained = explain_judgement(alloc, &capture, Some(&tree), budget, listener)?;
+    let explained = explain_judgement(alloc, seed, &capture, Some(&tree), budget, listener)?;
     tell_explained(alloc, explained, out)
 }
 
@@ -342,9 +346,9 @@ fn explained_on_tree<R: Input, L: Listener, W: Output>(
 ///
 /// The lines and the statuses are those of [`run_judge`](fa_audit::run_judge), of a capture of at most [`MAX_CAPTURE_INPUT_BYTES`] bytes. All
 /// inputs are read to their ends before anything is judged. What is written behind the lines of the answer is printing ASCII and line feeds
-/// alone, whatever the capture holds, and begins as no line of an answer; what it says, and that there is anything, no clause says. The
-/// lines of the answer and the reasons are two puts. The listener is told how far each search for the answer has come. No mark of an input
-/// or of the output is set at the call.
+/// alone, whatever the capture holds, and begins as no line of an answer; what it says, and that there is anything, no clause says. The lines
+/// of the answer and the reasons are two puts. The listener is told how far each search for the answer has come. Tables are hashed with the
+/// seed. No mark of an input or of the output is set at the call.
 ///
 /// Which bytes were read and written is said where the inputs and the output tell their bytes, as those over memory do. Files and
 /// standard output do not: of a call on them it is said alone that the status is that of an answer on some bytes.
@@ -363,6 +367,7 @@ fn explained_on_tree<R: Input, L: Listener, W: Output>(
 /// That of [`read_all`](fa_capture::read_all) for each input, and of [`explain_judgement`].
 pub fn run_explained_judge<R: Input, L: Listener, W: Output>(
     alloc: Global,
+    seed: Seed,
     capture: &mut R,
     tree: Option<&mut R>,
     budget: Budget,
@@ -398,7 +403,7 @@ pub fn run_explained_judge<R: Input, L: Listener, W: Output>(
     ensures refused { IsErrOf result RunFault.Memory → Keeps (W.written out.old) (W.written out.new) }
 {
     match tree {
-        None => explained_on_empty_root(alloc, capture, budget, listener, out),
-        Some(tree) => explained_on_tree(alloc, capture, tree, budget, listener, out),
+        None => explained_on_empty_root(alloc, seed, capture, budget, listener, out),
+        Some(tree) => explained_on_tree(alloc, seed, capture, tree, budget, listener, out),
     }
 }

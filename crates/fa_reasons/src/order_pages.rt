@@ -16,7 +16,7 @@ use fa_audit::{
     MAX_CAPTURE_INPUT_BYTES, MAX_TEXT_INPUT_BYTES, RunFault, Status, entries_of, input_bytes,
     line_and_status,
 };
-use fa_capture::{Input, Output, read_capture};
+use fa_capture::{Input, Output, Seed, read_capture};
 use fa_check::Verdict;
 use fa_order::Entry;
 use fa_picture::{Subject, View, picture};
@@ -83,6 +83,7 @@ fn judged_entries(alloc: Global, order: &[u8], verdict: Verdict) -> Result<Vec<E
 /// Audits an order, and writes the page of the answer: its status.
 fn tell_page<W: Output>(
     alloc: Global,
+    seed: Seed,
     capture: &[u8],
     tree: Option<&[u8]>,
     order: &[u8],
@@ -97,14 +98,14 @@ fn tell_page<W: Output>(
     ensures read { IsErrOf result RunFault.Read → ⊥ }
     ensures write { IsErrOf result RunFault.Write ↔ (W.is_broken out.new ≡ true) }
 {
-    let explanation = explain(alloc, capture, tree, Some(order))?;
+    let explanation = explain(alloc, seed, capture, tree, Some(order))?;
     let Ok(verdict) = explanation.answer else {
         return tell_explanation(alloc, explanation, out);
     };
     let (line, status) = line_and_status(alloc, Ok(verdict))?;
     let entries = judged_entries(alloc, order, verdict)?;
     let subject = Subject {
-        capture: read_capture(capture),
+        capture: read_capture(capture).with_seed(seed),
         order: &entries,
         fault: fault_of(verdict),
     };
@@ -115,6 +116,7 @@ fn tell_page<W: Output>(
 /// Reads the capture and then the order, and writes the page of the answer from an empty root.
 fn page_on_empty_root<R: Input, W: Output>(
     alloc: Global,
+    seed: Seed,
     capture: &mut R,
     order: &mut R,
     page: &OrderPage<'_>,
@@ -139,12 +141,13 @@ fn page_on_empty_root<R: Input, W: Output>(
 {
     let capture = input_bytes(alloc, capture, MAX_CAPTURE_INPUT_BYTES)?;
     let order = input_bytes(alloc, order, MAX_TEXT_INPUT_BYTES)?;
-    tell_page(alloc, &capture, None, &order, page, out)
+    tell_page(alloc, seed, &capture, None, &order, page, out)
 }
 
 /// Reads the capture, the tree and then the order, and writes the page of the answer.
 fn page_on_tree<R: Input, W: Output>(
     alloc: Global,
+    seed: Seed,
     capture: &mut R,
     tree: &mut R,
     order: &mut R,
@@ -175,7 +178,7 @@ fn page_on_tree<R: Input, W: Output>(
     let capture = input_bytes(alloc, capture, MAX_CAPTURE_INPUT_BYTES)?;
     let tree = input_bytes(alloc, tree, MAX_TEXT_INPUT_BYTES)?;
     let order = input_bytes(alloc, order, MAX_TEXT_INPUT_BYTES)?;
-    tell_page(alloc, &capture, Some(&tree), &order, page, out)
+    tell_page(alloc, seed, &capture, Some(&tree), &order, page, out)
 }
 
 /// Audits an order, and writes the picture or the report of its answer: reads the capture, the tree if one is handed in, and the order, and
@@ -185,7 +188,8 @@ fn page_on_tree<R: Input, W: Output>(
 /// [`picture`] with the order, if that was judged, and the report is that of [`report`], with the reasons of [`explain`]. Where a text is not
 /// in its grammar there is none: what [`run_explain`](crate::run_explain) writes stands in its place, with the status of the answer. All
 /// inputs are read to their ends before anything is judged. What is written is printing ASCII and line feeds alone, whatever the capture
-/// holds; what a page says, and that there is anything, no clause says. No mark of an input or of the output is set at the call.
+/// holds; what a page says, and that there is anything, no clause says. Tables are hashed with the seed. No mark of an input or of the output
+/// is set at the call.
 ///
 /// Which bytes were read and written is said where the inputs and the output tell their bytes, as those over memory do. Files and
 /// standard output do not: of a call on them it is said alone that the status is due to an answer on some bytes.
@@ -204,6 +208,7 @@ fn page_on_tree<R: Input, W: Output>(
 /// That of [`read_all`](fa_capture::read_all) for each input, of [`explain`], and of [`picture`] or [`report`].
 pub fn run_order_page<R: Input, W: Output>(
     alloc: Global,
+    seed: Seed,
     capture: &mut R,
     tree: Option<&mut R>,
     order: &mut R,
@@ -246,7 +251,7 @@ pub fn run_order_page<R: Input, W: Output>(
     ensures refused { IsErrOf result RunFault.Memory → Keeps (W.written out.old) (W.written out.new) }
 {
     match tree {
-        None => page_on_empty_root(alloc, capture, order, page, out),
-        Some(tree) => page_on_tree(alloc, capture, tree, order, page, out),
+        None => page_on_empty_root(alloc, seed, capture, order, page, out),
+        Some(tree) => page_on_tree(alloc, seed, capture, tree, order, page, out),
     }
 }

@@ -10,7 +10,7 @@ use crate::pages::{fault_of, tell_text};
 use fa_audit::{
     MAX_CAPTURE_INPUT_BYTES, RunFault, StartError, Status, input_bytes, start, verdict_text,
 };
-use fa_capture::{Capture, Input, Output, read_capture};
+use fa_capture::{Capture, Input, Output, Seed, read_capture};
 use fa_check::Verdict;
 use fa_picture::{Fault, Subject, View, picture};
 use fa_show::Text;
@@ -21,7 +21,8 @@ use std::alloc::{AllocError, Global};
 ///
 /// The picture is that of [`picture`], without an order. Where the capture has a fault, its line stands above, and a message at fault is red.
 /// What is written is printing ASCII and line feeds alone, whatever the capture holds; what is drawn, and that there is anything, no clause
-/// says. The input is read to its end before anything is written. No mark of the input or of the output is set at the call.
+/// says. The input is read to its end before anything is written. Tables are hashed with the seed. No mark of the input or of the output is
+/// set at the call.
 ///
 /// Which bytes were read and written is said where the input and the output tell their bytes, as those over memory do. Files and
 /// standard output do not: of a call on them it is said alone how it ends.
@@ -39,6 +40,7 @@ use std::alloc::{AllocError, Global};
 /// That of [`read_all`](fa_capture::read_all), of judging the messages and of [`picture`].
 pub fn run_picture<R: Input, W: Output>(
     alloc: Global,
+    seed: Seed,
     capture: &mut R,
     view: View,
     out: &mut W,
@@ -63,13 +65,13 @@ pub fn run_picture<R: Input, W: Output>(
     ensures refused { IsErrOf result RunFault.Memory → Keeps (W.written out.old) (W.written out.new) }
 {
     let bytes = input_bytes(alloc, capture, MAX_CAPTURE_INPUT_BYTES)?;
-    let text = drawn(alloc, &bytes, view)?;
+    let text = drawn(alloc, seed, &bytes, view)?;
     tell_text(&text, Status::Legal, out)
 }
 
 /// The picture of the capture that these bytes are.
-fn drawn(alloc: Global, bytes: &[u8], view: View) -> Result<Text, AllocError> {
-    let capture = read_capture(bytes);
+fn drawn(alloc: Global, seed: Seed, bytes: &[u8], view: View) -> Result<Text, AllocError> {
+    let capture = read_capture(bytes).with_seed(seed);
     match start(alloc, &capture, None) {
         Ok(_) => picture(alloc, &without_order(capture, Fault::Nothing), None, view),
         Err(StartError::Fault { at, code }) => {

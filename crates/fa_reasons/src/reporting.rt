@@ -19,7 +19,7 @@ use fa_audit::{
     Judgement, MAX_CAPTURE_INPUT_BYTES, MAX_TEXT_INPUT_BYTES, RunFault, StartError, Status,
     input_bytes, judged_line_and_status, shortest_text, verdict_text,
 };
-use fa_capture::{Capture, Input, Output, read_capture};
+use fa_capture::{Capture, Input, Output, Seed, read_capture};
 use fa_check::Verdict;
 use fa_order::Entry;
 use fa_picture::{Exchanges, Fault, Subject, View};
@@ -132,7 +132,7 @@ impl Told<'_> {
 /// Writes the report on a capture of which this is judged: the status of what is judged.
 fn tell_judged<W: Output>(
     alloc: Global,
-    bytes: &[u8],
+    capture: Capture<'_>,
     explained: &ExplainedJudgement,
     judgement: Judgement,
     shown: ReportView<'_>,
@@ -151,14 +151,14 @@ fn tell_judged<W: Output>(
         reasons: &explained.reasons,
         shown,
     };
-    let text = told.judged(alloc, read_capture(bytes), &explained.entries, judgement)?;
+    let text = told.judged(alloc, capture, &explained.entries, judgement)?;
     tell_text(&text, status, out)
 }
 
 /// Writes the report on a capture with this fault: the status of the fault.
 fn tell_faulty<W: Output>(
     alloc: Global,
-    bytes: &[u8],
+    capture: Capture<'_>,
     explained: &ExplainedJudgement,
     fault: Verdict,
     shown: ReportView<'_>,
@@ -177,14 +177,14 @@ fn tell_faulty<W: Output>(
         reasons: &explained.reasons,
         shown,
     };
-    let text = told.faulty(alloc, read_capture(bytes), fault)?;
+    let text = told.faulty(alloc, capture, fault)?;
     tell_text(&text, Status::Fault, out)
 }
 
 /// Writes the report where there is no start for an order: the status of the answer that says so.
 fn tell_no_start<W: Output>(
     alloc: Global,
-    bytes: &[u8],
+    capture: Capture<'_>,
     explained: ExplainedJudgement,
     error: StartError,
     shown: ReportView<'_>,
@@ -201,7 +201,7 @@ fn tell_no_start<W: Output>(
     match error {
         StartError::Fault { at, code } => {
             let fault = Verdict::Fault { at, code };
-            tell_faulty(alloc, bytes, &explained, fault, shown, out)
+            tell_faulty(alloc, capture, &explained, fault, shown, out)
         }
         StartError::TreeText { .. } => tell_explained(alloc, explained, out),
         StartError::Memory => Err(RunFault::Memory),
@@ -211,6 +211,7 @@ fn tell_no_start<W: Output>(
 /// Judges a capture, and writes the report on it: the status of the answer.
 fn tell_report<L: Listener, W: Output>(
     alloc: Global,
+    seed: Seed,
     bytes: &[u8],
     tree: Option<&[u8]>,
     budget: Budget,
@@ -225,10 +226,11 @@ fn tell_report<L: Listener, W: Output>(
     ensures read { IsErrOf result RunFault.Read → ⊥ }
     ensures write { IsErrOf result RunFault.Write ↔ (W.is_broken out.new ≡ true) }
 {
-    let explained = explain_judgement(alloc, bytes, tree, budget, listener)?;
+    let explained = explain_judgement(alloc, seed, bytes, tree, budget, listener)?;
+    let capture = read_capture(bytes).with_seed(seed);
     match explained.answer {
-        Ok(judgement) => tell_judged(alloc, bytes, &explained, judgement, shown, out),
-        Err(error) => tell_no_start(alloc, bytes, explained, error, shown, out),
+        Ok(judgement) => tell_judged(alloc, capture, &explained, judgement, shown, out),
+        Err(error) => tell_no_start(alloc, capture, explained, error, shown, out),
     }
 }
 
@@ -266,6 +268,7 @@ fn reasons_with_shortest(alloc: Global, reasons: &Text, messages: u32) -> Result
 /// Reads the capture, and writes the report on what is judged on an empty root.
 fn reported_on_empty_root<R: Input, L: Listener, W: Output>(
     alloc: Global,
+    seed: Seed,
     capture: &mut R,
     budget: Budget,
     listener: &mut L,
@@ -285,12 +288,13 @@ fn reported_on_empty_root<R: Input, L: Listener, W: Output>(
     ensures refused { IsErrOf result RunFault.Memory → Keeps (W.written out.old) (W.written out.new) }
 {
     let capture = input_bytes(alloc, capture, MAX_CAPTURE_INPUT_BYTES)?;
-    tell_report(alloc, &capture, None, budget, listener, shown, out)
+    tell_report(alloc, seed, &capture, None, budget, listener, shown, out)
 }
 
 /// Reads the capture and then the tree, and writes the report on what is judged on that tree.
 fn reported_on_tree<R: Input, L: Listener, W: Output>(
     alloc: Global,
+    seed: Seed,
     capture: &mut R,
     tree: &mut R,
     budget: Budget,
@@ -316,19 +320,28 @@ fn reported_on_tree<R: Input, L: Listener, W: Output>(
 {
     let capture = input_bytes(alloc, capture, MAX_CAPTURE_INPUT_BYTES)?;
     let tree = input_bytes(alloc, tree, MAX_TEXT_INPUT_BYTES)?;
-    tell_report(alloc, &capture, Some(&tree), budget, listener, shown, out)
+    tell_report(
+        alloc,
+        seed,
+        &capture,
+        Some(&tree),
+        budget,
+        listener,
+        shown,
+        out,
+    )
 }
 
 /// Judges a capture by a search of all its orders, and writes the report on it: reads the capture, and the tree if one is handed in, and
 /// writes the page: the status of the answer.
 ///
-/// The answer and the statuses are those of [`run_judge`](fa_audit::run_judge), of a capture of at most [`MAX_CAPTURE_INPUT_BYTES`] bytes. The
-/// report is that of [`report`], with the reasons of [`explain_judgement`]; in its picture stand the places of the order that was found, or
-/// of entries that explain all replies before the one past which no order goes: those that lead to the first tree in the reasons. Where the
-/// tree text is not in its grammar there is none: what [`run_explained_judge`](crate::run_explained_judge) writes stands in its place. All
-/// inputs are read to their ends before anything is judged. What is written is printing ASCII and line feeds alone, whatever the capture
+/// The answer and the statuses are those of [`run_judge`](fa_audit::run_judge), of a capture of at most [`MAX_CAPTURE_INPUT_BYTES`] bytes.
+/// The report is that of [`report`], with the reasons of [`explain_judgement`]; in its picture stand the places of the order that was found,
+/// or of entries that explain all replies before the one past which no order goes: those that lead to the first tree in the reasons. Where
+/// the tree text is not in its grammar there is none: what [`run_explained_judge`](crate::run_explained_judge) writes stands in its place.
+/// All inputs are read to their ends before anything is judged. What is written is printing ASCII and line feeds alone, whatever the capture
 /// holds; what a report says, and that there is anything, no clause says. The listener is told how far each search for the answer has come.
-/// No mark of an input or of the output is set at the call.
+/// Tables are hashed with the seed. No mark of an input or of the output is set at the call.
 ///
 /// Which bytes were read and written is said where the inputs and the output tell their bytes, as those over memory do. Files and
 /// standard output do not: of a call on them it is said alone that the status is that of an answer on some bytes.
@@ -347,6 +360,7 @@ fn reported_on_tree<R: Input, L: Listener, W: Output>(
 /// That of [`read_all`](fa_capture::read_all) for each input, of [`explain_judgement`] and of [`report`].
 pub fn run_report<R: Input, L: Listener, W: Output>(
     alloc: Global,
+    seed: Seed,
     capture: &mut R,
     tree: Option<&mut R>,
     budget: Budget,
@@ -382,7 +396,7 @@ pub fn run_report<R: Input, L: Listener, W: Output>(
     ensures refused { IsErrOf result RunFault.Memory → Keeps (W.written out.old) (W.written out.new) }
 {
     match tree {
-        None => reported_on_empty_root(alloc, capture, budget, listener, shown, out),
-        Some(tree) => reported_on_tree(alloc, capture, tree, budget, listener, shown, out),
+        None => reported_on_empty_root(alloc, seed, capture, budget, listener, shown, out),
+        Some(tree) => reported_on_tree(alloc, seed, capture, tree, budget, listener, shown, out),
     }
 }

@@ -3,6 +3,7 @@
 use crate::case::Case;
 use crate::listings::gives_node;
 use fa_bodies::Entries;
+use fa_capture::Seed;
 use fa_ledger::{Action, List, NodeName, Operation, Outcome};
 use fa_tree::{FileId, Tree};
 use indexmap::IndexMap;
@@ -63,7 +64,7 @@ fn other_listed<'c>(
     let Some(directory) = directory_listed(tree, case) else {
         return Ok(None);
     };
-    let mut fresh = IndexMap::new(alloc);
+    let mut fresh = IndexMap::with_hasher(alloc, tree.seed());
     other_among(tree, case, directory, *entries, &mut fresh)
 }
 
@@ -73,7 +74,7 @@ fn other_among<'c>(
     case: &Case<'_>,
     directory: FileId,
     entries: Entries<'c>,
-    fresh: &mut IndexMap<NodeName, FileId>,
+    fresh: &mut IndexMap<NodeName, FileId, Seed>,
 ) -> Result<Option<Binding<'c>>, AllocError> {
     let mut given: usize = 0;
     for dirent in entries {
@@ -110,7 +111,11 @@ fn node_given(case: &Case<'_>, place: usize) -> Option<NodeName> {
 }
 
 /// The file that a node stands for, or was given for by an entry before.
-fn stands_for(tree: &Tree, fresh: &IndexMap<NodeName, FileId>, node: &NodeName) -> Option<FileId> {
+fn stands_for(
+    tree: &Tree,
+    fresh: &IndexMap<NodeName, FileId, Seed>,
+    node: &NodeName,
+) -> Option<FileId> {
     match tree.file_of(node) {
         Some(file) => Some(file),
         None => fresh.get(node).copied(),

@@ -4,6 +4,7 @@ use crate::case::Case;
 use crate::found::Found;
 use crate::history::History;
 use fa_bodies::{Dirent, Entries, MAX_NAME};
+use fa_capture::Seed;
 use fa_ledger::{Calls, List, Operation, Outcome};
 use fa_tree::{FileId, Kind, OpenedDirectory, Tree};
 use indexmap::IndexMap;
@@ -67,7 +68,7 @@ pub struct Listing<'a, 't> {
 /// What is listed so far: each name whose file stayed, with the request whose answer lists it last.
 #[derive(Drop)]
 struct SoFar<'a> {
-    names: IndexMap<&'a [u8], u32>,
+    names: IndexMap<&'a [u8], u32, Seed>,
 }
 
 impl<'a> SoFar<'a> {
@@ -161,7 +162,7 @@ pub(crate) fn listing_of<'a, 't>(
     let pieces = pieces_before(alloc, calls, case)?;
     let mut listing = Listing::empty(alloc, opened.directory());
     let mut so_far = SoFar {
-        names: IndexMap::new(alloc),
+        names: IndexMap::with_hasher(alloc, tree.seed()),
     };
     match listing.note_all(alloc, tree, opened, case, &pieces, &mut so_far) {
         Ok(()) => Ok(listing),
@@ -348,7 +349,7 @@ fn missing_names<'t>(
     opened: &OpenedDirectory<'t>,
 ) -> Result<Vec<&'t [u8]>, AllocError> {
     let mut missing = Vec::new(alloc);
-    let mut found = IndexMap::new(alloc);
+    let mut found = IndexMap::with_hasher(alloc, *so_far.names.hasher());
     for _ in 0..MOST_MISSING {
         let Some(name) = next_missing(opened, so_far, &found) else {
             break;
@@ -364,7 +365,7 @@ fn missing_names<'t>(
 fn next_missing<'t>(
     opened: &OpenedDirectory<'t>,
     so_far: &SoFar<'_>,
-    found: &IndexMap<&'t [u8], ()>,
+    found: &IndexMap<&'t [u8], (), Seed>,
 ) -> Option<&'t [u8]> {
     let names = &so_far.names;
     opened.find_stayed(|name| !names.contains_key(&name) && !found.contains_key(&name))

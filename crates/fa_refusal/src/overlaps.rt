@@ -141,7 +141,7 @@ fn first_beside(
     tree: &Tree,
     case: &Case<'_>,
 ) -> Result<Vec<Beside>, AllocError> {
-    let mut replay = Replay::new(refused.alloc, refused.calls);
+    let mut replay = Replay::new(refused.alloc, tree.seed(), refused.calls);
     let mut beside = Vec::new(refused.alloc);
     for place in 0..refused.calls.list.len() {
         let Some(other) = Case::at(refused.calls, place) else {

@@ -68,6 +68,6 @@ fn past_along(
     is_tried: bool,
     history: &mut History,
 ) -> Result<Earlier, AllocError> {
-    let mut replay = Replay::new(refused.alloc, refused.calls);
+    let mut replay = Replay::new(refused.alloc, tree.seed(), refused.calls);
     follow(refused, tree, &mut replay, case, is_tried, history)
 }

@@ -29,7 +29,7 @@ impl<'a> Refused<'a> {
     ///
     /// That of the steps, and where an answer is left out of a walk over the calls.
     pub fn reach(&self, tree: &mut Tree) -> Result<Option<Reached<'a>>, AllocError> {
-        let mut replay = Replay::new(self.alloc, self.calls);
+        let mut replay = Replay::new(self.alloc, tree.seed(), self.calls);
         if take_steps(tree, &mut replay, self.before)? {
             self.judged(tree, &mut replay)
         } else {

@@ -11,11 +11,15 @@ use fa_order::Entry;
 use fa_tree::{Replay, StepError, Tree};
 use std::alloc::{AllocError, Global};
 use std::collections::{BTreeMap, BTreeSet};
+use std::hash::{BuildHasher, Hasher};
 use std::marker::Model;
 use std::mem;
 
 /// About how many bytes an entry holds.
 const ENTRY_WEIGHT: u64 = 12;
+
+/// With how many of one number another of that number is compared. Where nobody knows the seed there is hardly ever more than one.
+const MOST_COMPARED: usize = 16;
 
 /// How many bytes are copied by a step.
 const COPIED_BY_A_STEP: u64 = 4_096;
@@ -147,17 +151,18 @@ impl Configuration {
     pub fn reckon(&mut self)
         ensures { self.new ≡ self.old }
     {
-        let placed = self.placed.iter().fold(
-            0,
-            |sum: u64, asked| sum.wrapping_mul(31).wrapping_add(u64::from(*asked)),
-        );
-        self.digest = self.tree.digest() ^ placed;
+        let mut digest = self.tree.seed().build_hasher();
+        digest.write_u64(self.tree.digest());
+        for asked in self.placed.iter() {
+            digest.write_u32(*asked);
+        }
+        self.digest = digest.finish();
         let entries = (self.entries.len() as u64).saturating_mul(ENTRY_WEIGHT);
         self.weight = self.tree.weight().saturating_add(entries);
     }
 
-    /// Whether the same requests are placed in both, and both have the same tree. True where this is so, if the numbers of both were
-    /// reckoned.
+    /// Whether the same requests are placed in both, and both have the same tree. True where this is so, if the trees of both have one seed
+    /// and the numbers of both were reckoned.
     pub fn is_same(&self, other: &Configuration) -> bool
         ensures { IsTrue result → IsSameAs self.now other.now }
     {
@@ -199,9 +204,10 @@ impl Known {
         }
     }
 
-    /// Pushes a configuration, unless the same one is known: how many bytes were added. Its number was reckoned, and so were theirs.
+    /// Pushes a configuration, unless the same one is found to be known: how many bytes were added. Its number was reckoned, and so were
+    /// theirs.
     ///
-    /// Time in the logarithm of the list, and that of a comparison with each that has its number.
+    /// Time in the logarithm of the list, and that of a comparison with each of the first 16 that have its number.
     pub fn push_new(
         &mut self,
         list: &mut Vec<Configuration>,
@@ -228,12 +234,15 @@ impl Known {
         Ok(())
     }
 
-    /// Whether one that is known by this number is the same.
+    /// Whether one of the first that are known by its number is the same.
     fn has(&self, list: &[Configuration], other: &Configuration) -> bool
         ensures { IsTrue result → (one : PlainConfiguration) × Contains list.now one × IsSameAs other.now one }
     {
         match self.places.get(&other.digest) {
-            Some(places) => is_among(list, places, other),
+            Some(places) => {
+                let first = places.get(..MOST_COMPARED).unwrap_or(places);
+                is_among(list, first, other)
+            }
             None => false,
         }
     }

@@ -252,11 +252,12 @@ impl<'c> Progress<'c> {
         ensures first { IfOk result (λ progress. progress.flight.at ≡ 0) }
         ensures searching { IfOk result (λ progress. (c : List Message) → AreMessagesOf calls.now c → IsSearching c tree progress) }
     {
+        let seed = tree.seed();
         let mut held = Vec::new(alloc);
         held.push(Configuration::first(alloc, tree))?;
         Ok(Progress {
             tries: Tries {
-                replay: Replay::new(alloc, calls),
+                replay: Replay::new(alloc, seed, calls),
                 spending: Spending::new(budget),
             },
             flight: InFlight::new(alloc),

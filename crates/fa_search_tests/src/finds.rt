@@ -1,6 +1,7 @@
 //! What a search finds of small captures.
 
 use fa_bodies::ROOT_ID as ROOT;
+use fa_capture::Seed;
 use fa_capture::codes::{ATTRIBUTES, BYTES_READ};
 use fa_order::Entry;
 use fa_search::{Alternatives, Budget, Finding, Nobody, orders_to, search};
@@ -106,7 +107,7 @@ fn found(rt: &impl Abort, alloc: Global, messages: &[Sent], budget: Budget) -> F
         .capture()
         .expect(rt, "memory");
     let calls = calls_in(alloc, &bytes).expect(rt, "calls");
-    let tree = Tree::empty(alloc, 0o755).expect(rt, "memory");
+    let tree = Tree::empty(alloc, Seed::default(), 0o755).expect(rt, "memory");
     let finding = search(alloc, &calls, tree, budget, &mut Nobody).expect(rt, "memory");
     drop(calls);
     finding
@@ -146,7 +147,7 @@ fn orders_found(
         .capture()
         .expect(rt, "memory");
     let calls = calls_in(alloc, &bytes).expect(rt, "calls");
-    let tree = Tree::empty(alloc, 0o755).expect(rt, "memory");
+    let tree = Tree::empty(alloc, Seed::default(), 0o755).expect(rt, "memory");
     let found = orders_to(alloc, &calls, tree, at, budget, 8, &mut Nobody).expect(rt, "memory");
     drop(calls);
     found

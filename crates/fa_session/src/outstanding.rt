@@ -8,6 +8,7 @@ ghost use Rattle.fa_session.specs.parts.View.{entries_shown, by_unique, owned_sh
 
 use crate::error::SessionError;
 use crate::waiting::{OwnedWaiting, Waiting};
+use fa_capture::Seed;
 use indexmap::IndexMap;
 use std::alloc::{AllocError, Global};
 use std::marker::Model;
@@ -22,7 +23,7 @@ pub(crate) struct Outstanding<'a> {
     /// The request of the highest unique so far, if it waits. It is the newest one only where uniques rise.
     newest: Option<Waiting<'a>>,
     /// Those of lower uniques, which came earlier where uniques rise.
-    earlier: IndexMap<u64, Waiting<'a>>,
+    earlier: IndexMap<u64, Waiting<'a>, Seed>,
     /// The highest unique that a request had, or 0.
     highest: u64,
 }
@@ -41,15 +42,15 @@ impl<'a> Model for Outstanding<'a> {
 }
 
 impl<'a> Outstanding<'a> {
-    /// None. The table takes memory from `alloc` later.
+    /// None. The table takes memory from `alloc` later, and is hashed with the seed.
     ///
     /// Takes no memory, in constant time.
-    pub fn new(alloc: Global) -> Self
+    pub fn new(alloc: Global, seed: Seed) -> Self
         ensures { result ≡ [] }
     {
         Outstanding {
             newest: None,
-            earlier: IndexMap::new(alloc),
+            earlier: IndexMap::with_hasher(alloc, seed),
             highest: 0,
         }
     }
@@ -127,10 +128,14 @@ impl<'a> Outstanding<'a> {
     /// The same requests, which borrow the messages. `Memory` tells that memory was refused.
     ///
     /// Takes memory for the table, in expected linear time.
-    pub fn from_owned(alloc: Global, owned: &'a [OwnedWaiting]) -> Result<Self, SessionError>
+    pub fn from_owned(
+        alloc: Global,
+        seed: Seed,
+        owned: &'a [OwnedWaiting],
+    ) -> Result<Self, SessionError>
         ensures { IfOk result (λ outstanding. by_unique outstanding ≡ owned_by_unique owned.now) }
     {
-        let mut outstanding = Outstanding::new(alloc);
+        let mut outstanding = Outstanding::new(alloc, seed);
         // The last first: were there two with one unique, the first would stand, which a look-up finds.
         for waiting in owned.iter().rev() {
             outstanding.insert(waiting.as_waiting())?;

@@ -6,6 +6,7 @@ ghost use Rattle.fa_session.specs.Shows.{Shows};
 use crate::outstanding::Outstanding;
 use crate::session::Session;
 use crate::waiting::OwnedWaiting;
+use fa_capture::Seed;
 use std::alloc::{AllocError, Global};
 use std::marker::Model;
 
@@ -45,7 +46,7 @@ impl Parked {
         }
     }
 
-    /// The session again, which borrows the messages that are kept here. Its table takes memory from `alloc`.
+    /// The session again, which borrows the messages that are kept here. Its table takes memory from `alloc`, and is hashed with the seed.
     ///
     /// # Errors
     ///
@@ -55,10 +56,10 @@ impl Parked {
     ///
     /// Expected linear time in the number of outstanding requests, however long they are. The table keeps two numbers and where
     /// the message lies for each of them. No message bytes are copied.
-    pub fn resume(&self, alloc: Global) -> Result<Session<'_>, AllocError>
+    pub fn resume(&self, alloc: Global, seed: Seed) -> Result<Session<'_>, AllocError>
         ensures { IfOk result (λ session. session ≡ self.now) }
     {
-        let waiting = Outstanding::from_owned(alloc, &self.waiting).map_err(|_| AllocError)?;
+        let waiting = Outstanding::from_owned(alloc, seed, &self.waiting).map_err(|_| AllocError)?;
         Ok(Session {
             messages: self.messages,
             negotiated: self.negotiated,

@@ -19,7 +19,7 @@ use crate::outstanding::Outstanding;
 use crate::rules::{agreed_flags, check_reply, is_init, may_replace};
 use crate::waiting::Waiting;
 use fa_bodies::{Request, reply_body, reply_head, request};
-use fa_capture::{Direction, Packet, codes};
+use fa_capture::{Direction, Packet, Seed, codes};
 use std::alloc::Global;
 use std::marker::Model;
 
@@ -46,16 +46,16 @@ impl<'a> Model for Session<'a> {
 }
 
 impl<'a> Session<'a> {
-    /// A session of no messages. Its table takes memory from `alloc` later.
+    /// A session of no messages. Its table takes memory from `alloc` later, and is hashed with the seed.
     ///
     /// Takes no memory, in constant time.
-    pub fn new(alloc: Global) -> Self
+    pub fn new(alloc: Global, seed: Seed) -> Self
         ensures { Shows [] result }
     {
         Session {
             messages: 0,
             negotiated: None,
-            waiting: Outstanding::new(alloc),
+            waiting: Outstanding::new(alloc, seed),
         }
     }
 

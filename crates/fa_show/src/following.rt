@@ -9,7 +9,7 @@ ghost use Rattle.fa_show.specs.parts.Following.{AreShown, IsHeld, IsBySession};
 use crate::notes::Notes;
 use crate::pairing::Pairing;
 use fa_capture::limits::MAX_MESSAGES;
-use fa_capture::{Capture, Packet};
+use fa_capture::{Capture, Packet, Seed};
 use fa_ledger::{LedgerError, Standing};
 use fa_session::{Event, Parked, Session, SessionError};
 use std::alloc::{AllocError, Global};
@@ -52,11 +52,16 @@ fn accept<'a>(
 }
 
 /// The session behind these messages more, put aside. They were taken before, so nothing but memory may be refused.
-fn rewound(alloc: Global, parked: &Parked, since: &[Packet<'_>]) -> Result<Parked, AllocError>
+fn rewound(
+    alloc: Global,
+    seed: Seed,
+    parked: &Parked,
+    since: &[Packet<'_>],
+) -> Result<Parked, AllocError>
     requires { (c : List Message) × Shows c parked.now × (length c + length since.now ≤ MAX_MESSAGES) }
     ensures { IfOk result (λ next. (c : List Message) → Shows c parked.now → Shows (c ++ map message since.now) next) }
 {
-    let mut session = parked.resume(alloc)?;
+    let mut session = parked.resume(alloc, seed)?;
     for packet in since {
         match session.accept(packet) {
             Ok(_) => {}
@@ -70,6 +75,7 @@ fn rewound(alloc: Global, parked: &Parked, since: &[Packet<'_>]) -> Result<Parke
 /// where no message is left.
 fn turn(
     alloc: Global,
+    seed: Seed,
     parked: &Parked,
     standing: &mut Standing,
     notes: &mut Notes<'_>,
@@ -77,7 +83,7 @@ fn turn(
     requires { (c : List Message) × IsHeld c parked.now standing.old }
     ensures { IfOk result (λ next. IfSome next (λ n. (c : List Message) × IsHeld c n standing.new)) }
 {
-    let mut session = parked.resume(alloc)?;
+    let mut session = parked.resume(alloc, seed)?;
     let mut since = Vec::new(alloc);
     let room = parked.bytes().max(GENERATION);
     let mut taken: usize = 0;
@@ -97,7 +103,7 @@ fn turn(
             Err(Refusal::BySession(code)) => notes.refuse(number, &packet, code),
             Err(Refusal::Behind(code)) => {
                 notes.refuse(number, &packet, code);
-                return Ok(Some(rewound(alloc, parked, &since)?));
+                return Ok(Some(rewound(alloc, seed, parked, &since)?));
             }
             Err(Refusal::Memory) => return Err(AllocError),
         }
@@ -107,12 +113,12 @@ fn turn(
 
 /// What came of the messages of a capture.
 pub(crate) fn pair<'a>(alloc: Global, capture: &Capture<'a>) -> Result<Pairing<'a>, AllocError> {
-    let mut notes = Notes::new(alloc, capture.packets());
-    let mut standing = Standing::new(alloc);
+    let mut notes = Notes::new(alloc, capture);
+    let mut standing = Standing::new(alloc, capture.seed);
     let mut parked = Parked::new(alloc);
     // Each turn but the last one takes a message.
     for _ in 0..=capture.messages {
-        match turn(alloc, &parked, &mut standing, &mut notes)? {
+        match turn(alloc, capture.seed, &parked, &mut standing, &mut notes)? {
             Some(next) => parked = next,
             None => break,
         }

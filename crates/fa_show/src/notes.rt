@@ -2,7 +2,7 @@
 
 use crate::asked::message_in;
 use crate::pairing::{Fate, Pairing};
-use fa_capture::{Direction, Packet, Packets, codes};
+use fa_capture::{Capture, Direction, Packet, Packets, Seed, codes};
 use fa_session::Event;
 use indexmap::IndexMap;
 use std::alloc::{AllocError, Global};
@@ -13,16 +13,16 @@ pub(crate) struct Notes<'a> {
     packets: Packets<'a>,
     pairing: Pairing<'a>,
     /// The numbers of the requests that wait, by their uniques.
-    waiting: IndexMap<u64, u32>,
+    waiting: IndexMap<u64, u32, Seed>,
 }
 
 impl<'a> Notes<'a> {
     /// Nothing came of these messages yet.
-    pub fn new(alloc: Global, packets: Packets<'a>) -> Self {
+    pub fn new(alloc: Global, capture: &Capture<'a>) -> Self {
         Notes {
-            packets,
+            packets: capture.packets(),
             pairing: Pairing::new(alloc),
-            waiting: IndexMap::new(alloc),
+            waiting: IndexMap::with_hasher(alloc, capture.seed),
         }
     }
 

@@ -4,7 +4,7 @@ ghost use Rattle.std.specs.Prelude.{◌≡◌, IfOk};
 ghost use Rattle.fa_tests.specs.Tried.{ShowsAtMost};
 
 use crate::tried::{Seen, Tried};
-use fa_capture::Packet;
+use fa_capture::{Packet, Seed};
 use fa_session::{Parked, Session};
 use std::alloc::{AllocError, Global};
 
@@ -29,8 +29,8 @@ fn put_aside(alloc: Global, session: &Session<'_>) -> Result<Parked, AllocError>
 fn taken_up(alloc: Global, parked: &Parked) -> Result<Session<'_>, AllocError>
     ensures { IfOk result (λ session. session ≡ parked.now) }
 {
-    match parked.resume(alloc) {
-        Err(_) => parked.resume(alloc),
+    match parked.resume(alloc, Seed::default()) {
+        Err(_) => parked.resume(alloc, Seed::default()),
         session => session,
     }
 }

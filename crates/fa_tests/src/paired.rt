@@ -14,7 +14,7 @@ ghost use Rattle.fa_ledger.specs.Shows as ledgers;
 ghost use Rattle.fa_tests.specs.Paired.{AreLevel, IsAhead};
 
 use fa_capture::limits::MAX_MESSAGES;
-use fa_capture::{Packet, read_capture};
+use fa_capture::{Packet, Seed, read_capture};
 use fa_ledger::{Calls, Ledger, LedgerError};
 use fa_session::{Event, Session, SessionError};
 use std::alloc::Global;
@@ -77,9 +77,9 @@ impl<'a> Paired<'a> {
         ensures { AreLevel result.taken result.ledger result.session result.spare }
     {
         Paired {
-            ledger: Ledger::new(alloc),
-            session: Some(Session::new(alloc)),
-            spare: Some(Session::new(alloc)),
+            ledger: Ledger::new(alloc, Seed::default()),
+            session: Some(Session::new(alloc, Seed::default())),
+            spare: Some(Session::new(alloc, Seed::default())),
             taken: 0,
         }
     }

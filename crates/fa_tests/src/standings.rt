@@ -12,8 +12,8 @@ use crate::ledgers::{CALLS, COURSES, OPENED};
 use crate::messages::begun;
 use crate::paired::{UNTOLD, packets_of, told};
 use crate::sent::{Sent, with, with_all};
-use fa_capture::Packet;
 use fa_capture::limits::MAX_MESSAGES;
+use fa_capture::{Packet, Seed};
 use fa_ledger::{LedgerError, Standing};
 use fa_sample::Sample;
 use fa_session::{Event, Session, SessionError};
@@ -71,8 +71,8 @@ fn hand_in_all<'a>(
 
 /// How many messages a standing takes, and the code of the one behind them, if there is one.
 pub(crate) fn taken<'a>(alloc: Global, packets: &[Packet<'a>]) -> (u32, Option<u16>) {
-    let mut session = Session::new(alloc);
-    let mut standing = Standing::new(alloc);
+    let mut session = Session::new(alloc, Seed::default());
+    let mut standing = Standing::new(alloc, Seed::default());
     let code = hand_in_all(&mut session, &mut standing, packets);
     let count = standing.len();
     drop(session);

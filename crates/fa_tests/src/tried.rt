@@ -5,8 +5,8 @@ ghost use Rattle.fa_capture.specs.declared.limits.TheConstants.{MAX_MESSAGES};
 ghost use Rattle.fa_tests.specs.Tried.{ShowsAtMost};
 
 use fa_bodies::Reply;
-use fa_capture::Packet;
 use fa_capture::limits::MAX_MESSAGES;
+use fa_capture::{Packet, Seed};
 use fa_session::{Event, Session, SessionError};
 use std::alloc::Global;
 
@@ -87,7 +87,7 @@ impl<'a> Tried<'a> {
         ensures { ShowsAtMost result.taken result.session }
     {
         Tried {
-            session: Session::new(alloc),
+            session: Session::new(alloc, Seed::default()),
             taken: 0,
         }
     }

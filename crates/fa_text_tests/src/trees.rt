@@ -4,6 +4,7 @@ ghost use Rattle.std.specs.Prelude.{◌≤◌, length};
 ghost use Rattle.fa_order.specs.declared.lines.TheConstants.{MAX_TEXT_BYTES};
 
 use Told::*;
+use fa_capture::Seed;
 use fa_order::{MAX_TEXT_BYTES, TextError};
 use fa_tree::{FileId, Tree};
 use fa_tree_text::read_tree;
@@ -269,7 +270,7 @@ fn outcome_of(alloc: Global, text: &[u8]) -> Told {
     if text.len() > MAX_TEXT_BYTES {
         return Nothing;
     }
-    match read_tree(alloc, text) {
+    match read_tree(alloc, Seed::default(), text) {
         Ok(tree) => {
             drop(tree);
             Read
@@ -455,7 +456,7 @@ fn are_one(alloc: Global, text: &[u8], left: &[&[u8]], right: &[&[u8]]) -> Optio
     if text.len() > MAX_TEXT_BYTES {
         return None;
     }
-    let tree = read_tree(alloc, text).ok()?;
+    let tree = read_tree(alloc, Seed::default(), text).ok()?;
     let are_one = lead_to_one(&tree, left, right);
     drop(tree);
     are_one

@@ -8,6 +8,7 @@ use crate::digest::digest_of;
 use crate::many_pages::NEAR;
 use crate::page::PAGE;
 use crate::pages::Pages;
+use fa_capture::Seed;
 use std::alloc::{AllocError, Global};
 use std::marker::Model;
 
@@ -81,9 +82,9 @@ impl Contents {
         self.len == other.len && self.pages.is_same(&other.pages)
     }
 
-    /// A number for the bytes, the same for the same ones. Takes no memory, and time in the pages that store them.
-    pub fn digest(&self) -> u64 {
-        digest_of(&(self.len, self.pages.digest()))
+    /// A number under the seed for the bytes, the same for the same ones. Takes no memory, and time in the pages that store them.
+    pub fn digest(&self, seed: Seed) -> u64 {
+        digest_of(seed, &(self.len, self.pages.digest(seed)))
     }
 
     /// About so many bytes of memory are taken. Time in the pages that are there.

@@ -9,6 +9,7 @@ ghost use Rattle.fa_tree.specs.parts.FileParts.{file_shown};
 use crate::contents::Contents;
 use crate::digest::digest_of;
 use fa_bodies::{Kind, Mode};
+use fa_capture::Seed;
 use std::alloc::AllocError;
 
 /// A file, whatever names it has.
@@ -51,10 +52,10 @@ impl File {
         self.kind == other.kind && self.bits == other.bits && self.contents.is_same(&other.contents)
     }
 
-    /// A number for the file, the same for the same ones: it looks at the permission bits and the bytes. Takes no memory, and time in
-    /// the pages that store the bytes.
-    pub fn digest(&self) -> u64 {
-        digest_of(&(self.bits, self.contents.digest()))
+    /// A number under the seed for the file, the same for the same ones: it looks at the permission bits and the bytes. Takes no memory, and
+    /// time in the pages that store the bytes.
+    pub fn digest(&self, seed: Seed) -> u64 {
+        digest_of(seed, &(self.bits, self.contents.digest(seed)))
     }
 
     /// About so many bytes of memory are taken. Time in the pages that are there.

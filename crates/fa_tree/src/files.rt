@@ -15,6 +15,7 @@ use crate::digest::digest_of;
 use crate::file::File;
 use crate::id::FileId;
 use fa_bodies::Kind;
+use fa_capture::Seed;
 use indexmap::IndexMap;
 use std::alloc::{AllocError, Global};
 use std::marker::Model;
@@ -25,7 +26,7 @@ const FILE_WEIGHT: u64 = 64;
 /// The files of a tree. Each stays, whatever names it has.
 #[derive(Drop)]
 pub(crate) struct Files {
-    by_id: IndexMap<FileId, File>,
+    by_id: IndexMap<FileId, File, Seed>,
 }
 
 impl Model for Files {
@@ -43,10 +44,10 @@ impl Model for Files {
 
 impl Files {
     /// A directory with these permission bits, the root.
-    pub fn new(alloc: Global, bits: u32) -> Result<Self, AllocError>
+    pub fn new(alloc: Global, seed: Seed, bits: u32) -> Result<Self, AllocError>
         ensures { IfOk result (λ files. files ≡ map.insert map.empty root (record { kind = Directory; bits = bits; bytes = [] })) }
     {
-        let mut by_id = IndexMap::new(alloc);
+        let mut by_id = IndexMap::with_hasher(alloc, seed);
         let file = File {
             kind: Kind::Directory,
             bits,
@@ -97,11 +98,11 @@ impl Files {
         }
     }
 
-    /// A number for the files, the same for the same ones, in whichever order they came. Takes no memory, and time in the files and in
-    /// the pages that store their bytes.
-    pub fn digest(&self) -> u64 {
+    /// A number under the seed for the files, the same for the same ones, in whichever order they came. Takes no memory, and time in the
+    /// files and in the pages that store their bytes.
+    pub fn digest(&self, seed: Seed) -> u64 {
         self.by_id.iter().fold(0_u64, |sum, (id, file)| {
-            sum.wrapping_add(digest_of(&(*id, file.digest())))
+            sum.wrapping_add(digest_of(seed, &(*id, file.digest(seed))))
         })
     }
 

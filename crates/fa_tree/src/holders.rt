@@ -11,6 +11,7 @@ ghost use Rattle.fa_tree.specs.State.{place_cmp, file_eq};
 ghost use Rattle.fa_tree.specs.parts.HolderParts.{no_holder, index_of, tabled, entry_of, LendsHolder, one_link_more, one_link_less, one_inside_more, one_inside_less, held, IsKnown, AreCounted, IsCountedAt};
 
 use crate::id::FileId;
+use fa_capture::Seed;
 use indexmap::IndexMap;
 use std::alloc::{AllocError, Global};
 
@@ -63,19 +64,19 @@ pub(crate) struct Holders {
     /// came in turn.
     pub list: Vec<Holder>,
     /// All others.
-    pub table: IndexMap<FileId, Holder>,
+    pub table: IndexMap<FileId, Holder, Seed>,
 }
 
 impl Holders {
     /// Of no file anything is counted. What is stored later takes memory from `alloc`.
     ///
     /// Takes no memory, in constant time.
-    pub fn new(alloc: Global) -> Self
+    pub fn new(alloc: Global, seed: Seed) -> Self
         ensures { (file : FileId) → entry_of result file ≡ None }
     {
         Holders {
             list: Vec::new(alloc),
-            table: IndexMap::new(alloc),
+            table: IndexMap::with_hasher(alloc, seed),
         }
     }
 

@@ -6,6 +6,7 @@ ghost use Rattle.fa_tree.specs.declared.kept.ListedSoFar.{ListedSoFar as TheList
 ghost use Rattle.fa_tree.specs.parts.KeptParts.{AreAmong, size_of_listing, size_of_listings};
 
 use crate::tally::Tally;
+use fa_capture::Seed;
 use indexmap::IndexMap;
 use std::alloc::Global;
 
@@ -35,7 +36,7 @@ impl ListedSoFar<'_> {
 /// how many names there is room in all, where each listing counts as some more.
 #[derive(Drop)]
 pub(crate) struct Kept<'c> {
-    pub by_handle: IndexMap<u32, ListedSoFar<'c>>,
+    pub by_handle: IndexMap<u32, ListedSoFar<'c>, Seed>,
     /// For how many names it takes room.
     pub size: usize,
     ghost counted: { size_of_listings by_handle.entries ≤ size },
@@ -45,11 +46,11 @@ impl<'c> Kept<'c> {
     /// Nothing yet. The table takes memory from `alloc` later.
     ///
     /// Takes no memory, in constant time.
-    pub fn new(alloc: Global) -> Self
+    pub fn new(alloc: Global, seed: Seed) -> Self
         ensures { result.by_handle.entries ≡ [] }
     {
         Kept {
-            by_handle: IndexMap::new(alloc),
+            by_handle: IndexMap::with_hasher(alloc, seed),
             size: 0,
         }
     }

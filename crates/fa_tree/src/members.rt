@@ -6,6 +6,7 @@ ghost use Rattle.fa_tree.specs.State.{file_eq};
 ghost use Rattle.fa_tree.specs.parts.MemberParts.{members_of};
 
 use crate::id::FileId;
+use fa_capture::Seed;
 use indexmap::IndexMap;
 use std::alloc::{AllocError, Global};
 
@@ -13,19 +14,19 @@ use std::alloc::{AllocError, Global};
 #[derive(Drop)]
 pub(crate) struct Members {
     alloc: Global,
-    pub table: IndexMap<FileId, Vec<usize>>,
+    pub table: IndexMap<FileId, Vec<usize>, Seed>,
 }
 
 impl Members {
     /// No directory has a place. What is stored later takes memory from `alloc`.
     ///
     /// Takes no memory, in constant time.
-    pub fn new(alloc: Global) -> Self
+    pub fn new(alloc: Global, seed: Seed) -> Self
         ensures { result.table.entries ≡ [] }
     {
         Members {
             alloc,
-            table: IndexMap::new(alloc),
+            table: IndexMap::with_hasher(alloc, seed),
         }
     }
 

@@ -5,21 +5,20 @@ ghost use Rattle.fa_tree.specs.parts.NameFed.{name_fed};
 
 use std::hash::Hasher;
 
-/// Hands a name on, four bytes at a time.
+/// Hands a name on, eight bytes at a time.
 ///
-/// The hasher's seed is fixed, so whoever picks names can pick some that meet in a table. Its group is told by the low bits of 32 that
-/// the hash comes down to: names of one group take as many trials each as the table has groups, however they are handed on. Names that
-/// leave the hasher in one state take a search of some 2 to the power of 16 beginnings, and then none: each four bytes behind them that
-/// are chosen so double their number. With more bytes at a time they take no search at all, since eight bytes can undo whatever those
-/// before them made of the state. A name takes as many steps as it has bytes, divided by four.
+/// Of more bytes at a time the hasher multiplies eight of them, joined with its state, with eight more, joined with a constant that anyone
+/// knows: names whose last eight bytes are that constant would all come to zero, whatever the state. Of eight bytes or fewer, one factor
+/// has the state in it, which nobody knows who does not know the seed, and the other is a constant. A name takes as many steps as it has
+/// bytes, divided by eight.
 ///
 /// Takes no memory, and time in the bytes of the name.
 pub(crate) fn feed_name<H: Hasher>(name: &[u8], state: &mut H)
     ensures { state.new ≡ fold H.write state.old (name_fed name.now) }
 {
     let mut left = name;
-    while left.len() > 4 {
-        let (part, behind) = left.split_at(4);
+    while left.len() > 8 {
+        let (part, behind) = left.split_at(8);
         state.write(part);
         left = behind;
     }

@@ -17,6 +17,7 @@ use crate::holders::Holders;
 use crate::id::FileId;
 use crate::open::{OpenNames, Opening, Openings};
 use crate::slots::Slots;
+use fa_capture::Seed;
 use std::alloc::{AllocError, Global};
 use std::marker::Model;
 
@@ -57,13 +58,13 @@ impl Names {
     /// No name, and no directory that is open. What is stored later takes memory from `alloc`.
     ///
     /// Takes no memory, in constant time.
-    pub fn new(alloc: Global) -> Self
+    pub fn new(alloc: Global, seed: Seed) -> Self
         ensures { result ≡ no_names }
     {
         Names {
-            slots: Slots::new(alloc),
-            openings: Openings::new(alloc),
-            holders: Holders::new(alloc),
+            slots: Slots::new(alloc, seed),
+            openings: Openings::new(alloc, seed),
+            holders: Holders::new(alloc, seed),
         }
     }
 
@@ -107,11 +108,12 @@ impl Names {
                 .is_same(&self.slots, &other.openings, &other.slots)
     }
 
-    /// A number for the names and the requests that opened directories, the same for the same ones, in whichever order they came.
+    /// A number under the seed for the names and the requests that opened directories, the same for the same ones, in whichever order they
+    /// came.
     ///
     /// Takes no memory, and time in the places that ever had a name, the bytes of their names, and the openings.
-    pub fn digest(&self) -> u64 {
-        digest_of(&(self.slots.digest(), self.openings.digest()))
+    pub fn digest(&self, seed: Seed) -> u64 {
+        digest_of(seed, &(self.slots.digest(seed), self.openings.digest(seed)))
     }
 
     /// About so many bytes of memory are taken. Time in the places.

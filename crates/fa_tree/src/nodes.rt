@@ -10,6 +10,7 @@ ghost use Rattle.fa_tree.specs.parts.SameParts.{IsMapWithin};
 
 use crate::digest::digest_of;
 use crate::id::FileId;
+use fa_capture::Seed;
 use fa_ledger::NodeName;
 use indexmap::IndexMap;
 use std::alloc::{AllocError, Global};
@@ -20,16 +21,16 @@ const NODE_WEIGHT: u64 = 64;
 /// The files that names of nodes stand for.
 #[derive(Drop)]
 pub(crate) struct Nodes {
-    pub files: IndexMap<NodeName, FileId>,
+    pub files: IndexMap<NodeName, FileId, Seed>,
 }
 
 impl Nodes {
     /// No name stands for a file.
-    pub fn new(alloc: Global) -> Self
+    pub fn new(alloc: Global, seed: Seed) -> Self
         ensures { nodes_shown result ≡ map.empty }
     {
         Nodes {
-            files: IndexMap::new(alloc),
+            files: IndexMap::with_hasher(alloc, seed),
         }
     }
 
@@ -72,11 +73,11 @@ impl Nodes {
         }
     }
 
-    /// A number for the names and their files, the same for the same ones, in whichever order they came. Takes no memory, and time in
-    /// the names.
-    pub fn digest(&self) -> u64 {
+    /// A number under the seed for the names and their files, the same for the same ones, in whichever order they came. Takes no memory, and
+    /// time in the names.
+    pub fn digest(&self, seed: Seed) -> u64 {
         self.files.iter().fold(0_u64, |sum, (name, file)| {
-            sum.wrapping_add(digest_of(&(*name, *file)))
+            sum.wrapping_add(digest_of(seed, &(*name, *file)))
         })
     }
 
@@ -147,7 +148,7 @@ impl Nodes {
     ) -> Result<bool, AllocError>
         ensures { IfOk result (λ may. IsTrue may ↔ AreBound (nodes_shown self.now) given.now) }
     {
-        let mut seen = Nodes::new(alloc);
+        let mut seen = Nodes::new(alloc, *self.files.hasher());
         seen.reserve_for(given.len())?;
         for one in given {
             if !self.may_bind(one) || !seen.may_bind(one) {

@@ -16,6 +16,7 @@ ghost use Rattle.fa_tree.specs.parts.SameParts.{IsMapWithin, IsOpenWithin, IsSlo
 use crate::digest::digest_of;
 use crate::id::FileId;
 use crate::slots::{Slot, Slots};
+use fa_capture::Seed;
 use indexmap::IndexMap;
 use std::alloc::{AllocError, Global};
 use std::marker::Model;
@@ -35,7 +36,7 @@ pub(crate) struct Opening {
 pub(crate) struct Openings {
     list: Vec<Opening>,
     /// For each request that opened a directory the place of its last opening in the list.
-    places: IndexMap<u32, usize>,
+    places: IndexMap<u32, usize, Seed>,
 }
 
 /// A directory that is open, with the names that were in it since. Nothing of it is copied.
@@ -64,12 +65,12 @@ impl Openings {
     /// No directory was opened. What is stored later takes memory from `alloc`.
     ///
     /// Takes no memory, in constant time.
-    pub fn new(alloc: Global) -> Self
+    pub fn new(alloc: Global, seed: Seed) -> Self
         ensures { result ≡ [] }
     {
         Openings {
             list: Vec::new(alloc),
-            places: IndexMap::new(alloc),
+            places: IndexMap::with_hasher(alloc, seed),
         }
     }
 
@@ -116,12 +117,10 @@ impl Openings {
         }
     }
 
-    /// A number for the requests that opened directories, the same for the same ones, in whichever order. Takes no memory, and time
-    /// in the requests.
-    pub fn digest(&self) -> u64 {
-        self.places
-            .keys()
-            .fold(0_u64, |sum, asked| sum.wrapping_add(digest_of(asked)))
+    /// A number under the seed for the requests that opened directories, the same for the same ones, in whichever order. Takes no memory, and
+    /// time in the requests.
+    pub fn digest(&self, seed: Seed) -> u64 {
+        self.places.keys().fold(0_u64, |sum, asked| sum.wrapping_add(digest_of(seed, asked)))
     }
 
     /// About so many bytes of memory are taken. Constant time.

@@ -86,7 +86,7 @@ impl OpenNames<'_> {
         if !self.all_first(so_far, entries) {
             return Ok(false);
         }
-        let mut own = Tally::new(alloc);
+        let mut own = Tally::new(alloc, so_far.seed());
         note_all(&mut own, entries)?;
         Ok(self.none_twice(&own))
     }

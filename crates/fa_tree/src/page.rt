@@ -3,7 +3,8 @@
 ghost use Rattle.std.specs.Prelude.{◌≡◌, ◌↔◌, ◌+◌, ◌<◌, ◌≤◌, ℕ, List, [], get_or, length, take, IsTrue, IfOk, OnOk, OnErr};
 ghost use Rattle.fa_tree.specs.parts.PageParts.{IsPart, with_part};
 
-use crate::digest::digest_of;
+use crate::digest::digest_of_bytes;
+use fa_capture::Seed;
 use std::alloc::{AllocError, Global};
 use std::marker::Model;
 
@@ -67,14 +68,14 @@ impl Page {
         self.bytes.as_slice()
     }
 
-    /// A number for the page at this place of a file, the same for the same bytes, whichever zeros at the end are stored; 0 for zeros
-    /// alone. Takes no memory, and time in the bytes that are stored.
-    pub fn digest(&self, place: usize) -> u64 {
+    /// A number under the seed for the page at this place of a file, the same for the same bytes, whichever zeros at the end are stored; 0
+    /// for zeros alone. Takes no memory, and time in the bytes that are stored.
+    pub fn digest(&self, seed: Seed, place: usize) -> u64 {
         let bytes = without_last_zeros(&self.bytes);
         if bytes.is_empty() {
             return 0;
         }
-        digest_of(&(place, bytes))
+        digest_of_bytes(seed, place, bytes)
     }
 
     /// About so many bytes of memory are taken. Constant time.

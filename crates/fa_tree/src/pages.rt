@@ -5,6 +5,7 @@ ghost use Rattle.fa_tree.specs.parts.PageParts.{page_of, far_page, only_page, wi
 
 use crate::many_pages::ManyPages;
 use crate::page::{Page, are_zeros};
+use fa_capture::Seed;
 use std::alloc::{AllocError, Global};
 use std::collections::BTreeMap;
 use std::marker::Model;
@@ -85,18 +86,18 @@ impl Pages {
         }
     }
 
-    /// A number for the bytes, the same for the same ones, whichever are stored. Takes no memory, and time in those that are.
-    pub fn digest(&self) -> u64 {
+    /// A number under the seed for the bytes, the same for the same ones, whichever are stored. Takes no memory, and time in those that are.
+    pub fn digest(&self, seed: Seed) -> u64 {
         match &self.list {
-            PageList::One(page) => page.digest(0),
+            PageList::One(page) => page.digest(seed, 0),
             PageList::Many(pages) => {
                 let near = pages.near().iter().enumerate().fold(
                     0_u64,
-                    |sum, (place, page)| sum.wrapping_add(page.digest(place)),
+                    |sum, (place, page)| sum.wrapping_add(page.digest(seed, place)),
                 );
                 pages.far().by_place().iter().fold(
                     near,
-                    |sum, (place, page)| sum.wrapping_add(page.digest(*place)),
+                    |sum, (place, page)| sum.wrapping_add(page.digest(seed, *place)),
                 )
             }
         }

@@ -9,6 +9,7 @@ ghost use Rattle.fa_tree.specs.parts.ParentParts.{parent_noted};
 
 use crate::id::FileId;
 use fa_bodies::Kind;
+use fa_capture::Seed;
 use indexmap::IndexMap;
 use std::alloc::{AllocError, Global};
 
@@ -18,18 +19,18 @@ const PARENT_WEIGHT: u64 = 64;
 /// For each directory that has a name the directory that the name is in. No other file has an entry.
 #[derive(Drop)]
 pub(crate) struct Parents {
-    pub table: IndexMap<FileId, FileId>,
+    pub table: IndexMap<FileId, FileId, Seed>,
 }
 
 impl Parents {
     /// No directory has a name. What is stored later takes memory from `alloc`.
     ///
     /// Takes no memory, in constant time.
-    pub fn new(alloc: Global) -> Self
+    pub fn new(alloc: Global, seed: Seed) -> Self
         ensures { result.table.entries ≡ [] }
     {
         Parents {
-            table: IndexMap::new(alloc),
+            table: IndexMap::with_hasher(alloc, seed),
         }
     }
 

@@ -9,6 +9,7 @@ ghost use Rattle.fa_tree.specs.parts.TallyParts.{Notes};
 use crate::kept::{Kept, ListedSoFar};
 use crate::so_far::{before, note_answered, note_so_far};
 use crate::tally::Tally;
+use fa_capture::Seed;
 use fa_ledger::{Call, Calls};
 use std::alloc::{AllocError, Global};
 use std::marker::Model;
@@ -25,6 +26,7 @@ pub struct Replay<'c> {
     /// What was listed so far, for the handles that are being listed.
     so_far: Kept<'c>,
     alloc: Global,
+    seed: Seed,
 }
 
 impl<'c> Model for Replay<'c> {
@@ -40,16 +42,17 @@ impl<'c> Model for Replay<'c> {
 }
 
 impl<'c> Replay<'c> {
-    /// The calls, before any step. What is kept later takes memory from `alloc`.
+    /// The calls, before any step. What is kept later takes memory from `alloc`, and its tables are hashed with the seed.
     ///
     /// Takes no memory, in constant time.
-    pub fn new(alloc: Global, calls: &'c Calls<'c>) -> Self
+    pub fn new(alloc: Global, seed: Seed, calls: &'c Calls<'c>) -> Self
         ensures { result ≡ calls.now }
     {
         Replay {
             calls,
-            so_far: Kept::new(alloc),
+            so_far: Kept::new(alloc, seed),
             alloc,
+            seed,
         }
     }
 
@@ -74,10 +77,11 @@ impl<'c> Replay<'c> {
         ensures same { self.new ≡ self.old }
     {
         let alloc = self.alloc;
+        let seed = self.seed;
         let calls = self.calls;
         match self.take_kept(&calls.list.call(k)) {
-            Some(kept) => go_on(alloc, calls, kept, k),
-            None => tally_anew(alloc, calls, k),
+            Some(kept) => go_on(alloc, seed, calls, kept, k),
+            None => tally_anew(alloc, seed, calls, k),
         }
     }
 
@@ -129,11 +133,16 @@ fn go_on_alike(call: &Call<'_>, other: &Call<'_>) -> bool
 }
 
 /// What was listed so far for the call at this place, gone through from the call back.
-fn tally_anew<'c>(alloc: Global, calls: &'c Calls<'c>, k: usize) -> Result<Tally<'c>, AllocError>
+fn tally_anew<'c>(
+    alloc: Global,
+    seed: Seed,
+    calls: &'c Calls<'c>,
+    k: usize,
+) -> Result<Tally<'c>, AllocError>
     requires { k < length calls.now.list }
     ensures { IfOk result (IsTallyAt calls.now k) }
 {
-    let mut tally = Tally::new(alloc);
+    let mut tally = Tally::new(alloc, seed);
     note_so_far(&mut tally, calls, k)?;
     Ok(tally)
 }
@@ -150,6 +159,7 @@ fn note_after<'c>(so_far: Tally<'c>, call: &Call<'c>, count: u32) -> Result<Tall
 /// What was listed so far for the call at this place, after what was for another one.
 fn go_on<'c>(
     alloc: Global,
+    seed: Seed,
     calls: &'c Calls<'c>,
     kept: ListedSoFar<'c>,
     k: usize,
@@ -169,9 +179,9 @@ fn go_on<'c>(
             if earlier == at {
                 note_after(tally, &last, count)
             } else {
-                tally_anew(alloc, calls, k)
+                tally_anew(alloc, seed, calls, k)
             }
         }
-        None => tally_anew(alloc, calls, k),
+        None => tally_anew(alloc, seed, calls, k),
     }
 }

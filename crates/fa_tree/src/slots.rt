@@ -17,6 +17,7 @@ use crate::digest::digest_of;
 use crate::id::FileId;
 use crate::members::Members;
 use crate::name_hash::feed_name;
+use fa_capture::Seed;
 use indexmap::{Equivalent, IndexMap};
 use std::alloc::{AllocError, Global};
 use std::hash::{Hash, Hasher};
@@ -52,7 +53,7 @@ pub(crate) enum Slot {
 pub(crate) struct Slots {
     alloc: Global,
     /// No entry is ever removed, so that a place keeps its index.
-    pub table: IndexMap<Place, Slot>,
+    pub table: IndexMap<Place, Slot, Seed>,
     /// For each directory the indexes of its places in the table.
     pub members: Members,
     /// Set while no name went: a place that has no name has no slot then.
@@ -144,13 +145,13 @@ fn is_less(place: &Place, other: &Place) -> bool
 
 impl Slots {
     /// No place has a slot. The table takes memory from `alloc` later.
-    pub fn new(alloc: Global) -> Self
+    pub fn new(alloc: Global, seed: Seed) -> Self
         ensures { result.table.entries ≡ [] }
     {
         Slots {
             alloc,
-            table: IndexMap::new(alloc),
-            members: Members::new(alloc),
+            table: IndexMap::with_hasher(alloc, seed),
+            members: Members::new(alloc, seed),
             all_there: true,
         }
     }
@@ -235,13 +236,13 @@ impl Slots {
         least
     }
 
-    /// A number for the names and their files, the same for the same ones, whatever was at their places before. Takes no memory, and
-    /// time in the places and the bytes of their names.
-    pub fn digest(&self) -> u64 {
+    /// A number under the seed for the names and their files, the same for the same ones, whatever was at their places before. Takes no
+    /// memory, and time in the places and the bytes of their names.
+    pub fn digest(&self, seed: Seed) -> u64 {
         self.table
             .iter()
             .fold(0_u64, |sum, (place, slot)| match slot.file() {
-                Some(file) => sum.wrapping_add(digest_of(&(place, file))),
+                Some(file) => sum.wrapping_add(digest_of(seed, &(place, file))),
                 None => sum,
             })
     }

@@ -94,7 +94,7 @@ impl Tree {
         ensures refused { IfErr result (λ e. OfCallAt calls.now.list k (λ call. TellsOf e call (step_checks self.old call wrote (listing_so_far calls.now.list k)))) }
         ensures unchanged { OnErr result (self.new ≡ self.old) }
     {
-        let mut replay = Replay::new(self.stored.alloc, calls);
+        let mut replay = Replay::new(self.stored.alloc, self.stored.seed, calls);
         self.step_in(&mut replay, k, wrote)
     }
 

@@ -18,6 +18,7 @@ use crate::id::FileId;
 use crate::names::Names;
 use crate::open::OpenNames;
 use crate::parents::Parents;
+use fa_capture::Seed;
 use std::alloc::{AllocError, Global};
 use std::marker::Model;
 
@@ -25,6 +26,7 @@ use std::marker::Model;
 #[derive(Drop)]
 pub(crate) struct Stored {
     pub alloc: Global,
+    pub seed: Seed,
     pub files: Files,
     pub names: Names,
     pub parents: Parents,
@@ -47,15 +49,16 @@ impl Model for Stored {
 
 impl Stored {
     /// A root with these permission bits, and nothing in it.
-    pub fn new(alloc: Global, bits: u32) -> Result<Self, AllocError>
+    pub fn new(alloc: Global, seed: Seed, bits: u32) -> Result<Self, AllocError>
         ensures { IfOk result (λ stored. stored ≡ stored_of (empty_tree bits)) }
     {
-        let files = Files::new(alloc, bits)?;
+        let files = Files::new(alloc, seed, bits)?;
         Ok(Stored {
             alloc,
+            seed,
             files,
-            names: Names::new(alloc),
-            parents: Parents::new(alloc),
+            names: Names::new(alloc, seed),
+            parents: Parents::new(alloc, seed),
         })
     }
 
@@ -68,6 +71,7 @@ impl Stored {
         let files = self.files.copy()?;
         Ok(Stored {
             alloc: self.alloc,
+            seed: self.seed,
             files,
             names,
             parents,
@@ -81,9 +85,10 @@ impl Stored {
         self.names.is_same(&other.names) && self.files.is_same(&other.files)
     }
 
-    /// A number for what it shows, the same for the same. Takes no memory, and time in all of it.
+    /// A number under its seed for what it shows, the same for the same. Takes no memory, and time in all of it.
     pub fn digest(&self) -> u64 {
-        digest_of(&(self.names.digest(), self.files.digest()))
+        let seed = self.seed;
+        digest_of(seed, &(self.names.digest(seed), self.files.digest(seed)))
     }
 
     /// About so many bytes of memory are taken. Time in the names, the files and the pages that are there.

@@ -7,6 +7,7 @@ ghost use Rattle.std.specs.Str.{bytes_eq};
 ghost use Rattle.fa_tree.specs.parts.TallyParts.{Tallies, tally_of};
 
 use crate::name_hash::feed_name;
+use fa_capture::Seed;
 use indexmap::IndexMap;
 use std::alloc::{AllocError, Global};
 use std::hash::{Hash, Hasher};
@@ -34,20 +35,25 @@ impl Hash for Listed<'_> {
 #[derive(Drop)]
 pub(crate) struct Tally<'a> {
     /// Each, with whether that was more than once.
-    pub names: IndexMap<Listed<'a>, bool>,
+    pub names: IndexMap<Listed<'a>, bool, Seed>,
     /// Those that were listed more than once.
     pub again: Vec<Listed<'a>>,
 }
 
 impl<'a> Tally<'a> {
     /// No name was listed. What is noted later takes memory from `alloc`.
-    pub fn new(alloc: Global) -> Self
+    pub fn new(alloc: Global, seed: Seed) -> Self
         ensures { Tallies result (λ name. 0) }
     {
         Tally {
-            names: IndexMap::new(alloc),
+            names: IndexMap::with_hasher(alloc, seed),
             again: Vec::new(alloc),
         }
+    }
+
+    /// What its table is hashed with.
+    pub fn seed(&self) -> Seed {
+        *self.names.hasher()
     }
 
     /// How many names were listed, each counted once. Takes no memory, in constant time.

@@ -16,7 +16,7 @@ use crate::id::FileId;
 use crate::nodes::Nodes;
 use crate::stored::Stored;
 use fa_bodies::{Kind, MAX_FILE_BYTES, is_name, is_target};
-use fa_capture::codes;
+use fa_capture::{Seed, codes};
 use std::alloc::{AllocError, Global};
 use std::marker::Model;
 
@@ -43,18 +43,25 @@ impl Model for Tree {
 
 impl Tree {
     /// A tree that is a root with these permission bits (`S_IRWXU | S_IRWXG | S_IRWXO` of POSIX at most, 0777) and nothing
-    /// in it. What is stored later takes memory from `alloc`.
+    /// in it. What is stored later takes memory from `alloc`, and its tables are hashed with the seed.
     ///
     /// Constant time and memory.
-    pub fn empty(alloc: Global, bits: u16) -> Result<Tree, AllocError>
+    pub fn empty(alloc: Global, seed: Seed, bits: u16) -> Result<Tree, AllocError>
         requires { bits ≤ all_bits }
         ensures { IfOk result (λ tree. tree ≡ empty_tree bits) }
     {
-        let stored = Stored::new(alloc, u32::from(bits))?;
+        let stored = Stored::new(alloc, seed, u32::from(bits))?;
         Ok(Tree {
             stored,
-            nodes: Nodes::new(alloc),
+            nodes: Nodes::new(alloc, seed),
         })
+    }
+
+    /// What its tables are hashed with.
+    ///
+    /// Takes no memory, in constant time.
+    pub fn seed(&self) -> Seed {
+        self.stored.seed
     }
 
     /// The same tree once more, so that one of both may be changed and the other stays as it is. An error says that memory was
@@ -84,13 +91,15 @@ impl Tree {
         self.nodes.is_same(&other.nodes) && self.stored.is_same(&other.stored)
     }
 
-    /// A number for the tree, equal for trees that are the same ([`is_same`](Tree::is_same)), in whichever order they came to be.
+    /// A number for the tree, equal for trees that are the same ([`is_same`](Tree::is_same)) and have the same seed, in whichever order
+    /// they came to be.
     /// Others may have it too: it only sorts trees, so that few are compared. It looks at names, at files with their permission bits
     /// and bytes, at nodes, and at which requests opened a directory, and not at what was in that.
     ///
     /// Takes no memory, and time in the size of the tree, as [`copy`](Tree::copy) has it.
     pub fn digest(&self) -> u64 {
-        digest_of(&(self.stored.digest(), self.nodes.digest()))
+        let seed = self.seed();
+        digest_of(seed, &(self.stored.digest(), self.nodes.digest(seed)))
     }
 
     /// About how many bytes of memory the tree holds, and a copy of it takes: what its tables and pages store, without what they have

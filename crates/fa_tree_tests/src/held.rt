@@ -1,4 +1,4 @@
-//! A WRITE to which memory is refused, between two marks for `bench/held`, which counts the bytes that are held at each.
+//! A WRITE and a copy to which memory is refused, between two marks for `bench/held`, which counts the bytes that are held at each.
 
 use crate::steps::{MEMORY, step};
 use crate::trees::empty_tree;
@@ -44,18 +44,48 @@ fn writes_again(alloc: Global, tree: &mut Tree, calls: &Calls<'_>) -> bool {
     is_made && is_begun && is_ended && is_written
 }
 
+/// Whether the CREATE and the WRITE step, and between two marks a copy is made of the tree behind them. It is made again where memory was
+/// refused.
+fn copies_again(alloc: Global, tree: &mut Tree, calls: &Calls<'_>) -> bool {
+    let is_written = step(tree, calls, 2) == 0 && step(tree, calls, 4) == 0;
+    let is_begun = mark(alloc);
+    let copy = tree.copy();
+    let is_ended = mark(alloc);
+    let is_copied = match copy {
+        Ok(copy) => copy.is_same(tree),
+        Err(_) => tree.copy().is_ok(),
+    };
+    is_written && is_begun && is_ended && is_copied
+}
+
+/// The capture of a CREATE and of a WRITE at an offset.
+fn captured_at(rt: &impl Abort, alloc: Global, offset: u64) -> Vec<u8> {
+    let payload = vec![in alloc; 1u8; WRITTEN as usize].expect(rt, "memory");
+    created_and_written(alloc, offset, &payload)
+        .capture()
+        .expect(rt, "memory")
+}
+
 /// Whether a WRITE at an offset steps, between two marks.
 fn is_written_at(rt: &impl Abort, alloc: Global, offset: u64) -> bool {
-    let payload = vec![in alloc; 1u8; WRITTEN as usize].expect(rt, "memory");
-    let bytes = created_and_written(alloc, offset, &payload)
-        .capture()
-        .expect(rt, "memory");
+    let bytes = captured_at(rt, alloc, offset);
     let calls = calls_in(alloc, &bytes).expect(rt, "good calls, and memory");
     let mut tree = empty_tree(rt, alloc);
     let is_written = writes_again(alloc, &mut tree, &calls);
     drop(tree);
     drop(calls);
     is_written
+}
+
+/// Whether a tree with what a WRITE wrote is copied, between two marks.
+fn is_copied(rt: &impl Abort, alloc: Global) -> bool {
+    let bytes = captured_at(rt, alloc, 0);
+    let calls = calls_in(alloc, &bytes).expect(rt, "good calls, and memory");
+    let mut tree = empty_tree(rt, alloc);
+    let is_copied = copies_again(alloc, &mut tree, &calls);
+    drop(tree);
+    drop(calls);
+    is_copied
 }
 
 #[test]
@@ -66,5 +96,11 @@ fn a_write_between_two_marks(rt: HostRuntime) {
 /// The same of the last bytes that a file may have.
 #[test]
 fn a_far_write_between_two_marks(rt: HostRuntime) {
-    assert!(rt; is_written_at(&rt, rt.alloc(), MAX_FILE_BYTES - u64::from(WRITTEN)));
+    let offset = MAX_FILE_BYTES - u64::from(WRITTEN);
+    assert!(rt; is_written_at(&rt, rt.alloc(), offset));
+}
+
+#[test]
+fn a_copy_between_two_marks(rt: HostRuntime) {
+    assert!(rt; is_copied(&rt, rt.alloc()));
 }

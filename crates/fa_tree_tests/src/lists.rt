@@ -4,6 +4,7 @@ use crate::steps::{step, step_in};
 use crate::trees::Added::{self, File};
 use crate::trees::{empty_tree, tree_of};
 use fa_bodies::ROOT_ID as ROOT;
+use fa_capture::Seed;
 use fa_capture::codes::{ATTRIBUTES, LISTING};
 use fa_ledger::Calls;
 use fa_sample::{Listed, Sample};
@@ -105,7 +106,7 @@ type Steps = (u32, u32, u16);
 
 /// What comes of all calls in their order.
 fn steps_told(alloc: Global, along: &mut Tree, alone: &mut Tree, calls: &Calls<'_>) -> Steps {
-    let mut replay = Replay::new(alloc, calls);
+    let mut replay = Replay::new(alloc, Seed::default(), calls);
     let (mut steps, mut others, mut greatest) = (0u32, 0u32, 0);
     for place in 0..calls.list.len() {
         let asked = calls.list.call(place).asked;

@@ -7,6 +7,7 @@ use crate::trees::Added::{self, File, Name};
 use crate::trees::{empty_tree, tree_of};
 use fa_bodies::errno::{EACCES, EEXIST, ENOENT};
 use fa_bodies::{MAX_FILE_BYTES, ROOT_ID as ROOT};
+use fa_capture::Seed;
 use fa_capture::codes::{
     ATTRIBUTES, ERROR_WITHOUT_CAUSE, LISTING, SUCCESS_NOT_ALLOWED, UNKNOWN_HERE,
 };
@@ -388,7 +389,7 @@ fn would(tree: &Tree, alloc: Global, calls: &Calls<'_>) -> u16 {
     let Some(place) = place_of(calls, 4) else {
         return UNTOLD;
     };
-    let mut replay = Replay::new(alloc, calls);
+    let mut replay = Replay::new(alloc, Seed::default(), calls);
     let told = tree.would(&mut replay, place);
     drop(replay);
     match told {

@@ -5,6 +5,7 @@
 ghost use Rattle.std.specs.Prelude.{◌≤◌};
 
 use Added::*;
+use fa_capture::Seed;
 use fa_capture::codes::SUCCESS_NOT_ALLOWED;
 use fa_tree::{FileId, Kind, StepError, Tree};
 use std::alloc::Global;
@@ -139,7 +140,7 @@ fn are_added(alloc: Global, tree: &mut Tree, files: &[Added]) -> Option<bool> {
 
 /// A tree of its root alone.
 pub fn empty_tree(rt: &impl Abort, alloc: Global) -> Tree {
-    Tree::empty(alloc, 0o755).expect(rt, "memory")
+    Tree::empty(alloc, Seed::default(), 0o755).expect(rt, "memory")
 }
 
 /// A tree of these files.
@@ -248,7 +249,7 @@ fn link_again(tree: &mut Tree, parent: FileId, name: &[u8], file: FileId) -> Opt
 
 /// A tree of its root alone, asked for again where memory was refused.
 pub fn empty_again(rt: &impl Abort, alloc: Global) -> Tree {
-    match Tree::empty(alloc, 0o755) {
+    match Tree::empty(alloc, Seed::default(), 0o755) {
         Ok(tree) => tree,
         Err(_) => empty_tree(rt, alloc),
     }

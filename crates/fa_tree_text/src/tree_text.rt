@@ -26,6 +26,7 @@ ghost use Rattle.fa_tree_text.specs.Faults.{IsTreeFaultTold};
 use crate::additions::add_line;
 use crate::fields::read_bits;
 use crate::folders::Folders;
+use fa_capture::Seed;
 use fa_order::{END_LINE, LINE_FEED, MAX_TEXT_BYTES, TextError};
 use fa_tree::Tree;
 use std::alloc::Global;
@@ -45,7 +46,7 @@ fn read_root(left: &[u8]) -> Option<(u16, &[u8])>
     Some((bits, rest.strip_prefix(LINE_FEED.as_slice())?))
 }
 
-/// The tree of a tree text.
+/// The tree of a tree text. Its tables are hashed with the seed.
 ///
 /// The text is the line `fuse-tree 1`, the line `root BBB`, a line for each file and each further name, and the line `end`, as the
 /// head of this module says; nothing may follow it. Files are numbered as their lines come, the root as 0. The format and its
@@ -62,7 +63,7 @@ fn read_root(left: &[u8]) -> Option<(u16, &[u8])>
 /// for each line. Of a path the last name alone is decoded and looked up where the path before it is spelled as that of the line
 /// before, or as that of the directory which was added last; elsewhere each name of it is, from the root on. Memory for the tree,
 /// and for one name and one body at a time.
-pub fn read_tree(alloc: Global, bytes: &[u8]) -> Result<Tree, TextError>
+pub fn read_tree(alloc: Global, seed: Seed, bytes: &[u8]) -> Result<Tree, TextError>
     requires { length bytes.now ≤ MAX_TEXT_BYTES }
     ensures found { IfOk result (λ tree. IsTreeText bytes.now tree) }
     ensures fault { IfErr result (IsTreeFaultTold bytes.now) }
@@ -73,7 +74,7 @@ pub fn read_tree(alloc: Global, bytes: &[u8]) -> Result<Tree, TextError>
     let Some((bits, left)) = read_root(left) else {
         return Err(TextError::Line(2));
     };
-    let mut tree = Tree::empty(alloc, bits)?;
+    let mut tree = Tree::empty(alloc, seed, bits)?;
     add_lines(alloc, &mut tree, left)?;
     Ok(tree)
 }

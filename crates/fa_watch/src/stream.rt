@@ -13,7 +13,7 @@ ghost use Rattle.fa_watch.specs.parts.Streams.{AreShown, HasBeen, IsReadFurther,
 use crate::message::MessageError;
 use crate::watching::Seen;
 use bumpalo::Bump;
-use fa_capture::{Arrived, CaptureFault, Incoming, Packet};
+use fa_capture::{Arrived, CaptureFault, Incoming, Packet, Seed};
 use fa_ledger::Standing;
 use fa_session::Session;
 use std::alloc::{AllocError, Global};
@@ -29,13 +29,13 @@ pub(crate) struct Stream {
 
 impl Stream {
     /// A stream of which nothing has come.
-    pub fn new(alloc: Global) -> Self
+    pub fn new(alloc: Global, seed: Seed) -> Self
         ensures incoming { HasCome [] [] result.incoming }
         ensures standing { ShowsStanding [] result.standing }
     {
         Stream {
             incoming: Incoming::new(alloc),
-            standing: Standing::new(alloc),
+            standing: Standing::new(alloc, seed),
         }
     }
 

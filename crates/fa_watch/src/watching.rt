@@ -6,7 +6,7 @@ ghost use Rattle.fa_watch.specs.parts.Watching.{IsSoFar};
 
 use crate::stream::Stream;
 use bumpalo::Bump;
-use fa_capture::{Input, MAX_READ_LIMIT, PIECE, Pull, SPARE_PULLS};
+use fa_capture::{Input, MAX_READ_LIMIT, PIECE, Pull, SPARE_PULLS, Seed};
 use fa_session::{Parked, Session};
 use std::alloc::{AllocError, Global};
 use thiserror::Error;
@@ -55,7 +55,7 @@ const GENERATION: usize = 1_048_576;
 ///
 /// The capture is in either [`Format`](fa_capture::Format); its checks, their order and its limits are those of
 /// [`read_capture`](fa_capture::read_capture), [`Session::accept`] and [`Ledger::accept`](fa_ledger::Ledger::accept), and so is what is
-/// told. No mark of the input is set at the call. An interrupted pull is made again.
+/// told. Tables are hashed with the seed. No mark of the input is set at the call. An interrupted pull is made again.
 ///
 /// Which bytes were read is said where the input tells its bytes, as one over memory does. Files and pipes do not: of a call on them it
 /// is said alone that what is told is true of some bytes.
@@ -72,19 +72,19 @@ const GENERATION: usize = 1_048_576;
 /// outstanding requests have, these are copied once. Memory for the most nodes, keys and openings that were alive at once, twice for the
 /// outstanding requests, for the record that is begun, and for a megabyte and a piece of the stream, or as much of it as the outstanding
 /// requests have bytes where these are more.
-pub fn watch<R: Input>(alloc: Global, input: &mut R) -> Result<Seen, WatchError>
+pub fn watch<R: Input>(alloc: Global, seed: Seed, input: &mut R) -> Result<Seen, WatchError>
     requires unfailed { R.has_failed input.old ≡ false }
     requires uninterrupted { R.was_interrupted input.old ≡ false }
     ensures seen { IfOk result (IsWatched (R.remaining input.old) (R.remaining input.new)) }
     ensures read { IsErrOf result WatchError.Read → (R.has_failed input.new ≡ true) ⊎ (R.was_interrupted input.new ≡ true) }
     ensures failed { R.has_failed input.new ≡ true → IsErrOf result WatchError.Read }
 {
-    let mut stream = Stream::new(alloc);
+    let mut stream = Stream::new(alloc, seed);
     let mut parked = Parked::new(alloc);
     let mut pulls = 0;
     while pulls < MAX_PULLS {
         let arena = Bump::new(alloc);
-        let mut session = parked.resume(alloc)?;
+        let mut session = parked.resume(alloc, seed)?;
         let room = parked.bytes().max(GENERATION);
         let seen = read_on(input, &mut stream, &mut session, &arena, &mut pulls, room)?;
         if let Some(seen) = seen {

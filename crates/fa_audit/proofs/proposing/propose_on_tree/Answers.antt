@@ -7,11 +7,11 @@ use Rattle.fa_audit.proofs.proposing.propose_on_tree.Goals as goal
 
 pub tell_proposal-requires-clause-coded : goal.tell_proposal-requires-clause-coded
 tell_proposal-requires-clause-coded g c =
-    IfErr-weaker c.proposed.result _ _ (λ error of. no_start_coded c.in_ok-stored.stored _ error (of c.in_ok-stored.stored c.capture.ensures)) c.proposed.ensures.none
+    IfErr-weaker c.proposed.result _ _ (λ error of. no_start_coded c.in_ok-stored.stored _ error (of c.in_ok-stored.stored (c.with_seed.ensures.same c.in_ok-stored.stored c.capture.ensures))) c.proposed.ensures.none
 
 pub returns-clause-told : goal.returns-clause-told
 returns-clause-told g c =
-    let read = bytes_stored _ _ c.capture.result c.in_ok-stored.ensures.capture c.capture.ensures in
+    let read = bytes_stored _ _ c.with_seed.result c.in_ok-stored.ensures.capture (c.with_seed.ensures.same c.in_ok-stored.stored c.capture.ensures) in
     proposed_from c.tell_proposal.result _ _ _ _ read.0 (Some c.in_ok-tree.tree.items) c.proposed.result read.1
     (c.in_ok-tree.tree.items, refl, record { whole = c.in_ok-tree.ensures.bytes; within = (search rules) })
     (rw (← c.deref.ensures.value)

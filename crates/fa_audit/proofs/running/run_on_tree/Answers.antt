@@ -9,7 +9,7 @@ tell-requires-clause-coded g c = c.audit_capture.ensures.codes
 
 pub returns-clause-told : goal.returns-clause-told
 returns-clause-told g c =
-    let read = bytes_stored _ _ c.capture.result c.in_ok-stored.ensures.capture c.capture.ensures in
+    let read = bytes_stored _ _ c.with_seed.result c.in_ok-stored.ensures.capture (c.with_seed.ensures.same c.in_ok-stored.stored c.capture.ensures) in
     let answer = c.audit_capture.ensures in
     audited c.tell.result _ _ _ _ _ read.0 c.in_ok-order.order.items (Some c.in_ok-tree.tree.items) c.audit_capture.result
     read.1 c.in_ok-order.ensures.bytes (search rules)

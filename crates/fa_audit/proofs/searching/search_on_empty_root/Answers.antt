@@ -8,15 +8,15 @@ use Rattle.fa_audit.proofs.searching.search_on_empty_root.Goals as goal
 
 pub tell_search-requires-clause-coded : goal.tell_search-requires-clause-coded
 tell_search-requires-clause-coded g c =
-    IfOk-weaker c.searched.result _ _ (λ answer of. searched_coded c.in_ok-stored.stored _ answer (of c.in_ok-stored.stored c.capture.ensures)) c.searched.ensures.answer
+    IfOk-weaker c.searched.result _ _ (λ answer of. searched_coded c.in_ok-stored.stored _ answer (of c.in_ok-stored.stored (c.with_seed.ensures.same c.in_ok-stored.stored c.capture.ensures))) c.searched.ensures.answer
 
 pub tell_search-requires-clause-coded_fault : goal.tell_search-requires-clause-coded_fault
 tell_search-requires-clause-coded_fault g c =
-    IfErr-weaker c.searched.result _ _ (λ error of. no_start_coded c.in_ok-stored.stored _ error (of c.in_ok-stored.stored c.capture.ensures)) c.searched.ensures.none
+    IfErr-weaker c.searched.result _ _ (λ error of. no_start_coded c.in_ok-stored.stored _ error (of c.in_ok-stored.stored (c.with_seed.ensures.same c.in_ok-stored.stored c.capture.ensures))) c.searched.ensures.none
 
 pub returns-clause-told : goal.returns-clause-told
 returns-clause-told g c =
-    let read = bytes_stored _ _ c.capture.result c.in_ok-stored.ensures.capture c.capture.ensures in
+    let read = bytes_stored _ _ c.with_seed.result c.in_ok-stored.ensures.capture (c.with_seed.ensures.same c.in_ok-stored.stored c.capture.ensures) in
     searched_from c.tell_search.result _ _ _ _ read.0 None c.searched.result read.1 refl
     (searched_or_memory _ _ c.searched.result (IfOk-weaker c.searched.result _ _ (λ answer of. of read.0 read.2) c.searched.ensures.answer)
     (IfErr-weaker c.searched.result _ _ (λ error of. of read.0 read.2) c.searched.ensures.none))

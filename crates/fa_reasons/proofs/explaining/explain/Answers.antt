@@ -16,7 +16,13 @@ returns-in_ok-order-in-None-clause-answer c =
     (IfOk-weaker c.explain_order-in-None.result _ _
     (λ told is. record {
       order = c.in_ok-order-in-None.order.items;
-      used = c.in_ok-order-in-None.ensures.proposed c.args.capture.now c.read_capture-parsed.ensures;
+      used = c.in_ok-order-in-None.ensures.proposed c.args.capture.now (c.with_seed-parsed.ensures.same c.args.capture.now c.read_capture.ensures);
       is_answer = subst (λ (order : List ℕ). IsAnswer c.args.capture.now (option_copied c.args.tree) order told.answer) c.deref.ensures.value is;
     })
     c.explain_order-in-None.ensures.answer)
+
+pub explain_order-requires-clause-read : goal.explain_order-requires-clause-read
+explain_order-requires-clause-read c = c.with_seed-parsed.ensures.same c.args.capture.now c.read_capture.ensures
+
+pub explain_order-requires-in-None-clause-read : goal.explain_order-requires-in-None-clause-read
+explain_order-requires-in-None-clause-read c = c.with_seed-parsed.ensures.same c.args.capture.now c.read_capture.ensures
