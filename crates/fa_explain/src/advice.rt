@@ -15,6 +15,14 @@ pub enum Advice {
     Second,
     /// The third alone.
     Third,
+    /// The fourth alone.
+    Fourth,
+    /// The first and the second.
+    FirstAndSecond,
+    /// The first and the third.
+    FirstAndThird,
+    /// The second and the third.
+    SecondAndThird,
     /// All of them.
     All,
 }
@@ -26,6 +34,10 @@ impl Advice {
             Advice::First => place == 0,
             Advice::Second => place == 1,
             Advice::Third => place == 2,
+            Advice::Fourth => place == 3,
+            Advice::FirstAndSecond => place == 0 || place == 1,
+            Advice::FirstAndThird => place == 0 || place == 2,
+            Advice::SecondAndThird => place == 1 || place == 2,
             Advice::All => true,
         }
     }

@@ -27,9 +27,9 @@ const ROOM: usize = 65_536;
 ///
 /// # Cost
 ///
-/// Linear time in the capture: a few walks over where the records lie, and for a node or a file handle that is not known the time of
-/// [`Session::accept`](fa_session::Session::accept) for each message before it. Memory for the outstanding requests, for the nodes that
-/// the message names, and for the text.
+/// Linear time in the capture: a few walks over where the records lie, and for a node or a file handle that is not known twice the time
+/// of [`Session::accept`](fa_session::Session::accept) for each message. Memory for the outstanding requests, for the nodes that the
+/// message names, and for the text.
 pub fn fault_reasons(
     alloc: Global,
     bytes: &[u8],

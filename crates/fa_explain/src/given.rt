@@ -28,6 +28,15 @@ impl<'a> Given<'a> {
         }
     }
 
+    /// Whether a node is one of them.
+    pub fn has(self, node: u64) -> bool {
+        match self {
+            Given::Nothing => false,
+            Given::One(given) => given == node,
+            Given::Listed(entries) => name_listed(entries, node).is_some(),
+        }
+    }
+
     /// The node of a name: to LOOKUP 0 stands for none.
     fn looked_up(asked: &RequestBody<'_>, nodeid: u64) -> Self {
         match asked {
@@ -46,6 +55,18 @@ pub(crate) fn node_listed(dirent: &Dirent<'_>) -> Option<u64> {
         return None;
     }
     Some(entry.nodeid)
+}
+
+/// The name of the first entry of a READDIRPLUS that gives a node, if one does.
+///
+/// Takes no memory, and time linear in the entries.
+pub(crate) fn name_listed<'a>(entries: Entries<'a>, node: u64) -> Option<&'a [u8]> {
+    for dirent in entries {
+        if node_listed(&dirent) == Some(node) {
+            return Some(dirent.name);
+        }
+    }
+    None
 }
 
 /// As what a file handle is opened and used.
@@ -74,7 +95,7 @@ impl HandleKind {
 }
 
 /// A file handle: its number, and as what and for which node it is opened or used.
-#[derive(Clone, Copy)]
+#[derive(Clone, Copy, PartialEq, Eq)]
 pub(crate) struct Handle {
     pub fh: u64,
     pub kind: HandleKind,

@@ -5,6 +5,7 @@ use crate::citing::{earlier_answer, earlier_request};
 use crate::exchange::Answered;
 use crate::fault::Fault;
 use crate::given::{Handle, handle_used};
+use crate::misplaced::{Sought, given_behind, late_answer, may_be_late_behind};
 use crate::nodes::NodePast;
 use crate::past::Past;
 use fa_capture::Capture;
@@ -25,6 +26,8 @@ pub(crate) struct HandlePast {
     closed: Option<u32>,
     /// The last answer that opened it before its node was given anew.
     before: Option<Answered>,
+    /// The request that took the last lookup of its node back before that.
+    forgotten: Option<u32>,
     /// The last answer that opened it as another kind.
     as_other: Option<Answered>,
     /// The last answer that opened it for another node, and that node.
@@ -41,16 +44,18 @@ impl HandlePast {
             opened: None,
             closed: None,
             before: None,
+            forgotten: None,
             as_other: None,
             elsewhere: None,
         }
     }
 
-    /// Notes that a node which was not known is given.
-    pub fn node_begins_anew(&mut self, node: u64) {
+    /// Notes that a node which was not known is given, where this request took its last lookup back.
+    pub fn node_begins_anew(&mut self, node: u64, taken: Option<u32>) {
         if node == self.handle.node {
             *self = HandlePast {
                 before: self.opened.or(self.before),
+                forgotten: taken,
                 elsewhere: self.elsewhere,
                 ..HandlePast::of(self.handle)
             };
@@ -94,6 +99,68 @@ impl HandlePast {
     }
 }
 
+/// Why a file handle is not open.
+#[derive(Clone, Copy)]
+enum Cause {
+    /// All its openings were closed: the last opening, and what closed it.
+    Closed(Answered, u32),
+    /// It was opened as another kind.
+    OtherKind(Answered),
+    /// It was opened before its node was taken back, by this request, and given anew.
+    BeforeItsNode {
+        opened: Answered,
+        forgotten: Option<u32>,
+        anew: Answered,
+    },
+    /// It was opened for this node, another one.
+    Elsewhere(u64, Answered),
+    /// No answer opened it.
+    Never,
+}
+
+impl Cause {
+    /// Why a handle is not open, by what the messages say of it and of its node.
+    fn of(past: &HandlePast, node: &NodePast) -> Self {
+        if let (Some(opened), Some(closed)) = (past.opened, past.closed) {
+            return Cause::Closed(opened, closed);
+        }
+        if let Some(opened) = past.as_other {
+            return Cause::OtherKind(opened);
+        }
+        if let (Some(opened), Some(anew)) = (past.before, node.first()) {
+            return Cause::BeforeItsNode {
+                opened,
+                forgotten: past.forgotten,
+                anew,
+            };
+        }
+        match past.elsewhere {
+            Some((node, opened)) => Cause::Elsewhere(node, opened),
+            None => Cause::Never,
+        }
+    }
+
+    /// The answer that opened it, if one did.
+    fn opened(self) -> Option<Answered> {
+        match self {
+            Cause::Closed(opened, _) => Some(opened),
+            Cause::OtherKind(opened) => Some(opened),
+            Cause::BeforeItsNode { opened, .. } => Some(opened),
+            Cause::Elsewhere(_, opened) => Some(opened),
+            Cause::Never => None,
+        }
+    }
+
+    /// The request that ended its opening, if one did.
+    fn ended(self) -> Option<u32> {
+        match self {
+            Cause::Closed(_, closed) => Some(closed),
+            Cause::BeforeItsNode { forgotten, .. } => forgotten,
+            Cause::OtherKind(_) | Cause::Elsewhere(..) | Cause::Never => None,
+        }
+    }
+}
+
 /// Writes why a file handle is not open, and what opened and closed it: what to look at.
 pub(crate) fn explain(
     alloc: Global,
@@ -107,11 +174,14 @@ pub(crate) fn explain(
     let mut past = Past::new(alloc, capture.seed);
     past.ask_for_handle(handle)?;
     past.read(alloc, capture, fault.number)?;
+    let late = late_answer(alloc, capture, fault.number, Sought::Handle(handle))?;
     let node = past.node(handle.node);
-    match past.handle() {
-        Some(handle) => Ok(not_open(text, capture, &handle, &node)),
-        None => Ok(Advice::First),
-    }
+    let Some(past) = past.handle() else {
+        return Ok(Advice::First);
+    };
+    let cause = Cause::of(&past, &node);
+    not_open(text, capture, &past, cause, late);
+    Ok(advice_on(capture, fault, cause, late))
 }
 
 /// The file handle that the request at fault uses.
@@ -120,33 +190,55 @@ fn used_by(fault: &Fault<'_>) -> Option<Handle> {
     handle_used(&request)
 }
 
-/// Writes why a file handle is not open.
-fn not_open(text: &mut Text, capture: &Capture<'_>, past: &HandlePast, node: &NodePast) -> Advice {
-    if let (Some(opened), Some(closed)) = (past.opened, past.closed) {
-        closed_again(text, past, closed);
-        earlier_answer(text, capture, opened);
-        earlier_request(text, capture, closed);
-        return Advice::First;
+/// What to look at: an answer that was recorded too late, or one that is missing and the request, which may have been recorded too late
+/// behind a RELEASE, or a handle that was mistaken for another one.
+fn advice_on(
+    capture: &Capture<'_>,
+    fault: &Fault<'_>,
+    cause: Cause,
+    late: Option<Answered>,
+) -> Advice {
+    if late.is_some() {
+        return Advice::Fourth;
     }
-    if let Some(opened) = past.as_other {
-        opened_as_other(text, past);
-        earlier_answer(text, capture, opened);
-        return Advice::All;
+    if let Some(ended) = cause.ended() {
+        if may_be_late_behind(capture, fault, ended) {
+            return Advice::FirstAndThird;
+        }
     }
-    if let (Some(opened), Some(first)) = (past.before, node.first()) {
-        opened_before(text, past, first);
-        earlier_answer(text, capture, opened);
-        return Advice::All;
+    match cause {
+        Cause::Closed(..) | Cause::Never => Advice::First,
+        Cause::OtherKind(_) | Cause::BeforeItsNode { .. } | Cause::Elsewhere(..) => {
+            Advice::FirstAndSecond
+        }
     }
-    if let Some((node, opened)) = past.elsewhere {
-        opened_elsewhere(text, past, node);
-        earlier_answer(text, capture, opened);
-        return Advice::All;
+}
+
+/// Writes why a file handle is not open, and the messages that say so.
+fn not_open(
+    text: &mut Text,
+    capture: &Capture<'_>,
+    past: &HandlePast,
+    cause: Cause,
+    late: Option<Answered>,
+) {
+    match cause {
+        Cause::Closed(_, closed) => closed_again(text, past, closed),
+        Cause::OtherKind(_) => opened_as_other(text, past),
+        Cause::BeforeItsNode { anew, .. } => opened_before(text, past, anew),
+        Cause::Elsewhere(node, _) => opened_elsewhere(text, past, node),
+        Cause::Never => opened_never(text, past),
     }
-    handle_of_node(text, past);
-    text.word(" was opened by no answer before");
+    if let Some(late) = late {
+        given_behind(text, capture, late, "opens it");
+    }
     text.end_line();
-    Advice::First
+    if let Some(opened) = cause.opened() {
+        earlier_answer(text, capture, opened);
+    }
+    if let Some(ended) = cause.ended() {
+        earlier_request(text, capture, ended);
+    }
 }
 
 /// Writes a file handle and its node.
@@ -162,7 +254,6 @@ fn closed_again(text: &mut Text, past: &HandlePast, closed: u32) {
     text.count(past.answers, " answer", " answers");
     text.field(" opened it, and ", u64::from(closed));
     text.word(" closed the last opening");
-    text.end_line();
 }
 
 /// Writes that a handle was opened as another kind.
@@ -172,15 +263,13 @@ fn opened_as_other(text: &mut Text, past: &HandlePast) {
     text.word(past.handle.kind.other().word());
     text.word(", and is used as a ");
     text.word(past.handle.kind.word());
-    text.end_line();
 }
 
 /// Writes that a handle was opened before its node was given anew.
-fn opened_before(text: &mut Text, past: &HandlePast, first: Answered) {
+fn opened_before(text: &mut Text, past: &HandlePast, anew: Answered) {
     handle_of_node(text, past);
-    text.field(" was opened before ", u64::from(first.at));
+    text.field(" was opened before ", u64::from(anew.at));
     text.word(" gave the node anew");
-    text.end_line();
 }
 
 /// Writes that a handle was opened for another node.
@@ -188,5 +277,10 @@ fn opened_elsewhere(text: &mut Text, past: &HandlePast, node: u64) {
     text.field("fh ", past.handle.fh);
     text.field(" was opened for node ", node);
     text.field(", and is used with node ", past.handle.node);
-    text.end_line();
+}
+
+/// Writes that no answer opened a handle.
+fn opened_never(text: &mut Text, past: &HandlePast) {
+    handle_of_node(text, past);
+    text.word(" was opened by no answer before");
 }

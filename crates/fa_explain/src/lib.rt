@@ -19,13 +19,18 @@ mod given;
 mod handles;
 mod headers;
 mod listings;
+mod misfits;
+mod misplaced;
 mod names;
 mod nodes;
+mod order_lines;
 mod past;
 mod sessions;
 mod shapes;
 mod successes;
 mod texts;
+mod tree_lines;
+mod tree_paths;
 
 pub use advice::{Advice, advice_of, look_at};
 pub use citing::{asked_before, cite};

@@ -4,7 +4,8 @@ use crate::advice::Advice;
 use crate::citing::{earlier_answer, earlier_request};
 use crate::exchange::{Answered, Exchange};
 use crate::fault::Fault;
-use crate::given::{Given, node_listed};
+use crate::given::{Given, name_listed};
+use crate::misplaced::{Sought, given_behind, late_answer, may_be_late_behind};
 use crate::past::Past;
 use fa_bodies::{ROOT_ID, Request, RequestBody, items};
 use fa_capture::{Capture, codes};
@@ -43,6 +44,11 @@ impl NodePast {
     /// The first answer that gave it.
     pub fn first(&self) -> Option<Answered> {
         self.first
+    }
+
+    /// The last request that took lookups of it back.
+    pub fn taken(&self) -> Option<u32> {
+        self.taken
     }
 
     /// Notes that an answer gives it.
@@ -86,7 +92,7 @@ pub(crate) fn explain(
     exchange: Option<Exchange<'_>>,
 ) -> Result<Advice, AllocError> {
     match fault.code {
-        codes::FORGOTTEN_NODE => unknown(alloc, text, capture, fault)?,
+        codes::FORGOTTEN_NODE => return unknown(alloc, text, capture, fault),
         codes::FORGOTTEN_TOO_OFTEN => too_often(alloc, text, capture, fault)?,
         _ => not_allowed(text, fault, exchange),
     }
@@ -107,15 +113,15 @@ fn other_node(body: &RequestBody<'_>) -> Option<u64> {
     }
 }
 
-/// Writes which node is not known, and why.
+/// Writes which node is not known, and why: what to look at.
 fn unknown(
     alloc: Global,
     text: &mut Text,
     capture: &Capture<'_>,
     fault: &Fault<'_>,
-) -> Result<(), AllocError> {
+) -> Result<Advice, AllocError> {
     let Some(request) = request_of(fault) else {
-        return Ok(());
+        return Ok(Advice::First);
     };
     let other = other_node(&request.body).unwrap_or(ROOT_ID);
     let mut past = Past::new(alloc, capture.seed);
@@ -127,25 +133,60 @@ fn unknown(
     } else {
         request.node
     };
-    unknown_node(text, capture, node, &past.node(node));
-    Ok(())
+    let late = late_answer(alloc, capture, fault.number, Sought::Node(node))?;
+    let past = past.node(node);
+    unknown_node(text, capture, node, &past, late);
+    let may_be_late = past
+        .taken()
+        .is_some_and(|taken| may_be_late_behind(capture, fault, taken));
+    Ok(advice_on_unknown(may_be_late, late))
 }
 
-/// Writes why a node is not known.
-fn unknown_node(text: &mut Text, capture: &Capture<'_>, node: u64, past: &NodePast) {
-    let (Some(given), Some(taken)) = (past.given, past.taken) else {
-        text.field("node ", node);
-        text.word(" was given by no answer before");
-        return text.end_line();
-    };
+/// What to look at where a node is not known: an answer that was recorded too late, the request, which may have been recorded too late
+/// behind a FORGET, or an answer that is missing.
+fn advice_on_unknown(may_be_late: bool, late: Option<Answered>) -> Advice {
+    match (may_be_late, late) {
+        (true, Some(_)) => Advice::SecondAndThird,
+        (true, None) => Advice::FirstAndSecond,
+        (false, Some(_)) => Advice::Third,
+        (false, None) => Advice::First,
+    }
+}
+
+/// Writes why a node is not known, and the messages that say so.
+fn unknown_node(
+    text: &mut Text,
+    capture: &Capture<'_>,
+    node: u64,
+    past: &NodePast,
+    late: Option<Answered>,
+) {
+    match past.taken {
+        Some(taken) => taken_back(text, node, past, taken),
+        None => {
+            text.field("node ", node);
+            text.word(" was given by no answer before");
+        }
+    }
+    if let Some(late) = late {
+        given_behind(text, capture, late, "gives it");
+    }
+    text.end_line();
+    if let Some(given) = past.given {
+        earlier_answer(text, capture, given);
+    }
+    if let Some(taken) = past.taken {
+        earlier_request(text, capture, taken);
+    }
+}
+
+/// Writes how the lookups of a node came and went.
+fn taken_back(text: &mut Text, node: u64, past: &NodePast, taken: u32) {
     text.field("the lookups of node ", node);
     text.word(" were all taken back: ");
     text.count(past.answers, " answer", " answers");
     text.field(" gave it, and ", u64::from(taken));
     text.word(" took the last one");
-    text.end_line();
-    earlier_answer(text, capture, given);
-    earlier_request(text, capture, taken);
 }
 
 /// Writes of which node more lookups are taken back than it has, and why.
@@ -226,16 +267,24 @@ fn taken_too_often(
     }
 }
 
-/// Writes which node may not be given.
+/// Writes which node may not be given, and of a listing which entry gives it.
 fn not_allowed(text: &mut Text, fault: &Fault<'_>, exchange: Option<Exchange<'_>>) {
-    let node = match exchange {
-        Some(exchange) => match exchange.request() {
-            Some(asked) => node_not_allowed(&asked, fault),
-            None => ROOT_ID,
-        },
-        None => ROOT_ID,
+    let node = match given_by(fault, exchange) {
+        Given::One(node) => {
+            text.word("it");
+            node
+        }
+        Given::Listed(entries) => {
+            text.word("its entry ");
+            text.name(name_listed(entries, ROOT_ID).unwrap_or(&[]));
+            ROOT_ID
+        }
+        Given::Nothing => {
+            text.word("it");
+            ROOT_ID
+        }
     };
-    text.field("it gives node ", node);
+    text.field(" gives node ", node);
     text.word(if node == ROOT_ID {
         ", which is the root's"
     } else {
@@ -244,16 +293,24 @@ fn not_allowed(text: &mut Text, fault: &Fault<'_>, exchange: Option<Exchange<'_>
     text.end_line();
 }
 
-/// The node that a reply may not give. In a listing it is the root's.
-fn node_not_allowed(asked: &Asked<'_>, fault: &Fault<'_>) -> u64 {
+/// What the reply at fault gives.
+fn given_by<'a>(fault: &Fault<'a>, exchange: Option<Exchange<'_>>) -> Given<'a> {
+    let Some(exchange) = exchange else {
+        return Given::Nothing;
+    };
+    match exchange.request() {
+        Some(asked) => given_to(&asked, fault),
+        None => Given::Nothing,
+    }
+}
+
+/// What the reply at fault gives to a request.
+fn given_to<'a>(asked: &Asked<'_>, fault: &Fault<'a>) -> Given<'a> {
     let Ok(request) = &asked.request else {
-        return ROOT_ID;
+        return Given::Nothing;
     };
-    let Some(reply) = said(request, &fault.packet) else {
-        return ROOT_ID;
-    };
-    match Given::by(&request.body, &reply) {
-        Given::One(node) => node,
-        Given::Nothing | Given::Listed(_) => ROOT_ID,
+    match said(request, &fault.packet) {
+        Some(reply) => Given::by(&request.body, &reply),
+        None => Given::Nothing,
     }
 }

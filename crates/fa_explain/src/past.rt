@@ -138,7 +138,7 @@ impl Past {
         };
         if !past.is_known() {
             if let Some(handle) = &mut self.handle {
-                handle.node_begins_anew(node);
+                handle.node_begins_anew(node, past.taken());
             }
         }
         past.give(answered);

@@ -2,7 +2,7 @@
 
 use crate::advice::Advice;
 use crate::citing::{earlier_answer, earlier_request};
-use crate::exchange::{Answered, Exchange};
+use crate::exchange::{Answered, Exchange, unique_of};
 use crate::fault::Fault;
 use bitflags::Flags;
 use fa_bodies::{InitIn, Negotiated, Reply, RequestBody, opcodes};
@@ -27,7 +27,7 @@ pub(crate) fn explain(
     exchange: Option<Exchange<'_>>,
 ) -> Advice {
     match fault.code {
-        codes::FIRST_NOT_INIT => first_not_init(text, fault),
+        codes::FIRST_NOT_INIT => first_not_init(text, capture, fault),
         codes::SECOND_INIT => after_init(text, capture, "a capture has one INIT"),
         codes::BEFORE_INIT_ANSWERED => {
             after_init(text, capture, "no success to INIT stands before it")
@@ -47,12 +47,23 @@ fn sentence(text: &mut Text, words: &str) -> Advice {
 }
 
 /// Writes that INIT is not in front.
-fn first_not_init(text: &mut Text, fault: &Fault<'_>) -> Advice {
+fn first_not_init(text: &mut Text, capture: &Capture<'_>, fault: &Fault<'_>) -> Advice {
     let advice = sentence(text, "message 0 of a capture is the request INIT");
     match fault.packet.direction {
         Direction::ToServer => advice,
-        Direction::FromServer => Advice::Second,
+        Direction::FromServer if is_asked(capture, fault.unique()) => Advice::Second,
+        Direction::FromServer => Advice::Third,
     }
+}
+
+/// Whether a request of a capture has this unique.
+fn is_asked(capture: &Capture<'_>, unique: u64) -> bool {
+    for packet in capture.packets() {
+        if packet.direction == Direction::ToServer && unique_of(&packet) == Some(unique) {
+            return true;
+        }
+    }
+    false
 }
 
 /// Writes what a request breaks that comes behind INIT, and the line of INIT.
@@ -62,7 +73,7 @@ fn after_init(text: &mut Text, capture: &Capture<'_>, words: &str) -> Advice {
     advice
 }
 
-/// Writes which request has the unique.
+/// Writes which request has the unique. Another request than the one at fault was not recorded twice.
 fn in_use(
     text: &mut Text,
     capture: &Capture<'_>,
@@ -75,7 +86,11 @@ fn in_use(
     unique_of_message(text, fault, " is that of message ", exchange.asked);
     let advice = sentence(text, ", which still waits for its answer");
     earlier_request(text, capture, exchange.asked);
-    advice
+    if exchange.packet.bytes == fault.packet.bytes {
+        advice
+    } else {
+        Advice::Second
+    }
 }
 
 /// Writes whose unique it is.

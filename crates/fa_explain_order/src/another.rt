@@ -100,7 +100,9 @@ pub(crate) fn order_line(
 fn others(text: &mut Text, calls: &Calls<'_>, another: Another) -> bool {
     match another {
         Another::Legal => text.word("another is legal (`fa_audit search`)"),
-        Another::SoFar => text.word("another explains this answer"),
+        Another::SoFar => text.word(
+            "another explains this answer, and more is not known (`fa_audit search`)",
+        ),
         Another::Never => text.word("no order explains this answer"),
         Another::Until(stop) => {
             text.word("another explains this answer, but none the one to ");
@@ -145,7 +147,7 @@ fn earlier_overlap(text: &mut Text, calls: &Calls<'_>, pair: (u32, u32), another
         text.word("none was under way with it, but ");
         two_requests(text, calls, pair);
         text.word(
-            " were at once: another order of what came before may explain it (`fa_audit judge`)",
+            " were at once: another order of what came before may explain it (`fa_audit judge`, with more `--steps` where it gives up)",
         );
     }
 }
@@ -162,7 +164,9 @@ fn beside(text: &mut Text, calls: &Calls<'_>, first: &[Beside], count: usize, an
     if others(text, calls, another) {
         text.word("; ");
     } else {
-        text.word("another may explain it (`fa_audit judge`): ");
+        text.word(
+            "another may explain it (`fa_audit judge`, with more `--steps` where it gives up): ",
+        );
     }
     text.word("under way with it ");
     text.word(if count == 1 { "was " } else { "were " });

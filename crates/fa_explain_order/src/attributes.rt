@@ -1,8 +1,10 @@
 //! Attributes that are not those of the file: code 83.
 
 use crate::holding::{facts_and_changes, place, tree_name, tree_node};
+use crate::looks::Looks;
 use crate::rules::{ATTRIBUTES, ENTRY_TYPES, rule_line};
 use crate::scene::Scene;
+use crate::start;
 use crate::wording::{self, comma, numbered_kind};
 use bitflags::Flags;
 use fa_bodies::{Attributes, FattrFlags, Mode};
@@ -12,14 +14,17 @@ use fa_show::Text;
 use fa_tree::FileId;
 use std::alloc::AllocError;
 
-/// Writes which attributes are not those of the file: which of the lines of what to look at fits.
+/// Writes which attributes are not those of the file: which of the lines of what to look at fit.
 pub(crate) fn explain(
     text: &mut Text,
     scene: &Scene<'_>,
     other: &OtherAttributes<'_>,
-) -> Result<&'static str, AllocError> {
+) -> Result<Looks, AllocError> {
     match other {
-        OtherAttributes::Told { told, expected, .. } => told_lines(text, scene, told, expected),
+        OtherAttributes::Told { told, expected, .. } => {
+            told_lines(text, scene, told, expected)?;
+            Ok(looks(scene, other, told, expected))
+        }
         OtherAttributes::Listed(listed) => listed_lines(text, scene, listed),
     }
 }
@@ -29,7 +34,7 @@ fn listed_lines(
     text: &mut Text,
     scene: &Scene<'_>,
     listed: &ListedType<'_>,
-) -> Result<&'static str, AllocError> {
+) -> Result<Looks, AllocError> {
     rule_line(text, ENTRY_TYPES);
     text.word("differs  type of ");
     text.name(listed.name);
@@ -43,7 +48,7 @@ fn listed_lines(
     text.word(": ");
     facts_and_changes(text, scene, listed.file)?;
     text.end_line();
-    Ok("type")
+    Ok(Looks::at("type", start::has_type(scene, listed.file)))
 }
 
 /// Writes the type that a mode tells.
@@ -57,12 +62,12 @@ fn told_lines(
     scene: &Scene<'_>,
     told: &Attributes,
     expected: &Expected,
-) -> Result<&'static str, AllocError> {
+) -> Result<(), AllocError> {
     rule_line(text, ATTRIBUTES);
     file_line(text, scene, expected)?;
     differing(text, scene, told, expected)?;
     same_line(text, told, expected);
-    Ok(key(told, expected))
+    Ok(())
 }
 
 /// Writes the line of the file whose attributes are told.
@@ -94,17 +99,114 @@ fn made_line(text: &mut Text, named: Option<NamedPlace<'_>>) {
     text.end_line();
 }
 
-/// Which of the lines of what to look at fits: that of the type first, then of the last attribute that differs.
-fn key(told: &Attributes, expected: &Expected) -> &'static str {
+/// Which of the lines of what to look at fit: that of the type alone, or those of the last two attributes that differ. Attributes from
+/// before the request have one cause, and so one line.
+fn looks(
+    scene: &Scene<'_>,
+    other: &OtherAttributes<'_>,
+    told: &Attributes,
+    expected: &Expected,
+) -> Looks {
+    let is_from_start = is_one_from_start(scene, told, expected);
     if !expected.has_kind(told) {
-        "type"
-    } else if !expected.has_links(told) {
-        "links"
-    } else if !expected.has_size(told) {
-        "size"
-    } else {
-        "permission bits"
+        return Looks::at("type", is_from_start);
     }
+    if expected.file.is_none() {
+        return looks_of_new(told, expected);
+    }
+    let links = if expected.has_links(told) {
+        None
+    } else {
+        Some("links")
+    };
+    let size = if expected.has_size(told) {
+        None
+    } else {
+        Some(of_size(scene, told, expected))
+    };
+    let bits = of_bits(scene, expected);
+    let (first, second) = match (links, size) {
+        (Some(links), Some(size)) => (links, Some(size)),
+        (Some(one), None) | (None, Some(one)) => {
+            (
+                one,
+                if expected.has_bits(told) {
+                    None
+                } else {
+                    Some(bits)
+                },
+            )
+        }
+        (None, None) => (bits, None),
+    };
+    Looks {
+        first,
+        second: if are_those_before(other) {
+            None
+        } else {
+            second
+        },
+        is_from_start,
+    }
+}
+
+/// The case of permission bits: a file may have those with which a request made it.
+fn of_bits(scene: &Scene<'_>, expected: &Expected) -> &'static str {
+    match expected.file {
+        Some(file) if start::is_made(file) && !start::has_bits_set(scene, file) => {
+            "permission bits that a file was made with"
+        }
+        _ => "permission bits of a file that is there",
+    }
+}
+
+/// The case of a size: the server may have cut the file at an OPEN that was to leave it.
+fn of_size(scene: &Scene<'_>, told: &Attributes, expected: &Expected) -> &'static str {
+    match left_whole_by(scene, told, expected) {
+        Some(_) => "size, behind an OPEN that does not cut",
+        None => "size",
+    }
+}
+
+/// The OPEN with O_TRUNC that was to leave a file whole of which size 0 is told, if there is one.
+fn left_whole_by(scene: &Scene<'_>, told: &Attributes, expected: &Expected) -> Option<u32> {
+    if told.size > 0 || expected.size == 0 || sets(scene, FattrFlags::SIZE) {
+        return None;
+    }
+    scene.history.file(expected.file?)?.left_whole_by
+}
+
+/// Which of the lines of what to look at fit the attributes of a file that the request makes.
+fn looks_of_new(told: &Attributes, expected: &Expected) -> Looks {
+    let bits = "permission bits of a new file";
+    if expected.has_links(told) && expected.has_size(told) {
+        return Looks::at(bits, false);
+    }
+    Looks {
+        first: "size or links of a new file",
+        second: if expected.has_bits(told) {
+            None
+        } else {
+            Some(bits)
+        },
+        is_from_start: false,
+    }
+}
+
+/// Whether one of the attributes that differ is so from the start.
+fn is_one_from_start(scene: &Scene<'_>, told: &Attributes, expected: &Expected) -> bool {
+    let Some(file) = expected.file else {
+        return false;
+    };
+    (!expected.has_kind(told) && start::has_type(scene, file))
+        || (!expected.has_links(told) && start::has_links(scene, file))
+        || (!expected.has_bits(told)
+            && !sets(scene, FattrFlags::MODE)
+            && start::has_bits(scene, file))
+        || (!expected.has_size(told)
+            && !sets(scene, FattrFlags::SIZE)
+            && !empties(&scene.case)
+            && start::has_size(scene, file))
 }
 
 /// Writes a line for each attribute that differs.
@@ -156,6 +258,11 @@ fn size_line(text: &mut Text, scene: &Scene<'_>, told: &Attributes, expected: &E
     text.field("differs  size: answered ", told.size);
     text.field(", expected ", expected.size);
     size_origin(text, scene, expected);
+    if let Some(asked) = left_whole_by(scene, told, expected) {
+        text.word("; ");
+        wording::request(text, scene.calls, asked);
+        text.word(" leaves it, as ATOMIC_O_TRUNC was not agreed");
+    }
     text.end_line();
 }
 

@@ -1,19 +1,22 @@
 //! Nodes that are given for another file: code 84.
 
 use crate::holding::{facts_and_changes, place};
+use crate::looks::Looks;
 use crate::rules::{NODES, rule_line};
 use crate::scene::Scene;
+use crate::start;
 use crate::wording::{self, node_number};
 use fa_refusal::Binding;
 use fa_show::Text;
 use std::alloc::AllocError;
 
-/// Writes which node is given for two files: which of the lines of what to look at fits, which is the only one.
+/// Writes which node is given for two files: which of the lines of what to look at fit. Where both are files from the start, they may
+/// be one.
 pub(crate) fn explain(
     text: &mut Text,
     scene: &Scene<'_>,
     binding: &Binding<'_>,
-) -> Result<&'static str, AllocError> {
+) -> Result<Looks, AllocError> {
     rule_line(text, NODES);
     let number = node_number(&binding.node);
     text.field("given    node ", number);
@@ -39,5 +42,9 @@ pub(crate) fn explain(
     text.field(", and is given node ", number);
     text.word(" too");
     text.end_line();
-    Ok("")
+    let is_from_start = match binding.file {
+        Some(file) => start::has_file(scene, file) && start::has_file(scene, binding.other),
+        None => false,
+    };
+    Ok(Looks::at("", is_from_start))
 }

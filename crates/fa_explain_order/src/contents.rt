@@ -1,9 +1,10 @@
 //! Bytes and targets that are not those of the file: code 85.
 
 use crate::holding::node_lines;
+use crate::looks::Looks;
 use crate::rules::{BYTES, DIRECT, TARGETS, rule_line};
 use crate::scene::Scene;
-use crate::wording;
+use crate::{start, wording};
 use fa_refusal::{Difference, Reading};
 use fa_show::Text;
 use std::alloc::{AllocError, Global};
@@ -11,12 +12,12 @@ use std::alloc::{AllocError, Global};
 /// So many bytes are written from the first that differs on: one more than are shown.
 const SHOWN: u64 = 17;
 
-/// Writes which bytes are not those of the file: which of the lines of what to look at fits.
+/// Writes which bytes are not those of the file: which of the lines of what to look at fit.
 pub(crate) fn explain(
     text: &mut Text,
     scene: &Scene<'_>,
     reading: &Reading<'_>,
-) -> Result<&'static str, AllocError> {
+) -> Result<Looks, AllocError> {
     rule(text, scene, reading);
     node_lines(text, scene)?;
     if reading.answered.len() as u64 != reading.expected {
@@ -26,7 +27,7 @@ pub(crate) fn explain(
     if let Some(difference) = &difference {
         first_line(text, scene, reading, difference)?;
     }
-    Ok(key(reading, difference.is_some()))
+    Ok(looks(scene, reading, difference.is_some()))
 }
 
 /// Writes the rule of the bytes.
@@ -122,15 +123,43 @@ fn expected_from(
     Ok(bytes)
 }
 
-/// Which of the lines of what to look at fits.
-fn key(reading: &Reading<'_>, differs: bool) -> &'static str {
-    let answered = reading.answered.len() as u64;
+/// Which of the lines of what to look at fit.
+fn looks(scene: &Scene<'_>, reading: &Reading<'_>, differs: bool) -> Looks {
+    let is_byte_from_start = start::has_byte(scene, reading.file);
     if reading.is_target {
-        "READLINK"
+        Looks::at("READLINK", is_byte_from_start)
     } else if differs {
-        "READ, other bytes"
-    } else if answered < reading.expected {
-        "READ, too short"
+        Looks::at(of_other_bytes(scene), is_byte_from_start)
+    } else {
+        Looks::at(
+            of_lengths(scene, reading),
+            start::has_size(scene, reading.file),
+        )
+    }
+}
+
+/// The case of bytes that differ: a request may have set the first of them.
+fn of_other_bytes(scene: &Scene<'_>) -> &'static str {
+    match scene.history.byte_by {
+        Some(_) => "READ, other bytes",
+        None => "READ, other bytes that no request set",
+    }
+}
+
+/// The case of bytes that are too few or too many.
+fn of_lengths(scene: &Scene<'_>, reading: &Reading<'_>) -> &'static str {
+    let (left_whole, is_cut) = match scene.history.file(reading.file) {
+        Some(known) => (known.left_whole_by.is_some(), known.cut_by.is_some()),
+        None => (false, false),
+    };
+    if (reading.answered.len() as u64) < reading.expected {
+        if left_whole && reading.answered.is_empty() {
+            "READ, too short behind an OPEN that does not cut"
+        } else {
+            "READ, too short"
+        }
+    } else if is_cut {
+        "READ, too long behind a truncation"
     } else {
         "READ, too long"
     }

@@ -1,19 +1,21 @@
 //! Listings that are not those of the directory: code 86.
 
 use crate::holding::{facts, place, taken_by};
+use crate::looks::Looks;
 use crate::rules::{LISTINGS, rule_line};
 use crate::scene::Scene;
+use crate::start;
 use crate::wording::{self, comma, numbered_kind};
 use fa_refusal::{Listing, Twice};
 use fa_show::Text;
 use std::alloc::AllocError;
 
-/// Writes what is wrong with a listing: which of the lines of what to look at fits.
+/// Writes what is wrong with a listing: which of the lines of what to look at fit.
 pub(crate) fn explain(
     text: &mut Text,
     scene: &Scene<'_>,
     listing: &Listing<'_, '_>,
-) -> Result<&'static str, AllocError> {
+) -> Result<Looks, AllocError> {
     rule_line(text, LISTINGS);
     directory_line(text, scene, listing)?;
     listing_line(text, listing);
@@ -22,7 +24,7 @@ pub(crate) fn explain(
     never_line(text, scene, listing);
     types_line(text, listing);
     gone_line(text, scene, listing);
-    Ok(key(listing))
+    Ok(looks(scene, listing))
 }
 
 /// Writes the line of the directory.
@@ -200,17 +202,68 @@ fn gone_line(text: &mut Text, scene: &Scene<'_>, listing: &Listing<'_, '_>) {
     more(text, listing.gone.first.len(), listing.gone.count);
 }
 
-/// Which of the lines of what to look at fits.
-fn key(listing: &Listing<'_, '_>) -> &'static str {
+/// Which of the lines of what to look at fit.
+fn looks(scene: &Scene<'_>, listing: &Listing<'_, '_>) -> Looks {
     if listing.missing.count > 0 {
-        "a name is missing"
+        Looks::at(
+            "a name is missing",
+            is_one_from_start(scene, listing, &listing.missing.first),
+        )
     } else if listing.twice.count > 0 {
-        "a name stands twice"
+        Looks::at(of_names_twice(listing), false)
     } else if listing.never.count > 0 {
-        "a name that was never there"
+        Looks::at(
+            of_names_never_there(scene, listing),
+            is_one_from_start(scene, listing, &listing.never.first),
+        )
     } else if listing.types.count > 0 {
-        "the type of an entry"
+        Looks::at("the type of an entry", is_type_from_start(scene, listing))
     } else {
-        "a node of a name that is gone"
+        Looks::at("a node of a name that is gone", false)
+    }
+}
+
+/// Whether one of these names is there, or not there, from the start on.
+fn is_one_from_start(scene: &Scene<'_>, listing: &Listing<'_, '_>, names: &[&[u8]]) -> bool {
+    names
+        .iter()
+        .any(|name| start::has_name(scene, listing.directory, name))
+}
+
+/// Whether the type of one of the files whose entries have another is so from the start.
+fn is_type_from_start(scene: &Scene<'_>, listing: &Listing<'_, '_>) -> bool {
+    listing.types.first.iter().any(|other| {
+        match scene.tree.find(listing.directory, other.name) {
+            Some(file) => start::has_type(scene, file),
+            None => false,
+        }
+    })
+}
+
+/// The case of names that are listed twice: all in one answer, or in two.
+fn of_names_twice(listing: &Listing<'_, '_>) -> &'static str {
+    let is_in_two = listing
+        .twice
+        .first
+        .iter()
+        .any(|twice| twice.first != twice.second);
+    if is_in_two {
+        "a name stands in two answers"
+    } else {
+        "a name stands twice in an answer"
+    }
+}
+
+/// The case of names that were not there since the opening: a request took one of them away, or none was ever there.
+fn of_names_never_there(scene: &Scene<'_>, listing: &Listing<'_, '_>) -> &'static str {
+    let is_taken = listing
+        .never
+        .first
+        .iter()
+        .any(|name| taken_by(scene, listing.directory, name).is_some());
+    if is_taken {
+        "a name that went before the opening"
+    } else {
+        "a name that was never there"
     }
 }

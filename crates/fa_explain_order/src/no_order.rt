@@ -2,10 +2,12 @@
 
 use crate::another::answered_by;
 use crate::answers::{exchange, printed};
-use crate::stepping::{because, look_at_line};
+use crate::looks::Looks;
+use crate::rules::{is_never, never_look_line};
+use crate::stepping::{because, look_at_server};
 use crate::wording::{self, comma};
 use fa_capture::{Capture, codes};
-use fa_ledger::Calls;
+use fa_ledger::{Calls, Outcome};
 use fa_order::Entry;
 use fa_refusal::{Case, Finding, Placed, Reached, Refused};
 use fa_show::Text;
@@ -171,8 +173,8 @@ struct Reason {
     /// The number of the order that leads to the tree.
     order: usize,
     code: u16,
-    /// Which of the lines of what to look at fits.
-    key: &'static str,
+    /// Which of the lines of what to look at fit.
+    looks: Looks,
     /// The lines of it.
     lines: Text,
 }
@@ -232,11 +234,11 @@ impl Reason {
             return Ok(None);
         };
         let mut lines = Text::new(refused.alloc, ROOM_OF_A_TREE, false)?;
-        let key = because(&mut lines, refused, tree, &reached.case, &finding)?;
+        let looks = because(&mut lines, refused, tree, &reached.case, &finding)?;
         Ok(Some(Reason {
             order,
             code,
-            key,
+            looks,
             lines,
         }))
     }
@@ -314,7 +316,10 @@ impl Reasons {
     /// Writes what to look at.
     fn look_at(&self, text: &mut Text, case: &Case<'_>) {
         if let Some(least) = self.least() {
-            look_at_line(text, least.code, least.key, case, false);
+            match error_never_answered(case) {
+                Some(error) => never_look_line(text, case, error),
+                None => look_at_server(text, least.code, &least.looks, case, false),
+            }
         }
     }
 
@@ -374,6 +379,18 @@ impl Reasons {
             text.word(" more with the same");
         }
         text.end_line();
+    }
+}
+
+/// The error that was answered to a request, if it is one that is never answered to its operation.
+fn error_never_answered(case: &Case<'_>) -> Option<i32> {
+    match case.operation.ended() {
+        Outcome::Fails(error) => if is_never(case, error) {
+            Some(error)
+        } else {
+            None
+        },
+        _ => None,
     }
 }
 

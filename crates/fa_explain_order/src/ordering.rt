@@ -12,7 +12,7 @@ use fa_show::Text;
 use fa_tree::Tree;
 use std::alloc::{AllocError, Global};
 
-/// How many bytes of text there is room for. A dozen lines of which names and data are shortened are fewer.
+/// How many bytes of text there is room for. Fourteen lines of which names and data are shortened are fewer.
 const ROOM: usize = 65_536;
 
 /// So many requests that an order leaves out are written.
@@ -30,7 +30,7 @@ pub struct OrderReasons {
 /// Why an order does not explain a capture, or what it leaves out: the lines behind the line of its verdict, which is
 /// [`check`](fa_check::check)'s of these calls, this first tree and these entries.
 ///
-/// The calls are those of the capture. A line is a label, padded to eight characters, a blank and a text; twelve come at most. For
+/// The calls are those of the capture. A line is a label, padded to eight characters, a blank and a text; fourteen come at most. For
 /// [`Verdict::NotShown`] they say what the request asks for and what it was answered, which rule the answer breaks, what the tree
 /// holds there and which request made it so, which answers the tree allows, up to which entry the answer was right, whether another
 /// order explains it, and what to look at; for an entry whose place or form is at fault, why. Where requests overlapped, the search is

@@ -151,10 +151,15 @@ pub(crate) fn never_lines(text: &mut Text, case: &Case<'_>, error: i32) {
     text.word(" is never answered ");
     text.word(name);
     text.end_line();
+    never_look_line(text, case, error);
+}
+
+/// Writes what to look at where no tree gives a cause for an error to a request.
+pub(crate) fn never_look_line(text: &mut Text, case: &Case<'_>, error: i32) {
     text.word("look at  Where the server answers ");
     operation_with_flags(text, case);
     text.word(" with ");
-    text.word(name);
+    text.word(words::error_name(error).unwrap_or(""));
     text.word(": another error was meant, or the request was taken for another.");
     text.end_line();
 }

@@ -5,9 +5,11 @@ use crate::allowed::allowed_line;
 use crate::another::{Another, asked_by, order_line};
 use crate::answers::exchange;
 use crate::holding::tree_lines;
+use crate::looks::Looks;
 use crate::rules::{error_line, is_never, never_lines};
 use crate::scene::Scene;
-use crate::{attributes, bindings, contents, directories, unmet, wording};
+use crate::{attributes, bindings, contents, directories, emptiness, start, unmet, wording};
+use fa_bodies::errno::ENOENT;
 use fa_capture::{Capture, codes};
 use fa_explain::advice_of;
 use fa_ledger::Calls;
@@ -116,7 +118,7 @@ fn explain_finding<S: Search>(
     case: &Case<'_>,
     finding: &Finding<'_, '_>,
 ) -> Result<bool, AllocError> {
-    let key = because(text, refused, tree, case, finding)?;
+    let looks = because(text, refused, tree, case, finding)?;
     if let Finding::WithoutCause(error) = finding {
         if is_never(case, *error) {
             never_lines(text, case, *error);
@@ -126,18 +128,18 @@ fn explain_finding<S: Search>(
     let overlaps = Overlaps::of(refused, tree, case)?;
     let another = Another::of(case, &overlaps, search)?;
     order_line(text, refused.calls, case.call.asked, &overlaps, another);
-    look_at_lines(text, refused.calls, finding.code(), key, case, another);
+    look_at_lines(text, refused.calls, finding.code(), &looks, case, another);
     Ok(another.is_without_order())
 }
 
-/// Writes which rule an answer breaks, what the tree holds and when the answer was right: which of the lines of what to look at fits.
+/// Writes which rule an answer breaks, what the tree holds and when the answer was right: which of the lines of what to look at fit.
 pub(crate) fn because(
     text: &mut Text,
     refused: &Refused<'_>,
     tree: &Tree,
     case: &Case<'_>,
     finding: &Finding<'_, '_>,
-) -> Result<&'static str, AllocError> {
+) -> Result<Looks, AllocError> {
     let past = Past::of(refused, tree, case, finding)?;
     because_of(text, refused, tree, case, finding, &past)
 }
@@ -150,7 +152,7 @@ fn because_of(
     case: &Case<'_>,
     finding: &Finding<'_, '_>,
     past: &Past,
-) -> Result<&'static str, AllocError> {
+) -> Result<Looks, AllocError> {
     let scene = Scene {
         alloc: refused.alloc,
         calls: refused.calls,
@@ -158,17 +160,13 @@ fn because_of(
         history: &past.history,
         case: *case,
     };
-    let key = why(text, &scene, finding)?;
+    let looks = why(text, &scene, finding)?;
     earlier_line(text, &scene, finding, past.earlier);
-    Ok(key)
+    Ok(looks)
 }
 
-/// Writes which rule an answer breaks, and what the tree holds: which of the lines of what to look at fits.
-fn why(
-    text: &mut Text,
-    scene: &Scene<'_>,
-    finding: &Finding<'_, '_>,
-) -> Result<&'static str, AllocError> {
+/// Writes which rule an answer breaks, and what the tree holds: which of the lines of what to look at fit.
+fn why(text: &mut Text, scene: &Scene<'_>, finding: &Finding<'_, '_>) -> Result<Looks, AllocError> {
     match finding {
         Finding::NotAllowed(unmet) => unmet::explain(text, scene, unmet),
         Finding::WithoutCause(error) => without_cause(text, scene, *error),
@@ -179,16 +177,23 @@ fn why(
     }
 }
 
-/// Writes that an error has no cause: its name.
-fn without_cause(
-    text: &mut Text,
-    scene: &Scene<'_>,
-    error: i32,
-) -> Result<&'static str, AllocError> {
+/// Writes that an error has no cause: which of the lines of what to look at fit.
+fn without_cause(text: &mut Text, scene: &Scene<'_>, error: i32) -> Result<Looks, AllocError> {
     error_line(text, &scene.case, error);
     tree_lines(text, scene)?;
     allowed_line(text, scene);
-    Ok(words::error_name(error).unwrap_or(""))
+    Ok(Looks::at(case_of(scene, error), start::denies_error(scene, error)))
+}
+
+/// The case of an error that has no cause.
+fn case_of(scene: &Scene<'_>, error: i32) -> &'static str {
+    if let Some(case) = emptiness::of(scene, error) {
+        return case;
+    }
+    if error == ENOENT && scene.case.first_place().is_none() {
+        return "ENOENT to a request without a name";
+    }
+    words::error_name(error).unwrap_or("")
 }
 
 /// Writes whether the answer was right before.
@@ -222,13 +227,13 @@ fn look_at_lines(
     text: &mut Text,
     calls: &Calls<'_>,
     code: u16,
-    key: &str,
+    looks: &Looks,
     case: &Case<'_>,
     another: Another,
 ) {
     match another {
-        Another::Never | Another::NeverPast(_) => look_at_line(text, code, key, case, false),
-        Another::Unknown => look_at_line(text, code, key, case, true),
+        Another::Never | Another::NeverPast(_) => look_at_server(text, code, looks, case, false),
+        Another::Unknown => look_at_server(text, code, looks, case, true),
         Another::Until(stop) => {
             text.word("look at  The answer to ");
             asked_by(text, calls, stop);
@@ -239,7 +244,10 @@ fn look_at_lines(
             text,
             "another is legal, and `fa_audit search` prints it.",
         ),
-        Another::SoFar => order_at_fault(text, "another explains this answer."),
+        Another::SoFar => order_at_fault(
+            text,
+            "another explains this answer. `fa_audit search` looks for one that is legal, with more `--steps` where it gives up.",
+        ),
         Another::Unanswered => order_at_fault(text, "leave it out, or have it elsewhere."),
     }
 }
@@ -251,14 +259,28 @@ fn order_at_fault(text: &mut Text, why: &str) {
     text.end_line();
 }
 
-/// Writes what to look at in a server, with a condition where another order may explain the answer.
-pub(crate) fn look_at_line(
+/// The case of the line of what to look at where the first tree may be wrong.
+const FROM_THE_START: &str = "from the start";
+
+/// Writes what to look at in a server, and whether the tree text may be wrong.
+pub(crate) fn look_at_server(
     text: &mut Text,
     code: u16,
-    key: &str,
+    looks: &Looks,
     case: &Case<'_>,
     may_be_other: bool,
 ) {
+    look_at_line(text, code, looks.first, case, may_be_other);
+    if let Some(second) = looks.second {
+        look_at_line(text, code, second, case, may_be_other);
+    }
+    if looks.is_from_start {
+        look_at_line(text, code, FROM_THE_START, case, may_be_other);
+    }
+}
+
+/// Writes a line of what to look at in a server, with a condition where another order may explain the answer.
+fn look_at_line(text: &mut Text, code: u16, key: &str, case: &Case<'_>, may_be_other: bool) {
     let Some(advice) = advice_of(code, key) else {
         return;
     };

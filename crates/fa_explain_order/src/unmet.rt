@@ -1,35 +1,33 @@
 //! Which part of what a success needs does not hold: code 81.
 
 use crate::allowed::allowed_line;
-use crate::holding::{place, tree_lines};
+use crate::holding::{place, taken_by, tree_lines};
+use crate::looks::Looks;
 use crate::rules::success_line;
 use crate::scene::Scene;
-use fa_refusal::{Part, Subject, Unmet};
+use crate::start;
+use fa_refusal::{NamedPlace, Part, Subject, Unmet};
 use fa_show::Text;
 use std::alloc::AllocError;
 
-/// Writes why the tree does not allow a success: which of the lines of what to look at fits.
+/// Writes why the tree does not allow a success: which of the lines of what to look at fit.
 pub(crate) fn explain(
     text: &mut Text,
     scene: &Scene<'_>,
     unmet: &Option<Unmet<'_>>,
-) -> Result<&'static str, AllocError> {
+) -> Result<Looks, AllocError> {
     success_line(text, &scene.case);
-    let key = match unmet {
+    let looks = match unmet {
         Some(unmet) => here_line(text, scene, unmet)?,
-        None => "all else",
+        None => Looks::at("all else", false),
     };
     tree_lines(text, scene)?;
     allowed_line(text, scene);
-    Ok(key)
+    Ok(looks)
 }
 
 /// Writes the line of the part that does not hold.
-fn here_line(
-    text: &mut Text,
-    scene: &Scene<'_>,
-    unmet: &Unmet<'_>,
-) -> Result<&'static str, AllocError> {
+fn here_line(text: &mut Text, scene: &Scene<'_>, unmet: &Unmet<'_>) -> Result<Looks, AllocError> {
     text.word("here     ");
     match unmet.subject {
         Subject::Name(name) => text.name(name),
@@ -38,7 +36,7 @@ fn here_line(
     text.word(" ");
     text.word(words(unmet.part));
     text.end_line();
-    Ok(key(unmet.part))
+    Ok(Looks::at(key(scene, unmet), start::denies_part(scene, unmet)))
 }
 
 /// A part in words, behind what it does not hold of.
@@ -62,13 +60,20 @@ fn words(part: Part) -> &'static str {
 }
 
 /// Which of the lines of what to look at fits.
-fn key(part: Part) -> &'static str {
-    match part {
-        Part::NotThere => "a name is not there",
-        Part::There
-        | Part::ThereThoughExclusive
-        | Part::ThereThoughNodeZero
-        | Part::ThereThoughNotReplaced => "a name is there already",
+fn key(scene: &Scene<'_>, unmet: &Unmet<'_>) -> &'static str {
+    match unmet.part {
+        Part::NotThere => {
+            if is_taken(scene, unmet) {
+                "a name is not there any more"
+            } else {
+                "a name was never there"
+            }
+        }
+        Part::ThereThoughNodeZero => "a name is there, and node 0 says that it is not",
+        Part::There => "a name is there already",
+        Part::ThereThoughExclusive | Part::ThereThoughNotReplaced => {
+            "a name is there, and a flag forbids it"
+        }
         Part::NotEmpty => "a directory is not empty",
         Part::WithoutName => "a file or directory has no name any more",
         Part::IntoItself => "a directory would come into itself",
@@ -78,5 +83,27 @@ fn key(part: Part) -> &'static str {
         | Part::DirectoryToReplace
         | Part::NotRegular
         | Part::NotSymlink => "all else",
+    }
+}
+
+/// Whether a request took the name away that is not there.
+fn is_taken(scene: &Scene<'_>, unmet: &Unmet<'_>) -> bool {
+    match unmet.subject {
+        Subject::Name(name) => {
+            is_taken_at(scene, name, scene.case.first_place())
+                || is_taken_at(scene, name, scene.case.second_place())
+        }
+        Subject::File(_) => false,
+    }
+}
+
+/// Whether a request took a name away, if it is that of this place.
+fn is_taken_at(scene: &Scene<'_>, name: &[u8], place: Option<NamedPlace<'_>>) -> bool {
+    let Some(place) = place else {
+        return false;
+    };
+    match scene.tree.file_of(&place.node) {
+        Some(directory) => { place.name == name && taken_by(scene, directory, name).is_some() }
+        None => false,
     }
 }

@@ -95,7 +95,8 @@ pub(crate) fn lines_of(code: u16) -> Option<&'static str>
              look at  The recording began after INIT was read: start the server under the recorder.\n\
              told of  a message of the server\n\
              fails    where it is message 0\n\
-             look at  An answer was recorded before its request: record a request before it is handled.\n"
+             look at  An answer was recorded before its request: record a request before it is handled.\n\
+             look at  The recording began after INIT was read: start the server under the recorder.\n"
         }
         codes::SECOND_INIT => {
             "told of  a request\n\
@@ -126,7 +127,8 @@ pub(crate) fn lines_of(code: u16) -> Option<&'static str>
         codes::UNIQUE_IN_USE => {
             "told of  a request\n\
              fails    where its unique is that of a request that waits for its answer, unless both are INTERRUPT\n\
-             look at  The same request was recorded twice (two recorders, or a retried read), or its answer was not recorded.\n"
+             look at  The same request was recorded twice (two recorders, or a retried read), or its answer was not recorded.\n\
+             look at  The answer of the request that waits was not recorded, or was recorded too late: record an answer before it is written. Or two mounts were recorded into one file.\n"
         }
         codes::NO_REQUEST_WAITS => {
             "told of  a message of the server\n\
@@ -153,7 +155,9 @@ pub(crate) fn lines_of(code: u16) -> Option<&'static str>
         codes::FORGOTTEN_NODE => {
             "told of  a request\n\
              fails    where it names a node, in the header, as the new directory of RENAME or RENAME2 or as the file of LINK, that is not the root and whose lookup count is 0\n\
-             look at  Linux names a node only after an answer gave it: an answer is missing from the capture (a thread or a process that was not recorded), or two mounts stand in one file. A server that has forgotten the node too counts lookups otherwise than the kernel.\n"
+             look at  Linux names a node only after an answer gave it: an answer is missing from the capture (a thread or a process that was not recorded), or two mounts stand in one file. A server that has forgotten the node too counts lookups otherwise than the kernel.\n\
+             look at  Or this request was recorded too late, behind a FORGET or BATCH_FORGET that the kernel sent after it: record each request at once behind read(2).\n\
+             look at  An answer was recorded too late: record an answer before it is written.\n"
         }
         codes::FORGOTTEN_TOO_OFTEN => {
             "told of  a request\n\
@@ -168,8 +172,10 @@ pub(crate) fn lines_of(code: u16) -> Option<&'static str>
         codes::CLOSED_HANDLE => {
             "told of  a request\n\
              fails    where it uses a file handle that is not open, under the node of its opening and of its kind, a file or a directory\n\
-             look at  The answer of its OPEN, OPENDIR or CREATE is missing from the capture, or a thread recorded RELEASE before what was sent earlier: record each request at once behind read(2).\n\
-             look at  Or the server gave one handle for another: look where it gives handles out and closes them.\n"
+             look at  An answer of OPEN, OPENDIR or CREATE that opened it may be missing from the capture.\n\
+             look at  Or the server gave one handle for another: look where it gives handles out and closes them.\n\
+             look at  Or this request was recorded too late, behind a RELEASE, RELEASEDIR or FORGET that the kernel sent after it: record each request at once behind read(2).\n\
+             look at  An answer was recorded too late: record an answer before it is written.\n"
         }
         codes::NOT_AN_ORDER_TEXT => {
             "told of  a line of an order text\n\
@@ -179,7 +185,7 @@ pub(crate) fn lines_of(code: u16) -> Option<&'static str>
         codes::NOT_A_TREE_TEXT => {
             "told of  a line of a tree text\n\
              fails    where it is the first that does not fit the format\n\
-             look at  A name before its directory, a blank in a name that is not spelled %20, or a file above the limit. `fuse-tree` writes texts that fit.\n"
+             look at  A path before its directory or twice, a blank in a name that is not spelled %20, permission bits that are not three octal digits, a carriage return, or no line `end`. `fuse-tree` writes texts that fit.\n"
         }
         codes::NO_TREE_REQUEST => {
             "told of  an entry of an order\n\
@@ -215,21 +221,30 @@ pub(crate) fn lines_of(code: u16) -> Option<&'static str>
         codes::SUCCESS_NOT_ALLOWED => {
             "told of  an entry of an order, or the request of a reply that no order explains\n\
              fails    where the tree does not allow the success, as of a CREATE in a directory without a name, or the answer has not the form of one, as attributes for a WRITE\n\
-             look at  a name is not there: The server finds a name that is gone: a cache that UNLINK, RMDIR or RENAME do not clear, or a check and a change that no lock holds together. Or the tree text lacks the name.\n\
+             look at  a name is not there any more: The server finds a name that is gone: a cache that UNLINK, RMDIR or RENAME do not clear, or a check and a change that no lock holds together.\n\
+             look at  a name was never there: The server finds a name that no request made: it looks in another directory, or a name is there before its request takes effect.\n\
+             look at  a name is there, and node 0 says that it is not: Each place where the server answers LOOKUP with node 0: a cached \"not there\" that CREATE, LINK or RENAME do not clear.\n\
              look at  a name is there already: The server did not see a name that is there: two requests may both have checked before either made it. Check and change under one lock.\n\
-             look at  a directory is not empty: The server removes or replaces a directory without looking into it, or what it looks at is older than the last CREATE.\n\
+             look at  a name is there, and a flag forbids it: Does the server look at the flag? RENAME_NOREPLACE, and O_EXCL of a CREATE, want EEXIST where the name is there: check and change under one lock.\n\
+             look at  a directory is not empty: The server removes or replaces a directory without looking into it, or what it looks at is older than the last name that came into it.\n\
              look at  a file or directory has no name any more: The server goes on to use a directory or file after its last name went: check that under the lock of the removal.\n\
              look at  a directory would come into itself: The server lets a directory move below itself: walk up from the new directory, and refuse with EINVAL.\n\
-             look at  all else: The server does not check the type, or has another file for the node: look at what it keeps by node id, and what happens to that when the id is given again.\n"
+             look at  all else: The server does not check the type, or has another file for the node: look at what it keeps by node id, and what happens to that when the id is given again.\n\
+             look at  from the start: Whether the tree text says what the server began with (without --tree that is an empty root with mode 755), or files were changed otherwise than through the mount.\n"
         }
         codes::ERROR_WITHOUT_CAUSE => {
             "told of  an entry of an order, or the request of a reply that no order explains\n\
              fails    where the error is ENOENT, EEXIST, ENOTDIR, EISDIR or ENOTEMPTY, and the tree gives no cause for it\n\
              look at  ENOENT: Each place where the server answers the operation with ENOENT: another failure that is told as ENOENT, a cached \"not there\" that CREATE, LINK or RENAME do not clear, a table that is changed in two steps without a lock.\n\
-             look at  EEXIST: What the server asks before EEXIST: a name that went is still in one of its tables. Or the tree text lacks the name.\n\
-             look at  ENOTDIR: From where the server takes the type of the node: an id that was given again, the root taken for a file, a type bit lost.\n\
-             look at  EISDIR: From where the server takes the type of the node: an id that was given again, a type bit lost.\n\
-             look at  ENOTEMPTY: What the server counts as names of the directory: removed files that it keeps under hidden names (libfuse without hard_remove), what others write below, a count that UNLINK does not lower.\n"
+             look at  ENOENT to a request without a name: A path that the server keeps for the node from before a RENAME, of it or of a directory above it; or another failure that is told as ENOENT.\n\
+             look at  EEXIST: What the server asks before EEXIST: a name that went, or is not made yet, is in one of its tables.\n\
+             look at  ENOTDIR: From where the server takes the type of the node or name: an id that was given again, the root taken for a file, a type bit lost.\n\
+             look at  EISDIR: From where the server takes the type of the node or name: an id that was given again, a type bit lost.\n\
+             look at  an empty directory is said not to be: What the server counts as names of the directory: removed files that it keeps under hidden names (libfuse without hard_remove), what others write below, a count that UNLINK does not lower.\n\
+             look at  a name that is not there is said not to be empty: What the server asks before ENOTEMPTY or EEXIST: a name that went, or is not made yet, is in one of its tables. RMDIR of it gives ENOENT; a RENAME may take it.\n\
+             look at  a new name that is there is refused: A RENAME without RENAME_NOREPLACE takes the name of a file, and a directory that of an empty directory: the server refuses any new name that is there.\n\
+             look at  what is no directory is said not to be empty: The server counts names before it looks at the type: look from where it takes that.\n\
+             look at  from the start: Whether the tree text says what the server began with (without --tree that is an empty root with mode 755), or files were changed otherwise than through the mount.\n"
         }
         codes::ATTRIBUTES => {
             "told of  an entry of an order, or the request of a reply that no order explains\n\
@@ -237,29 +252,42 @@ pub(crate) fn lines_of(code: u16) -> Option<&'static str>
              look at  type: What fills `mode`: the type bits belong to it; or the node stands for another file in the server.\n\
              look at  links: What fills `nlink` in the answers of LINK, LOOKUP, GETATTR and CREATE alike: a constant 1, or attributes from before the request.\n\
              look at  size: What fills `size`: attributes kept from before a WRITE, SETATTR or open with O_TRUNC, or taken before this request took effect.\n\
-             look at  permission bits: The mode of the request less its umask: run the server with umask 0, on a folder without default access control lists, and look what fills `mode`, in answers of SETATTR too.\n"
+             look at  size, behind an OPEN that does not cut: The server cuts a file at OPEN with O_TRUNC, though INIT did not agree on ATOMIC_O_TRUNC: then the kernel sends a SETATTR that cuts, and OPEN is to leave the bytes.\n\
+             look at  size or links of a new file: What fills `size` and `nlink`: a new file has no bytes and one name; those told may be of a file that is gone, or were never set.\n\
+             look at  permission bits of a new file: The mode of the request less its umask: run the server with umask 0, on a folder without default access control lists, and look what fills `mode`.\n\
+             look at  permission bits that a file was made with: The mode of the request that made the file, less its umask: run the server with umask 0, on a folder without default access control lists, and look what filled `mode` in the answer that made it.\n\
+             look at  permission bits of a file that is there: What fills `mode`: only a SETATTR with FATTR_MODE changes the bits of a file that is there; a CREATE that opens one leaves them, whatever mode it has.\n\
+             look at  from the start: Whether the tree text says what the server began with (without --tree that is an empty root with mode 755), or files were changed otherwise than through the mount.\n"
         }
         codes::NODE_ID_OF_ANOTHER => {
             "told of  an entry of an order, or the request of a reply that no order explains\n\
              fails    where the node that the answer gives stands for another file already\n\
-             look at  The server made one node id for two files: an id taken from an inode number that was used again while the kernel still knew it, or from a hash; or LINK and RENAME moved a name and not its id. Give an id again only behind the last FORGET.\n"
+             look at  The server made one node id for two files: an id taken from an inode number that was used again while the kernel still knew it, or from a hash; or LINK and RENAME moved a name and not its id. Give an id again only behind the last FORGET.\n\
+             look at  from the start: Whether the tree text says what the server began with (without --tree that is an empty root with mode 755), or files were changed otherwise than through the mount.\n"
         }
         codes::BYTES_READ => {
             "told of  an entry of an order, or the request of a reply that no order explains\n\
              fails    where the bytes of a READ, or the target of a READLINK, are not those of the file\n\
              look at  READLINK: What the server keeps of targets, and whether the node stands for another file there.\n\
              look at  READ, too short: Few bytes: only the end of the file, or FOPEN_DIRECT_IO, allows that. Does the server go on reading after a short pread(2), and is its size the newest?\n\
-             look at  READ, too long: Bytes behind the end of the file: the server's size is older than the last truncation.\n\
-             look at  READ, other bytes: A copy of the bytes that a WRITE or truncation did not change: what is kept by handle or by page, and a WRITE done in two steps without a lock.\n"
+             look at  READ, too short behind an OPEN that does not cut: The server cuts a file at OPEN with O_TRUNC, though INIT did not agree on ATOMIC_O_TRUNC: then the kernel sends a SETATTR that cuts, and OPEN is to leave the bytes.\n\
+             look at  READ, too long: Bytes behind the end of the file: does the server send a whole buffer or page, or count bytes that no WRITE has written?\n\
+             look at  READ, too long behind a truncation: Bytes behind the end of the file: the server's size is older than the last truncation, or it sends a whole buffer or page.\n\
+             look at  READ, other bytes: A copy of the bytes that a WRITE or truncation did not change: what is kept by handle or by page, and a WRITE done in two steps without a lock.\n\
+             look at  READ, other bytes that no request set: From which file and which offset the server reads: nothing has changed the first byte that differs.\n\
+             look at  from the start: Whether the tree text says what the server began with (without --tree that is an empty root with mode 755), or files were changed otherwise than through the mount.\n"
         }
         codes::LISTING => {
             "told of  an entry of an order, or the request of a reply that no order explains\n\
              fails    where an answer of READDIR or READDIRPLUS breaks the rule of listings: each name that stayed in the directory since the opening is listed once, and none that was at no time in it since then\n\
              look at  a name is missing: The loop that fills the answer: what it passes over, where it goes on (the off of an entry is the place behind it), and what a name that comes or goes does to the places of the others.\n\
-             look at  a name stands twice: The off of the entries: the place behind an entry has to stay, whatever comes or goes; an index into a list that shifts does not.\n\
-             look at  a name that was never there: What the server lists from: a name that was renamed or removed before the opening is in it.\n\
+             look at  a name stands in two answers: Where the answer goes on: it has to begin at the offset of its request, and the off of an entry, the place behind it, has to stay, whatever comes or goes; an index into a list that shifts does not.\n\
+             look at  a name stands twice in an answer: The loop that fills the answer: a name that stands in two of the server's tables, or an entry that did not fit and is added once more.\n\
+             look at  a name that went before the opening: What the server lists from: a name that was renamed or removed before the opening is in it.\n\
+             look at  a name that was never there: From where the server takes its names: this one is of another directory, is not made yet, or has other bytes or another namelen.\n\
              look at  the type of an entry: What fills `type` of struct fuse_dirent: 0 says nothing, all else is the type bits of the mode divided by 4,096.\n\
-             look at  a node of a name that is gone: READDIRPLUS looked the name up after it had gone: list and look up under one lock, or give the entry without a node.\n"
+             look at  a node of a name that is gone: READDIRPLUS looked the name up after it had gone: list and look up under one lock, or give the entry without a node.\n\
+             look at  from the start: Whether the tree text says what the server began with (without --tree that is an empty root with mode 755), or files were changed otherwise than through the mount.\n"
         }
         _ => return None,
     };

@@ -97,11 +97,15 @@ impl Reading<'_> {
         })
     }
 
-    /// The first byte of the file that differs, if one does.
-    pub(crate) fn byte_place(&self, tree: &Tree) -> Option<BytePlace> {
-        Some(BytePlace {
+    /// The first byte of the file that differs, or else the first that was asked for.
+    pub(crate) fn byte_place(&self, tree: &Tree) -> BytePlace {
+        let first = match self.difference(tree) {
+            Some(difference) => difference.first,
+            None => 0,
+        };
+        BytePlace {
             file: self.file,
-            offset: self.offset.saturating_add(self.difference(tree)?.first),
-        })
+            offset: self.offset.saturating_add(first),
+        }
     }
 }

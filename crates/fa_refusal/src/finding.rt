@@ -107,12 +107,10 @@ impl<'a, 't> Finding<'a, 't> {
                 ask_for(history, binding.file)
             }
             Finding::Read(reading) => {
-                if let Some(byte) = reading.byte_place(tree) {
-                    history.ask_for_byte(byte);
-                }
+                history.ask_for_byte(reading.byte_place(tree));
                 Ok(())
             }
-            Finding::Listed(listing) => listing.ask(history),
+            Finding::Listed(listing) => listing.ask(history, tree),
         }
     }
 }

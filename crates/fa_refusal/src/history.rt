@@ -1,10 +1,13 @@
 //! What of a tree which request made, named, took away and changed last.
 
+use crate::bindings::directory_listed;
 use crate::case::{Case, NamedPlace};
 use crate::paths::path_of;
 use bitflags::Flags;
-use fa_bodies::{FattrFlags, RenameFlags, SetattrIn};
-use fa_ledger::{Action, NodeName, Outcome};
+use fa_bodies::errno::{EEXIST, EISDIR, ENOENT, ENOTDIR, ENOTEMPTY};
+use fa_bodies::{Entries, FattrFlags, OpenFlags, RenameFlags, RequestBody, SetattrIn, request};
+use fa_capture::{Direction, Packet};
+use fa_ledger::{Action, NodeName, Operation, Outcome};
 use fa_tree::{FileId, Kind, Tree};
 use std::alloc::{AllocError, Global};
 
@@ -17,6 +20,15 @@ pub struct PlaceHistory {
     pub named_by: Option<u32>,
     /// and the one that took it away last.
     pub taken_by: Option<u32>,
+    /// Whether an answer told that the name is there, or that it is not.
+    pub is_told: bool,
+}
+
+impl PlaceHistory {
+    /// Whether the place is as it was from the start, and no answer told so: only the first tree does.
+    pub fn is_from_start(&self) -> bool {
+        self.named_by.is_none() && self.taken_by.is_none() && !self.is_told
+    }
 }
 
 /// What requests did to a file.
@@ -25,10 +37,18 @@ pub struct FileHistory {
     file: FileId,
     /// The request that set its bytes last,
     pub bytes_by: Option<u32>,
+    /// the one that made it shorter,
+    pub cut_by: Option<u32>,
+    /// the one since the last that set its bytes that opened it with `O_TRUNC` and did not cut it, as ATOMIC_O_TRUNC was not agreed,
+    pub left_whole_by: Option<u32>,
     /// the one that set its permission bits,
     pub bits_by: Option<u32>,
+    /// the one that put or took a name of it,
+    pub links_by: Option<u32>,
     /// and the one that took its last name away.
     pub unnamed_by: Option<u32>,
+    /// Whether an answer told its attributes, or its type at least.
+    pub is_told: bool,
     /// The path that it had before.
     pub last_path: Vec<u8>,
 }
@@ -49,6 +69,8 @@ pub struct History {
     byte: Option<BytePlace>,
     /// The request that set the byte last.
     pub byte_by: Option<u32>,
+    /// Whether an answer told the byte.
+    pub byte_is_told: bool,
     node: Option<NodeName>,
     /// The request whose answer gave the node first.
     pub node_by: Option<u32>,
@@ -80,6 +102,7 @@ impl History {
             files: Vec::new(alloc),
             byte: None,
             byte_by: None,
+            byte_is_told: false,
             node: None,
             node_by: None,
         }
@@ -98,6 +121,7 @@ impl History {
             name: owned,
             named_by: None,
             taken_by: None,
+            is_told: false,
         })?;
         Ok(())
     }
@@ -107,8 +131,12 @@ impl History {
         self.files.push(FileHistory {
             file,
             bytes_by: None,
+            cut_by: None,
+            left_whole_by: None,
             bits_by: None,
+            links_by: None,
             unnamed_by: None,
+            is_told: false,
             last_path: Vec::new(self.alloc),
         })?;
         Ok(())
@@ -193,8 +221,78 @@ impl History {
         if let (Some((file, size)), Some(action)) = (before.file, case.action()) {
             let touched = touched_by(tree, case, action, file, size, wrote);
             self.note_touched(asked, file, &touched);
+            if leaves_whole(case, action) {
+                self.note_left_whole(asked, file);
+            }
         }
+        self.note_told(tree, case, before);
         self.note_node(tree, asked);
+    }
+
+    /// Notes that a request opened a file with `O_TRUNC` and did not cut it.
+    fn note_left_whole(&mut self, asked: u32, file: FileId) {
+        for known in self.files.iter_mut() {
+            if known.file == file {
+                known.left_whole_by = Some(asked);
+            }
+        }
+    }
+
+    /// Notes what the answer to a request told.
+    fn note_told(&mut self, tree: &Tree, case: &Case<'_>, before: &Before<'_>) {
+        if let Some(place) = &before.first {
+            if tells_name(case) {
+                self.note_place_told(place);
+            }
+        }
+        if let Some((directory, entries)) = entries_told(tree, case) {
+            self.note_listed(tree, directory, entries);
+        }
+        if let Some(file) = file_told(tree, case) {
+            self.note_file_told(file);
+        }
+        if let Some(byte) = self.byte {
+            if tells_byte(tree, case, &byte) {
+                self.byte_is_told = true;
+            }
+        }
+    }
+
+    /// Notes that an answer told whether a name is there.
+    fn note_place_told(&mut self, told: &PlaceBefore<'_>) {
+        for place in self.places.iter_mut() {
+            if place.directory == told.directory && place.name.as_slice() == told.name {
+                place.is_told = true;
+            }
+        }
+    }
+
+    /// Notes that an answer listed a directory: of the names that it has, and of those that it lacks as the tree does.
+    fn note_listed(&mut self, tree: &Tree, directory: FileId, entries: Entries<'_>) {
+        for place in self.places.iter_mut() {
+            let name = place.name.as_slice();
+            if place.directory == directory
+                && lists(entries, name) == tree.find(directory, name).is_some()
+            {
+                place.is_told = true;
+            }
+        }
+        for dirent in entries {
+            if dirent.kind != 0 {
+                if let Some(file) = tree.find(directory, dirent.name) {
+                    self.note_file_told(file);
+                }
+            }
+        }
+    }
+
+    /// Notes that an answer told the attributes of a file.
+    fn note_file_told(&mut self, file: FileId) {
+        for known in self.files.iter_mut() {
+            if known.file == file {
+                known.is_told = true;
+            }
+        }
     }
 
     /// Notes what became of a place.
@@ -214,7 +312,20 @@ impl History {
             }
         }
         if let Some(lost) = before.file {
+            self.note_links(asked, lost);
             self.note_unnamed(tree, asked, lost);
+        }
+        if let Some(named) = file {
+            self.note_links(asked, named);
+        }
+    }
+
+    /// Notes that a file came to have a name more or less.
+    fn note_links(&mut self, asked: u32, file: FileId) {
+        for known in self.files.iter_mut() {
+            if known.file == file {
+                known.links_by = Some(asked);
+            }
         }
     }
 
@@ -239,6 +350,10 @@ impl History {
                 }
                 if touched.bytes.is_some() {
                     known.bytes_by = Some(asked);
+                    known.left_whole_by = None;
+                }
+                if touched.cuts {
+                    known.cut_by = Some(asked);
                 }
             }
         }
@@ -266,6 +381,8 @@ struct Touched {
     bits: bool,
     /// From which byte on it set bytes, and up to which.
     bytes: Option<(u64, u64)>,
+    /// Whether the file has fewer bytes behind it.
+    cuts: bool,
 }
 
 /// A place before a step.
@@ -322,6 +439,7 @@ fn touched_by(
     let none = Touched {
         bits: false,
         bytes: None,
+        cuts: false,
     };
     if let Outcome::Fails(_) = action.ended() {
         return none;
@@ -334,6 +452,7 @@ fn touched_by(
             } else {
                 None
             },
+            cuts: setattr.valid.contains(FattrFlags::SIZE) && setattr.size < size,
         },
         Action::Open { .. } | Action::Create { .. } => Touched {
             bits: false,
@@ -342,6 +461,7 @@ fn touched_by(
             } else {
                 None
             },
+            cuts: case.call.truncates && size > 0,
         },
         Action::Write {
             offset,
@@ -349,7 +469,8 @@ fn touched_by(
             ..
         } => Touched {
             bits: false,
-            bytes: range_written(*offset, outcome, wrote),
+            bytes: range_written(*offset, size, outcome, wrote),
+            cuts: false,
         },
         _ => none,
     }
@@ -369,8 +490,13 @@ fn parted(size: u64, other: u64) -> (u64, u64) {
     (size.min(other), size.max(other))
 }
 
-/// The bytes that a WRITE wrote, if it wrote some.
-fn range_written(offset: u64, outcome: &Outcome<u32>, wrote: Option<u32>) -> Option<(u64, u64)> {
+/// The bytes that a WRITE set of a file of this size, if it wrote some: those that it wrote, and the zeros before them behind the end.
+fn range_written(
+    offset: u64,
+    size: u64,
+    outcome: &Outcome<u32>,
+    wrote: Option<u32>,
+) -> Option<(u64, u64)> {
     let count = match outcome {
         Outcome::Succeeds(count) => *count,
         Outcome::Unanswered => wrote.unwrap_or(0),
@@ -379,5 +505,136 @@ fn range_written(offset: u64, outcome: &Outcome<u32>, wrote: Option<u32>) -> Opt
     if count == 0 {
         return None;
     }
-    Some((offset, offset.saturating_add(u64::from(count))))
+    Some((offset.min(size), offset.saturating_add(u64::from(count))))
+}
+
+/// Whether a request is an OPEN with `O_TRUNC` that succeeded and does not cut the file, as ATOMIC_O_TRUNC was not agreed.
+fn leaves_whole(case: &Case<'_>, action: &Action<'_>) -> bool {
+    match action {
+        Action::Open {
+            outcome: Outcome::Succeeds(_),
+        } => !case.call.truncates && asks_to_cut(case),
+        _ => false,
+    }
+}
+
+/// Whether a request is an OPEN with `O_TRUNC`.
+fn asks_to_cut(case: &Case<'_>) -> bool {
+    let packet = Packet {
+        direction: Direction::ToServer,
+        time: 0,
+        bytes: case.call.messages.request,
+    };
+    match request(&packet) {
+        Ok(asked) => match &asked.body {
+            RequestBody::Open(open) => open.flags.contains(OpenFlags::TRUNC),
+            _ => false,
+        },
+        Err(_) => false,
+    }
+}
+
+/// Whether the answer to a request tells that its name is there, or that it is not.
+fn tells_name(case: &Case<'_>) -> bool {
+    match (case.operation.ended(), case.action()) {
+        (Outcome::Succeeds(()), Some(_)) => true,
+        (Outcome::Fails(error), Some(action)) => is_of_name(action, error),
+        _ => false,
+    }
+}
+
+/// Whether an error to an action tells that its name is there, or that it is not.
+fn is_of_name(action: &Action<'_>, error: i32) -> bool {
+    match action {
+        Action::Lookup { .. } => error == ENOENT,
+        Action::Unlink { .. } => error == ENOENT || is_of_type(action, error),
+        Action::Rmdir { .. } => error == ENOENT || is_of_type(action, error),
+        Action::Create { .. } => error == EEXIST || is_of_type(action, error),
+        Action::Symlink { .. }
+        | Action::Mknod { .. }
+        | Action::Mkdir { .. }
+        | Action::Link { .. } => error == EEXIST,
+        _ => false,
+    }
+}
+
+/// Whether an error to an action tells of which type the file is that has its name.
+fn is_of_type(action: &Action<'_>, error: i32) -> bool {
+    match action {
+        Action::Unlink { .. } | Action::Create { .. } => error == EISDIR,
+        Action::Rmdir { .. } => matches!(error, ENOTDIR | EEXIST | ENOTEMPTY),
+        _ => false,
+    }
+}
+
+/// The file whose attributes, or whose type at least, the answer to a request tells, if it does.
+fn file_told(tree: &Tree, case: &Case<'_>) -> Option<FileId> {
+    let action = case.action()?;
+    match case.operation.ended() {
+        Outcome::Succeeds(()) => file_succeeded(tree, case, action),
+        Outcome::Fails(error) => if is_of_type(action, error) {
+            file_named(tree, case)
+        } else {
+            None
+        },
+        Outcome::Unanswered => None,
+    }
+}
+
+/// The file that has the name of a request, if there is one.
+fn file_named(tree: &Tree, case: &Case<'_>) -> Option<FileId> {
+    tree.find(case.node_in(tree)?, case.first_place()?.name)
+}
+
+/// The file whose attributes the success of an action tells, if it does.
+fn file_succeeded(tree: &Tree, case: &Case<'_>, action: &Action<'_>) -> Option<FileId> {
+    match action {
+        Action::Getattr { .. } | Action::Setattr { .. } => case.node_in(tree),
+        Action::Lookup { .. } | Action::Create { .. } => file_named(tree, case),
+        Action::Link { .. } => case.other_in(tree),
+        _ => None,
+    }
+}
+
+/// The entries that the answer to a request lists, and the directory that has them.
+fn entries_told<'c>(tree: &Tree, case: &Case<'c>) -> Option<(FileId, Entries<'c>)> {
+    match &case.operation {
+        Operation::List(list) => match &list.outcome {
+            Outcome::Succeeds(entries) => Some((directory_listed(tree, case)?, *entries)),
+            _ => None,
+        },
+        Operation::Act(_) => None,
+    }
+}
+
+/// Whether entries have a name among them.
+fn lists(entries: Entries<'_>, name: &[u8]) -> bool {
+    for dirent in entries {
+        if dirent.name == name {
+            return true;
+        }
+    }
+    false
+}
+
+/// Whether the answer to a request tells a byte: of a READ, or as all of a target.
+fn tells_byte(tree: &Tree, case: &Case<'_>, byte: &BytePlace) -> bool {
+    if case.node_in(tree) != Some(byte.file) {
+        return false;
+    }
+    match case.action() {
+        Some(
+            Action::Read {
+                offset,
+                outcome: Outcome::Succeeds(bytes),
+                ..
+            },
+        ) => { *offset <= byte.offset && byte.offset < offset.saturating_add(bytes.len() as u64) }
+        Some(
+            Action::Readlink {
+                outcome: Outcome::Succeeds(_),
+            },
+        ) => true,
+        _ => false,
+    }
 }

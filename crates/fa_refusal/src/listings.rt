@@ -321,9 +321,14 @@ impl<'a, 't> Listing<'a, 't> {
         Ok(())
     }
 
-    /// Asks a history for the places of which the lines tell, and for the directory.
-    pub(crate) fn ask(&self, history: &mut History) -> Result<(), AllocError> {
+    /// Asks a history for the places of which the lines tell, for the directory, and for the files whose entries have another type.
+    pub(crate) fn ask(&self, history: &mut History, tree: &Tree) -> Result<(), AllocError> {
         history.ask_for_file(self.directory)?;
+        for other in &self.types.first {
+            if let Some(file) = tree.find(self.directory, other.name) {
+                history.ask_for_file(file)?;
+            }
+        }
         ask_for_places(history, self.directory, &self.missing.first)?;
         ask_for_places(history, self.directory, &self.never.first)?;
         ask_for_places(history, self.directory, &self.gone.first)
