@@ -4,7 +4,7 @@ use crate::another::answered_by;
 use crate::answers::{exchange, printed};
 use crate::looks::Looks;
 use crate::rules::{is_never, never_look_line};
-use crate::stepping::{because, look_at_server};
+use crate::stepping::{because, look_at_answer, look_at_start};
 use crate::wording::{self, comma};
 use fa_capture::{Capture, codes};
 use fa_ledger::{Calls, Outcome};
@@ -315,11 +315,30 @@ impl Reasons {
 
     /// Writes what to look at.
     fn look_at(&self, text: &mut Text, case: &Case<'_>) {
-        if let Some(least) = self.least() {
-            match error_never_answered(case) {
-                Some(error) => never_look_line(text, case, error),
-                None => look_at_server(text, least.code, &least.looks, case, false),
+        if self.list.is_empty() {
+            return;
+        }
+        match error_never_answered(case) {
+            Some(error) => never_look_line(text, case, error),
+            None => self.look_at_each(text, case),
+        }
+    }
+
+    /// Writes what to look at for each code with which trees refuse the answer, by the first of them, and whether the tree text may be
+    /// wrong, by one of these.
+    fn look_at_each(&self, text: &mut Text, case: &Case<'_>) {
+        let mut from_the_start = None;
+        for code in codes::SUCCESS_NOT_ALLOWED..=codes::LISTING {
+            let Some(reason) = self.list.iter().find(|reason| reason.code == code) else {
+                continue;
+            };
+            look_at_answer(text, code, &reason.looks, case, false);
+            if reason.looks.is_from_start {
+                from_the_start = Some(code);
             }
+        }
+        if let Some(code) = from_the_start {
+            look_at_start(text, code, case, false);
         }
     }
 

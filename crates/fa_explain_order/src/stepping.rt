@@ -263,7 +263,15 @@ fn order_at_fault(text: &mut Text, why: &str) {
 const FROM_THE_START: &str = "from the start";
 
 /// Writes what to look at in a server, and whether the tree text may be wrong.
-pub(crate) fn look_at_server(
+fn look_at_server(text: &mut Text, code: u16, looks: &Looks, case: &Case<'_>, may_be_other: bool) {
+    look_at_answer(text, code, looks, case, may_be_other);
+    if looks.is_from_start {
+        look_at_start(text, code, case, may_be_other);
+    }
+}
+
+/// Writes what to look at in a server: a line or two.
+pub(crate) fn look_at_answer(
     text: &mut Text,
     code: u16,
     looks: &Looks,
@@ -274,9 +282,11 @@ pub(crate) fn look_at_server(
     if let Some(second) = looks.second {
         look_at_line(text, code, second, case, may_be_other);
     }
-    if looks.is_from_start {
-        look_at_line(text, code, FROM_THE_START, case, may_be_other);
-    }
+}
+
+/// Writes that the tree text may be wrong.
+pub(crate) fn look_at_start(text: &mut Text, code: u16, case: &Case<'_>, may_be_other: bool) {
+    look_at_line(text, code, FROM_THE_START, case, may_be_other);
 }
 
 /// Writes a line of what to look at in a server, with a condition where another order may explain the answer.
