@@ -202,25 +202,36 @@ fn gone_line(text: &mut Text, scene: &Scene<'_>, listing: &Listing<'_, '_>) {
     more(text, listing.gone.first.len(), listing.gone.count);
 }
 
-/// Which of the lines of what to look at fit.
+/// Which of the lines of what to look at fit: those of the first two kinds of names that there are.
 fn looks(scene: &Scene<'_>, listing: &Listing<'_, '_>) -> Looks {
+    let mut looks = None;
     if listing.missing.count > 0 {
-        Looks::at(
-            "a name is missing",
-            is_one_from_start(scene, listing, &listing.missing.first),
-        )
-    } else if listing.twice.count > 0 {
-        Looks::at(of_names_twice(listing), false)
-    } else if listing.never.count > 0 {
-        Looks::at(
-            of_names_never_there(scene, listing),
-            is_one_from_start(scene, listing, &listing.never.first),
-        )
-    } else if listing.types.count > 0 {
-        Looks::at("the type of an entry", is_type_from_start(scene, listing))
-    } else {
-        Looks::at("a node of a name that is gone", false)
+        let is_from_start = is_one_from_start(scene, listing, &listing.missing.first);
+        looks = and(looks, "a name is missing", is_from_start);
     }
+    if listing.twice.count > 0 {
+        looks = and(looks, of_names_twice(listing), false);
+    }
+    if listing.never.count > 0 {
+        let is_from_start = is_one_from_start(scene, listing, &listing.never.first);
+        looks = and(looks, of_names_never_there(scene, listing), is_from_start);
+    }
+    if listing.types.count > 0 {
+        looks = and(
+            looks,
+            "the type of an entry",
+            is_type_from_start(scene, listing),
+        );
+    }
+    looks.unwrap_or(Looks::at("a node of a name that is gone", false))
+}
+
+/// These lines, if there are any, and one more.
+fn and(looks: Option<Looks>, case: &'static str, is_from_start: bool) -> Option<Looks> {
+    Some(match looks {
+        Some(looks) => looks.and(case, is_from_start),
+        None => Looks::at(case, is_from_start),
+    })
 }
 
 /// Whether one of these names is there, or not there, from the start on.

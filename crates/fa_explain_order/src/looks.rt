@@ -20,4 +20,13 @@ impl Looks {
             is_from_start,
         }
     }
+
+    /// These and one line more, where there was one alone.
+    pub fn and(self, case: &'static str, is_from_start: bool) -> Self {
+        Looks {
+            first: self.first,
+            second: self.second.or(Some(case)),
+            is_from_start: self.is_from_start || is_from_start,
+        }
+    }
 }

@@ -332,13 +332,13 @@ impl Reasons {
             let Some(reason) = self.list.iter().find(|reason| reason.code == code) else {
                 continue;
             };
-            look_at_answer(text, code, &reason.looks, case, false);
+            look_at_answer(text, code, &reason.looks, case, "");
             if reason.looks.is_from_start {
                 from_the_start = Some(code);
             }
         }
         if let Some(code) = from_the_start {
-            look_at_start(text, code, case, false);
+            look_at_start(text, code, case, "");
         }
     }
 

@@ -2,7 +2,7 @@
 
 use crate::all_orders::Search;
 use crate::allowed::allowed_line;
-use crate::another::{Another, asked_by, order_line};
+use crate::another::{Another, answered_by, asked_by, order_line};
 use crate::answers::exchange;
 use crate::holding::tree_lines;
 use crate::looks::Looks;
@@ -12,7 +12,6 @@ use crate::{attributes, bindings, contents, directories, emptiness, start, unmet
 use fa_bodies::errno::ENOENT;
 use fa_capture::{Capture, codes};
 use fa_explain::advice_of;
-use fa_ledger::Calls;
 use fa_refusal::{Case, Earlier, Finding, Overlaps, Past, Reached, Refused};
 use fa_show::{Text, words};
 use fa_tree::Tree;
@@ -89,7 +88,7 @@ fn next_line(text: &mut Text, refused: &Refused<'_>, reached: &Reached<'_>) {
             refused.code,
             "it would fit as the next entry",
             &reached.case,
-            false,
+            "",
         );
     }
 }
@@ -128,7 +127,7 @@ fn explain_finding<S: Search>(
     let overlaps = Overlaps::of(refused, tree, case)?;
     let another = Another::of(case, &overlaps, search)?;
     order_line(text, refused.calls, case.call.asked, &overlaps, another);
-    look_at_lines(text, refused.calls, finding.code(), &looks, case, another);
+    look_at_lines(text, refused, finding.code(), &looks, case, another);
     Ok(another.is_without_order())
 }
 
@@ -221,22 +220,42 @@ fn earlier_line(text: &mut Text, scene: &Scene<'_>, finding: &Finding<'_, '_>, e
 /// What stands in the line of code 82 for the operation.
 const THE_OPERATION: &str = "the operation";
 
-/// Writes the line of what to look at: the order, where another one is better; an answer behind this one, where that is the first which no
-/// order explains; and else the server, with a condition where nothing is known of other orders.
+/// Where nothing is known of other orders.
+const IF_NO_ORDER: &str = "If no order explains it: ";
+
+/// Where one of two answers is wrong.
+const IF_THIS_ONE: &str = "If it is this one: ";
+
+/// Writes the lines of what to look at: the order, where another one is better; the answer past which no order goes, where that is not this
+/// one; and else the server, with a condition where nothing is known of other orders.
 fn look_at_lines(
     text: &mut Text,
-    calls: &Calls<'_>,
+    refused: &Refused<'_>,
     code: u16,
     looks: &Looks,
     case: &Case<'_>,
     another: Another,
 ) {
     match another {
-        Another::Never | Another::NeverPast(_) => look_at_server(text, code, looks, case, false),
-        Another::Unknown => look_at_server(text, code, looks, case, true),
+        Another::Never => look_at_server(text, code, looks, case, ""),
+        Another::NeverPast(stop) => {
+            text.word("look at  First the answer to ");
+            asked_by(text, refused.calls, stop);
+            text.word(": no order explains it, with all answers before it.");
+            text.end_line();
+            look_at_server(text, code, looks, case, "");
+        }
+        Another::Unknown => look_at_server(text, code, looks, case, IF_NO_ORDER),
+        Another::Until(stop) if is_placed(refused, stop) => {
+            text.word("look at  This answer and the one to ");
+            asked_by(text, refused.calls, stop);
+            text.word(": no order explains both.");
+            text.end_line();
+            look_at_server(text, code, looks, case, IF_THIS_ONE);
+        }
         Another::Until(stop) => {
             text.word("look at  The answer to ");
-            asked_by(text, calls, stop);
+            asked_by(text, refused.calls, stop);
             text.word(", which no order explains: this one is explained by another.");
             text.end_line();
         }
@@ -252,6 +271,17 @@ fn look_at_lines(
     }
 }
 
+/// Whether the request that a message answers is placed before the entry.
+fn is_placed(refused: &Refused<'_>, answer: u32) -> bool {
+    match answered_by(refused.calls, answer) {
+        Some(case) => refused
+            .before
+            .iter()
+            .any(|entry| entry.at == case.call.asked),
+        None => false,
+    }
+}
+
 /// Writes that it is the order that is to be looked at.
 fn order_at_fault(text: &mut Text, why: &str) {
     text.word("look at  The order: ");
@@ -263,10 +293,10 @@ fn order_at_fault(text: &mut Text, why: &str) {
 const FROM_THE_START: &str = "from the start";
 
 /// Writes what to look at in a server, and whether the tree text may be wrong.
-fn look_at_server(text: &mut Text, code: u16, looks: &Looks, case: &Case<'_>, may_be_other: bool) {
-    look_at_answer(text, code, looks, case, may_be_other);
+fn look_at_server(text: &mut Text, code: u16, looks: &Looks, case: &Case<'_>, condition: &str) {
+    look_at_answer(text, code, looks, case, condition);
     if looks.is_from_start {
-        look_at_start(text, code, case, may_be_other);
+        look_at_start(text, code, case, condition);
     }
 }
 
@@ -276,35 +306,33 @@ pub(crate) fn look_at_answer(
     code: u16,
     looks: &Looks,
     case: &Case<'_>,
-    may_be_other: bool,
+    condition: &str,
 ) {
-    look_at_line(text, code, looks.first, case, may_be_other);
+    look_at_line(text, code, looks.first, case, condition);
     if let Some(second) = looks.second {
-        look_at_line(text, code, second, case, may_be_other);
+        look_at_line(text, code, second, case, condition);
     }
 }
 
 /// Writes that the tree text may be wrong.
-pub(crate) fn look_at_start(text: &mut Text, code: u16, case: &Case<'_>, may_be_other: bool) {
-    look_at_line(text, code, FROM_THE_START, case, may_be_other);
+pub(crate) fn look_at_start(text: &mut Text, code: u16, case: &Case<'_>, condition: &str) {
+    look_at_line(text, code, FROM_THE_START, case, condition);
 }
 
-/// Writes a line of what to look at in a server, with a condition where another order may explain the answer.
-fn look_at_line(text: &mut Text, code: u16, key: &str, case: &Case<'_>, may_be_other: bool) {
+/// Writes a line of what to look at in a server behind a condition, if there is one.
+fn look_at_line(text: &mut Text, code: u16, key: &str, case: &Case<'_>, condition: &str) {
     let Some(advice) = advice_of(code, key) else {
         return;
     };
     text.word("look at  ");
-    if may_be_other {
-        text.word("If no order explains it: ");
-    }
+    text.word(condition);
     match parted(code, advice) {
         Some((before, behind)) => {
-            begun(text, before, may_be_other);
+            begun(text, before, condition);
             wording::operation(text, case);
             text.word(behind);
         }
-        None => begun(text, advice, may_be_other),
+        None => begun(text, advice, condition),
     }
     text.end_line();
 }
@@ -318,9 +346,9 @@ fn parted(code: u16, advice: &str) -> Option<(&str, &str)> {
     }
 }
 
-/// Writes words that go on in a sentence, or begin one.
-fn begun(text: &mut Text, sentence: &str, goes_on: bool) {
-    let mut is_first = goes_on;
+/// Writes words that go on behind a condition, or begin a sentence where there is none.
+fn begun(text: &mut Text, sentence: &str, condition: &str) {
+    let mut is_first = !condition.is_empty();
     for byte in sentence.as_bytes() {
         if is_first {
             text.character(byte.to_ascii_lowercase());
