@@ -39,7 +39,7 @@ fn success_word(scene: &Scene<'_>) -> Option<&'static str> {
             return None;
         }
         return Some(match scene.tree.find(directory, name) {
-            Some(_) => "success",
+            Some(_) => "success with a node",
             None => "success with node 0",
         });
     }

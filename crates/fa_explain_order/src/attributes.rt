@@ -48,7 +48,8 @@ fn listed_lines(
     text.word(": ");
     facts_and_changes(text, scene, listed.file)?;
     text.end_line();
-    Ok(Looks::at("type", start::has_type(scene, listed.file)))
+    let is_from_start = !listed.is_listed_so && start::has_type(scene, listed.file);
+    Ok(Looks::at("type", is_from_start))
 }
 
 /// Writes the type that a mode tells.
@@ -100,7 +101,7 @@ fn made_line(text: &mut Text, named: Option<NamedPlace<'_>>) {
 }
 
 /// Which of the lines of what to look at fit: that of the type alone, or those of the last two attributes that differ. Attributes from
-/// before the request have one cause, and so one line.
+/// before the request have one cause, and so one line, and so have those that no request changed.
 fn looks(
     scene: &Scene<'_>,
     other: &OtherAttributes<'_>,
@@ -112,12 +113,18 @@ fn looks(
         return Looks::at("type", is_from_start);
     }
     if expected.file.is_none() {
-        return looks_of_new(told, expected);
+        return looks_of_new(scene, told, expected);
+    }
+    if is_from_start {
+        return Looks::at("attributes that no request changed", true);
+    }
+    if are_those_before(other) && !is_link(&scene.case) {
+        return Looks::at("attributes from before the request", false);
     }
     let links = if expected.has_links(told) {
         None
     } else {
-        Some("links")
+        Some(of_links(scene, told, expected))
     };
     let size = if expected.has_size(told) {
         None
@@ -141,12 +148,28 @@ fn looks(
     };
     Looks {
         first,
-        second: if are_those_before(other) {
-            None
-        } else {
-            second
-        },
+        second,
         is_from_start,
+    }
+}
+
+/// The case of a number of links: a request may have taken a name away.
+fn of_links(scene: &Scene<'_>, told: &Attributes, expected: &Expected) -> &'static str {
+    if u64::from(told.nlink) > expected.links && links_by(scene, expected).is_some() {
+        "links that were taken away"
+    } else {
+        "links"
+    }
+}
+
+/// The request that gave a file its last name, or took one away, but for the one that made it.
+fn links_by(scene: &Scene<'_>, expected: &Expected) -> Option<u32> {
+    let file = expected.file?;
+    let asked = scene.history.file(file)?.links_by?;
+    if file == FileId::Made(asked) {
+        None
+    } else {
+        Some(asked)
     }
 }
 
@@ -177,8 +200,8 @@ fn left_whole_by(scene: &Scene<'_>, told: &Attributes, expected: &Expected) -> O
 }
 
 /// Which of the lines of what to look at fit the attributes of a file that the request makes.
-fn looks_of_new(told: &Attributes, expected: &Expected) -> Looks {
-    let bits = "permission bits of a new file";
+fn looks_of_new(scene: &Scene<'_>, told: &Attributes, expected: &Expected) -> Looks {
+    let bits = of_new_bits(scene, told);
     if expected.has_links(told) && expected.has_size(told) {
         return Looks::at(bits, false);
     }
@@ -190,6 +213,26 @@ fn looks_of_new(told: &Attributes, expected: &Expected) -> Looks {
             Some(bits)
         },
         is_from_start: false,
+    }
+}
+
+/// The case of the permission bits of a file that the request makes.
+fn of_new_bits(scene: &Scene<'_>, told: &Attributes) -> &'static str {
+    match mode_of(scene) {
+        Some(mode) if told.mode.bits() & 0o777 & !mode.bits() != 0 => {
+            "permission bits that the mode of a new file lacks"
+        }
+        _ => "permission bits of a new file",
+    }
+}
+
+/// The mode with which a request makes a file.
+fn mode_of(scene: &Scene<'_>) -> Option<Mode> {
+    match scene.case.action()? {
+        Action::Create { mode, .. } | Action::Mkdir { mode, .. } | Action::Mknod { mode, .. } => {
+            Some(*mode)
+        }
+        _ => None,
     }
 }
 
@@ -361,6 +404,10 @@ fn links_origin(text: &mut Text, scene: &Scene<'_>, expected: &Expected) -> Resu
             text.word(", for ");
             text.name(&path);
             further_names(text, scene, file);
+            if let Some(asked) = links_by(scene, expected) {
+                text.word(", since ");
+                wording::request(text, scene.calls, asked);
+            }
         }
         None => text.word(", as it has no name any more"),
     }

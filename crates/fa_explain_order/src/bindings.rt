@@ -39,6 +39,11 @@ pub(crate) fn explain(
         Some(file) => facts_and_changes(text, scene, file)?,
         None => text.word("made by this request"),
     }
+    if let Some(own) = &scene.history.own_node {
+        text.field(", was given node ", node_number(&own.node));
+        text.word(" by ");
+        wording::request(text, scene.calls, own.by);
+    }
     text.field(", and is given node ", number);
     text.word(" too");
     text.end_line();
@@ -46,5 +51,9 @@ pub(crate) fn explain(
         Some(file) => start::has_file(scene, file) && start::has_file(scene, binding.other),
         None => false,
     };
-    Ok(Looks::at("", is_from_start))
+    let case = match scene.history.own_node {
+        Some(_) => "a file that has a node of its own",
+        None => "",
+    };
+    Ok(Looks::at(case, is_from_start))
 }

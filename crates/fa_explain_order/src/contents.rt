@@ -53,7 +53,20 @@ fn lengths_line(text: &mut Text, scene: &Scene<'_>, reading: &Reading<'_>) {
     }
     text.number(reading.expected);
     text.word(" expected");
+    if let Some(asked) = left_whole_by(scene, reading) {
+        text.word("; ");
+        wording::request(text, scene.calls, asked);
+        text.word(" leaves them, as ATOMIC_O_TRUNC was not agreed");
+    }
     text.end_line();
+}
+
+/// The OPEN with O_TRUNC that was to leave a file whole of which no byte is answered, if there is one.
+fn left_whole_by(scene: &Scene<'_>, reading: &Reading<'_>) -> Option<u32> {
+    if !reading.answered.is_empty() {
+        return None;
+    }
+    scene.history.file(reading.file)?.left_whole_by
 }
 
 /// Writes the first byte that differs, with which request set it, and how many differ.
@@ -141,6 +154,7 @@ fn looks(scene: &Scene<'_>, reading: &Reading<'_>, differs: bool) -> Looks {
 /// The case of bytes that differ: a request may have set the first of them.
 fn of_other_bytes(scene: &Scene<'_>) -> &'static str {
     match scene.history.byte_by {
+        Some(_) if scene.history.byte_is_filled => "READ, other bytes where zeros are",
         Some(_) => "READ, other bytes",
         None => "READ, other bytes that no request set",
     }
@@ -148,12 +162,12 @@ fn of_other_bytes(scene: &Scene<'_>) -> &'static str {
 
 /// The case of bytes that are too few or too many.
 fn of_lengths(scene: &Scene<'_>, reading: &Reading<'_>) -> &'static str {
-    let (left_whole, is_cut) = match scene.history.file(reading.file) {
-        Some(known) => (known.left_whole_by.is_some(), known.cut_by.is_some()),
-        None => (false, false),
+    let is_cut = match scene.history.file(reading.file) {
+        Some(known) => known.cut_by.is_some(),
+        None => false,
     };
     if (reading.answered.len() as u64) < reading.expected {
-        if left_whole && reading.answered.is_empty() {
+        if left_whole_by(scene, reading).is_some() {
             "READ, too short behind an OPEN that does not cut"
         } else {
             "READ, too short"

@@ -4,7 +4,7 @@ use crate::scene::Scene;
 use fa_bodies::RenameFlags;
 use fa_bodies::errno::{EEXIST, ENOTEMPTY};
 use fa_ledger::Action;
-use fa_refusal::NamedPlace;
+use fa_refusal::{Earlier, NamedPlace};
 use fa_tree::Kind;
 
 /// Which of the lines of what to look at fits an error that says so of a name, if it is one.
@@ -19,12 +19,21 @@ pub(crate) fn of(scene: &Scene<'_>, error: i32) -> Option<&'static str> {
         Some(_) if error == EEXIST && is_rename(scene) => "a new name that is there is refused",
         Some(file) => {
             if scene.is_of(file, Kind::Directory) {
-                "an empty directory is said not to be"
+                of_empty(scene)
             } else {
                 "what is no directory is said not to be empty"
             }
         }
     })
+}
+
+/// The case of an empty directory: it may never have had a name in it.
+fn of_empty(scene: &Scene<'_>) -> &'static str {
+    if scene.earlier == Earlier::Never {
+        "a directory that never had a name in it is said not to be empty"
+    } else {
+        "an empty directory is said not to be"
+    }
 }
 
 /// Whether the request is a RENAME.

@@ -32,6 +32,18 @@ const FEW: usize = 8;
 /// How many bytes a label has, with the blank behind it.
 const LABEL: usize = 9;
 
+/// The trees of which lines are written, in front of what to look at.
+static ON_TREE: [&str; MOST_REASONS] = [
+    "On tree 1: ",
+    "On tree 2: ",
+    "On tree 3: ",
+    "On tree 4: ",
+    "On tree 5: ",
+    "On tree 6: ",
+    "On tree 7: ",
+    "On tree 8: ",
+];
+
 /// The labels of lines that say what differs on a tree. The first that is there tells it.
 static TELLING: [&[u8]; 8] = [
     b"differs ",
@@ -324,22 +336,40 @@ impl Reasons {
         }
     }
 
-    /// Writes what to look at for each code with which trees refuse the answer, by the first of them, and whether the tree text may be
-    /// wrong, by one of these.
+    /// Writes whether the tree text may be wrong, and what to look at for each code with which trees refuse the answer, by the first of
+    /// them. The trees with the last code come first: there most of the answer holds.
     fn look_at_each(&self, text: &mut Text, case: &Case<'_>) {
-        let mut from_the_start = None;
-        for code in codes::SUCCESS_NOT_ALLOWED..=codes::LISTING {
-            let Some(reason) = self.list.iter().find(|reason| reason.code == code) else {
-                continue;
-            };
-            look_at_answer(text, code, &reason.looks, case, "");
-            if reason.looks.is_from_start {
-                from_the_start = Some(code);
+        if let Some(reason) = self.list.iter().find(|reason| reason.looks.is_from_start) {
+            look_at_start(text, reason.code, case, "");
+        }
+        for behind in 0..=codes::LISTING - codes::SUCCESS_NOT_ALLOWED {
+            let code = codes::LISTING - behind;
+            if let Some(reason) = self.list.iter().find(|reason| reason.code == code) {
+                look_at_answer(text, code, &reason.looks, case, self.on_tree(code));
             }
         }
-        if let Some(code) = from_the_start {
-            look_at_start(text, code, case, "");
+    }
+
+    /// Which tree is the first that refuses the answer with this code, in words, where others do with another code.
+    fn on_tree(&self, code: u16) -> &'static str {
+        if self.list.iter().all(|reason| reason.code == code) {
+            return "";
         }
+        match ON_TREE.get(self.told_below(code)) {
+            Some(words) => *words,
+            None => "",
+        }
+    }
+
+    /// How many lines of trees come before those with this code.
+    fn told_below(&self, code: u16) -> usize {
+        let mut told: usize = 0;
+        for (place, reason) in self.list.iter().enumerate() {
+            if reason.code < code && !self.is_told_before(place, reason) {
+                told = told.saturating_add(1);
+            }
+        }
+        told
     }
 
     /// Writes what differs on each tree, those on which the same does in one line, by their codes.

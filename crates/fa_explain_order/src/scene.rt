@@ -1,7 +1,7 @@
 //! What is told of an entry that a tree refuses.
 
 use fa_ledger::Calls;
-use fa_refusal::{Case, History, path_of};
+use fa_refusal::{Case, Earlier, History, path_of};
 use fa_tree::{FileId, Kind, Tree};
 use std::alloc::{AllocError, Global};
 
@@ -12,6 +12,7 @@ pub(crate) struct Scene<'a> {
     pub calls: &'a Calls<'a>,
     pub tree: &'a Tree,
     pub history: &'a History,
+    pub earlier: Earlier,
     pub case: Case<'a>,
 }
 

@@ -12,6 +12,7 @@ use crate::{attributes, bindings, contents, directories, emptiness, start, unmet
 use fa_bodies::errno::ENOENT;
 use fa_capture::{Capture, codes};
 use fa_explain::advice_of;
+use fa_ledger::Action;
 use fa_refusal::{Case, Earlier, Finding, Overlaps, Past, Reached, Refused};
 use fa_show::{Text, words};
 use fa_tree::Tree;
@@ -157,10 +158,11 @@ fn because_of(
         calls: refused.calls,
         tree,
         history: &past.history,
+        earlier: past.earlier,
         case: *case,
     };
     let looks = why(text, &scene, finding)?;
-    earlier_line(text, &scene, finding, past.earlier);
+    earlier_line(text, &scene, finding);
     Ok(looks)
 }
 
@@ -189,21 +191,40 @@ fn case_of(scene: &Scene<'_>, error: i32) -> &'static str {
     if let Some(case) = emptiness::of(scene, error) {
         return case;
     }
-    if error == ENOENT && scene.case.first_place().is_none() {
-        return "ENOENT to a request without a name";
+    if error == ENOENT {
+        return of_absence(scene);
     }
     words::error_name(error).unwrap_or("")
 }
 
-/// Writes whether the answer was right before.
-fn earlier_line(text: &mut Text, scene: &Scene<'_>, finding: &Finding<'_, '_>, earlier: Earlier) {
+/// The case of an ENOENT that has no cause.
+fn of_absence(scene: &Scene<'_>) -> &'static str {
+    match scene.case.action() {
+        Some(
+            Action::Symlink { .. }
+            | Action::Mknod { .. }
+            | Action::Mkdir { .. }
+            | Action::Create { .. }
+            | Action::Link { .. },
+        ) => "ENOENT to a request that makes a name",
+        _ if scene.case.first_place().is_none() => "ENOENT to a request without a name",
+        _ if start::denies_error(scene, ENOENT) => "ENOENT of a name that no request changed",
+        _ => "ENOENT",
+    }
+}
+
+/// Writes whether the answer was right before. A node that is given for another file was free before it was given.
+fn earlier_line(text: &mut Text, scene: &Scene<'_>, finding: &Finding<'_, '_>) {
+    if let Finding::Given(_) = finding {
+        return;
+    }
     if let Finding::Attributes(other) = finding {
         if attributes::are_those_before(other) {
             text.word("earlier  these are the attributes from before the request");
             return text.end_line();
         }
     }
-    match earlier {
+    match scene.earlier {
         Earlier::Until(asked) => {
             text.word("earlier  the same answer was right until ");
             wording::request(text, scene.calls, asked);
@@ -292,12 +313,12 @@ fn order_at_fault(text: &mut Text, why: &str) {
 /// The case of the line of what to look at where the first tree may be wrong.
 const FROM_THE_START: &str = "from the start";
 
-/// Writes what to look at in a server, and whether the tree text may be wrong.
+/// Writes whether the tree text may be wrong, and what to look at in a server.
 fn look_at_server(text: &mut Text, code: u16, looks: &Looks, case: &Case<'_>, condition: &str) {
-    look_at_answer(text, code, looks, case, condition);
     if looks.is_from_start {
         look_at_start(text, code, case, condition);
     }
+    look_at_answer(text, code, looks, case, condition);
 }
 
 /// Writes what to look at in a server: a line or two.

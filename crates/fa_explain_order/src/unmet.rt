@@ -6,6 +6,7 @@ use crate::looks::Looks;
 use crate::rules::success_line;
 use crate::scene::Scene;
 use crate::start;
+use fa_ledger::Action;
 use fa_refusal::{NamedPlace, Part, Subject, Unmet};
 use fa_show::Text;
 use std::alloc::AllocError;
@@ -65,6 +66,8 @@ fn key(scene: &Scene<'_>, unmet: &Unmet<'_>) -> &'static str {
         Part::NotThere => {
             if is_taken(scene, unmet) {
                 "a name is not there any more"
+            } else if takes_away(scene) {
+                "a name that was never there is taken away"
             } else {
                 "a name was never there"
             }
@@ -84,6 +87,19 @@ fn key(scene: &Scene<'_>, unmet: &Unmet<'_>) -> &'static str {
         | Part::NotRegular
         | Part::NotSymlink => "all else",
     }
+}
+
+/// Whether the request takes a name away.
+fn takes_away(scene: &Scene<'_>) -> bool {
+    matches!(
+        scene.case.action(),
+        Some(
+            Action::Unlink { .. }
+                | Action::Rmdir { .. }
+                | Action::Rename { .. }
+                | Action::Rename2 { .. }
+        )
+    )
 }
 
 /// Whether a request took the name away that is not there.

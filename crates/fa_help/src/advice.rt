@@ -223,7 +223,8 @@ pub(crate) fn lines_of(code: u16) -> Option<&'static str>
              fails    where the tree does not allow the success, as of a CREATE in a directory without a name, or the answer has not the form of one, as attributes for a WRITE\n\
              look at  a name is not there any more: The server finds a name that is gone: a cache that UNLINK, RMDIR or RENAME do not clear, or a check and a change that no lock holds together.\n\
              look at  a name was never there: The server finds a name that no request made: it looks in another directory, or a name is there before its request takes effect.\n\
-             look at  a name is there, and node 0 says that it is not: Each place where the server answers LOOKUP with node 0: a cached \"not there\" that CREATE, LINK or RENAME do not clear.\n\
+             look at  a name that was never there is taken away: The server answers a success where nothing is there to remove or rename: the error of its own call is dropped, or it looks in another directory.\n\
+             look at  a name is there, and node 0 says that it is not: Each place where the server answers LOOKUP with node 0: a cached \"not there\" that is not cleared where the name is made.\n\
              look at  a name is there already: The server did not see a name that is there: two requests may both have checked before either made it. Check and change under one lock.\n\
              look at  a name is there, and a flag forbids it: Does the server look at the flag? RENAME_NOREPLACE, and O_EXCL of a CREATE, want EEXIST where the name is there: check and change under one lock.\n\
              look at  a directory is not empty: The server removes or replaces a directory without looking into it, or what it looks at is older than the last name that came into it.\n\
@@ -235,12 +236,15 @@ pub(crate) fn lines_of(code: u16) -> Option<&'static str>
         codes::ERROR_WITHOUT_CAUSE => {
             "told of  an entry of an order, or the request of a reply that no order explains\n\
              fails    where the error is ENOENT, EEXIST, ENOTDIR, EISDIR or ENOTEMPTY, and the tree gives no cause for it\n\
-             look at  ENOENT: Each place where the server answers the operation with ENOENT: another failure that is told as ENOENT, a cached \"not there\" that CREATE, LINK or RENAME do not clear, a table that is changed in two steps without a lock.\n\
+             look at  ENOENT: Each place where the server answers the operation with ENOENT: another failure that is told as ENOENT, a cached \"not there\" that is not cleared where the name is made, a table that is changed in two steps without a lock.\n\
+             look at  ENOENT of a name that no request changed: Each place where the server answers the operation with ENOENT: another failure that is told as ENOENT, or a look into another directory.\n\
              look at  ENOENT to a request without a name: A path that the server keeps for the node from before a RENAME, of it or of a directory above it; or another failure that is told as ENOENT.\n\
+             look at  ENOENT to a request that makes a name: A path that the server keeps for the directory from before a RENAME or a removal; a symbolic link that has the name and is followed; or another failure that is told as ENOENT.\n\
              look at  EEXIST: What the server asks before EEXIST: a name that went, or is not made yet, is in one of its tables.\n\
              look at  ENOTDIR: From where the server takes the type of the node or name: an id that was given again, the root taken for a file, a type bit lost.\n\
              look at  EISDIR: From where the server takes the type of the node or name: an id that was given again, a type bit lost.\n\
              look at  an empty directory is said not to be: What the server counts as names of the directory: removed files that it keeps under hidden names (libfuse without hard_remove), what others write below, a count that UNLINK does not lower.\n\
+             look at  a directory that never had a name in it is said not to be empty: What the server counts as names of the directory: `.` and `..`, its `nlink`, or the names of another directory.\n\
              look at  a name that is not there is said not to be empty: What the server asks before ENOTEMPTY or EEXIST: a name that went, or is not made yet, is in one of its tables. RMDIR of it gives ENOENT; a RENAME may take it.\n\
              look at  a new name that is there is refused: A RENAME without RENAME_NOREPLACE takes the name of a file, and a directory that of an empty directory: the server refuses any new name that is there.\n\
              look at  what is no directory is said not to be empty: The server counts names before it looks at the type: look from where it takes that.\n\
@@ -251,10 +255,14 @@ pub(crate) fn lines_of(code: u16) -> Option<&'static str>
              fails    where the type, the permission bits, the size or the number of links that the answer tells are not those of the file\n\
              look at  type: What fills `mode`: the type bits belong to it; or the node stands for another file in the server.\n\
              look at  links: What fills `nlink` in the answers of LINK, LOOKUP, GETATTR and CREATE alike: a constant 1, or attributes from before the request.\n\
+             look at  links that were taken away: A count that UNLINK or RENAME does not lower, of the file or as it is kept for its other names.\n\
              look at  size: What fills `size`: attributes kept from before a WRITE, SETATTR or open with O_TRUNC, or taken before this request took effect.\n\
+             look at  attributes that no request changed: What fills the attributes: they are of another file, or made up.\n\
+             look at  attributes from before the request: The request was not done, as a SETATTR of which a bit of `valid` is not looked at; or the attributes were taken before it.\n\
              look at  size, behind an OPEN that does not cut: The server cuts a file at OPEN with O_TRUNC, though INIT did not agree on ATOMIC_O_TRUNC: then the kernel sends a SETATTR that cuts, and OPEN is to leave the bytes.\n\
              look at  size or links of a new file: What fills `size` and `nlink`: a new file has no bytes and one name; those told may be of a file that is gone, or were never set.\n\
              look at  permission bits of a new file: The mode of the request less its umask: run the server with umask 0, on a folder without default access control lists, and look what fills `mode`.\n\
+             look at  permission bits that the mode of a new file lacks: What fills `mode`: a constant, a chmod of the server's own, or the mode of another file. A umask and access control lists only take bits away.\n\
              look at  permission bits that a file was made with: The mode of the request that made the file, less its umask: run the server with umask 0, on a folder without default access control lists, and look what filled `mode` in the answer that made it.\n\
              look at  permission bits of a file that is there: What fills `mode`: only a SETATTR with FATTR_MODE changes the bits of a file that is there; a CREATE that opens one leaves them, whatever mode it has.\n\
              look at  from the start: Whether the tree text says what the server began with (without --tree that is an empty root with mode 755), or files were changed otherwise than through the mount.\n"
@@ -263,6 +271,7 @@ pub(crate) fn lines_of(code: u16) -> Option<&'static str>
             "told of  an entry of an order, or the request of a reply that no order explains\n\
              fails    where the node that the answer gives stands for another file already\n\
              look at  The server made one node id for two files: an id taken from an inode number that was used again while the kernel still knew it, or from a hash; or LINK and RENAME moved a name and not its id. Give an id again only behind the last FORGET.\n\
+             look at  a file that has a node of its own: The server answered with the node id of another file: look how it goes from the name to the file, and from where it fills `nodeid`.\n\
              look at  from the start: Whether the tree text says what the server began with (without --tree that is an empty root with mode 755), or files were changed otherwise than through the mount.\n"
         }
         codes::BYTES_READ => {
@@ -274,6 +283,7 @@ pub(crate) fn lines_of(code: u16) -> Option<&'static str>
              look at  READ, too long: Bytes behind the end of the file: does the server send a whole buffer or page, or count bytes that no WRITE has written?\n\
              look at  READ, too long behind a truncation: Bytes behind the end of the file: the server's size is older than the last truncation, or it sends a whole buffer or page.\n\
              look at  READ, other bytes: A copy of the bytes that a WRITE or truncation did not change: what is kept by handle or by page, and a WRITE done in two steps without a lock.\n\
+             look at  READ, other bytes where zeros are: What lies between an old end of the file and a new one is zeros: a truncation that only lowers the size leaves the old bytes behind it, and so does a block or buffer that is not cleared.\n\
              look at  READ, other bytes that no request set: From which file and which offset the server reads: nothing has changed the first byte that differs.\n\
              look at  from the start: Whether the tree text says what the server began with (without --tree that is an empty root with mode 755), or files were changed otherwise than through the mount.\n"
         }
@@ -286,7 +296,7 @@ pub(crate) fn lines_of(code: u16) -> Option<&'static str>
              look at  a name that went before the opening: What the server lists from: a name that was renamed or removed before the opening is in it.\n\
              look at  a name that was never there: From where the server takes its names: this one is of another directory, is not made yet, or has other bytes or another namelen.\n\
              look at  the type of an entry: What fills `type` of struct fuse_dirent: 0 says nothing, all else is the type bits of the mode divided by 4,096.\n\
-             look at  a node of a name that is gone: READDIRPLUS looked the name up after it had gone: list and look up under one lock, or give the entry without a node.\n\
+             look at  a node of a name that is gone: The node is from before the name went, as of a list that is kept since the opening: look the name up where the answer is filled, under the lock of removals, or give the entry without a node.\n\
              look at  from the start: Whether the tree text says what the server began with (without --tree that is an empty root with mode 755), or files were changed otherwise than through the mount.\n"
         }
         _ => return None,

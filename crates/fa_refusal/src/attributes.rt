@@ -2,7 +2,7 @@
 
 use crate::bindings::directory_listed;
 use crate::case::Case;
-use crate::listings::gives_node;
+use crate::listings::{gives_node, kind_number};
 use bitflags::Flags;
 use fa_bodies::{Attributes, Dirent, FattrFlags, Mode, SetattrIn};
 use fa_ledger::{Action, List, Operation, Outcome};
@@ -31,6 +31,8 @@ pub struct ListedType<'a> {
     pub name: &'a [u8],
     /// The mode that is told.
     pub mode: Mode,
+    /// Whether the entry itself tells the type of the file.
+    pub is_listed_so: bool,
     /// The file of the name,
     pub file: FileId,
     /// and its type.
@@ -88,6 +90,7 @@ fn other_type<'a>(tree: &Tree, directory: FileId, dirent: &Dirent<'a>) -> Option
     Some(ListedType {
         name: dirent.name,
         mode,
+        is_listed_so: dirent.kind == kind_number(kind),
         file,
         kind,
     })

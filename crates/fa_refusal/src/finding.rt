@@ -102,7 +102,7 @@ impl<'a, 't> Finding<'a, 't> {
                 OtherAttributes::Listed(listed) => history.ask_for_file(listed.file),
             },
             Finding::Given(binding) => {
-                history.ask_for_node(binding.node);
+                history.ask_for_node(binding.node, binding.file);
                 history.ask_for_file(binding.other)?;
                 ask_for(history, binding.file)
             }

@@ -60,7 +60,16 @@ pub(crate) struct BytePlace {
     pub offset: u64,
 }
 
-/// The last requests that changed the places, files and byte that are asked for, and the one that gave a node.
+/// A node that an answer gave for a file.
+#[derive(Clone, Copy)]
+pub struct NodeGiven {
+    /// The node,
+    pub node: NodeName,
+    /// and the request that was answered so.
+    pub by: u32,
+}
+
+/// The last requests that changed the places, files and byte that are asked for, and those that gave nodes.
 #[derive(Drop)]
 pub struct History {
     alloc: Global,
@@ -69,11 +78,16 @@ pub struct History {
     byte: Option<BytePlace>,
     /// The request that set the byte last.
     pub byte_by: Option<u32>,
+    /// Whether that set it to zero, as it made the file longer.
+    pub byte_is_filled: bool,
     /// Whether an answer told the byte.
     pub byte_is_told: bool,
     node: Option<NodeName>,
     /// The request whose answer gave the node first.
     pub node_by: Option<u32>,
+    node_of: Option<FileId>,
+    /// The first other node that was given for the file of which nodes are asked for.
+    pub own_node: Option<NodeGiven>,
 }
 
 /// A place as it is before a step.
@@ -102,9 +116,12 @@ impl History {
             files: Vec::new(alloc),
             byte: None,
             byte_by: None,
+            byte_is_filled: false,
             byte_is_told: false,
             node: None,
             node_by: None,
+            node_of: None,
+            own_node: None,
         }
     }
 
@@ -147,9 +164,10 @@ impl History {
         self.byte = Some(byte);
     }
 
-    /// Asks for a node.
-    pub(crate) fn ask_for_node(&mut self, node: NodeName) {
+    /// Asks for a node, and for another one of this file, if there is one.
+    pub(crate) fn ask_for_node(&mut self, node: NodeName, of: Option<FileId>) {
         self.node = Some(node);
+        self.node_of = of;
     }
 
     /// What is known of a place, if it was asked for. Takes no memory, and time in the places that were.
@@ -227,6 +245,7 @@ impl History {
         }
         self.note_told(tree, case, before);
         self.note_node(tree, asked);
+        self.note_own_node(tree, case);
     }
 
     /// Notes that a request opened a file with `O_TRUNC` and did not cut it.
@@ -360,6 +379,7 @@ impl History {
         if let (Some(byte), Some((begin, end))) = (self.byte, touched.bytes) {
             if byte.file == file && begin <= byte.offset && byte.offset < end {
                 self.byte_by = Some(asked);
+                self.byte_is_filled = byte.offset < touched.filled;
             }
         }
     }
@@ -373,6 +393,24 @@ impl History {
             self.node_by = Some(asked);
         }
     }
+
+    /// Notes the first other node that an answer gave for the file of which nodes are asked for.
+    fn note_own_node(&mut self, tree: &Tree, case: &Case<'_>) {
+        let (Some(file), Some(answer)) = (self.node_of, &case.call.answer) else {
+            return;
+        };
+        for node in answer.given.names() {
+            if self.own_node.is_none()
+                && self.node != Some(*node)
+                && tree.file_of(node) == Some(file)
+            {
+                self.own_node = Some(NodeGiven {
+                    node: *node,
+                    by: case.call.asked,
+                });
+            }
+        }
+    }
 }
 
 /// What a request set of a file.
@@ -381,6 +419,8 @@ struct Touched {
     bits: bool,
     /// From which byte on it set bytes, and up to which.
     bytes: Option<(u64, u64)>,
+    /// Up to which of them it filled the file with zeros.
+    filled: u64,
     /// Whether the file has fewer bytes behind it.
     cuts: bool,
 }
@@ -439,6 +479,7 @@ fn touched_by(
     let none = Touched {
         bits: false,
         bytes: None,
+        filled: 0,
         cuts: false,
     };
     if let Outcome::Fails(_) = action.ended() {
@@ -452,6 +493,7 @@ fn touched_by(
             } else {
                 None
             },
+            filled: setattr.size,
             cuts: setattr.valid.contains(FattrFlags::SIZE) && setattr.size < size,
         },
         Action::Open { .. } | Action::Create { .. } => Touched {
@@ -461,6 +503,7 @@ fn touched_by(
             } else {
                 None
             },
+            filled: 0,
             cuts: case.call.truncates && size > 0,
         },
         Action::Write {
@@ -470,6 +513,7 @@ fn touched_by(
         } => Touched {
             bits: false,
             bytes: range_written(*offset, size, outcome, wrote),
+            filled: *offset,
             cuts: false,
         },
         _ => none,

@@ -32,7 +32,7 @@ pub use contents::{Difference, Reading};
 pub use earlier::Earlier;
 pub use finding::Finding;
 pub use found::Found;
-pub use history::{FileHistory, History, PlaceHistory};
+pub use history::{FileHistory, History, NodeGiven, PlaceHistory};
 pub use listings::{Listing, OtherType, Twice};
 pub use overlaps::{Beside, Next, Overlaps};
 pub use past::Past;

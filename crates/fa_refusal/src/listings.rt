@@ -401,7 +401,7 @@ fn is_dots(name: &[u8]) -> bool {
 }
 
 /// The number of a type of files in `struct fuse_dirent`.
-fn kind_number(kind: Kind) -> u32 {
+pub(crate) fn kind_number(kind: Kind) -> u32 {
     match kind {
         Kind::Fifo => 1,
         Kind::CharDevice => 2,
