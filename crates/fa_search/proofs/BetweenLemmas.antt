@@ -27,7 +27,7 @@ use Rattle.fa_search.specs.declared.flight.Due.{Due}
 use Rattle.fa_search.specs.declared.flight.Pending.{Pending}
 use Rattle.fa_search.specs.declared.flight.InFlight.{InFlight}
 use Rattle.fa_search.specs.parts.Configurations.{IsCallPending}
-use Rattle.fa_search.specs.parts.Flight.{due_by, IsDue, IsPendingOf, IsInFlight, IsFlight, IsAmongNow, IsSent}
+use Rattle.fa_search.specs.parts.Flight.{due_by, IsDue, IsPendingOf, IsInFlight, IsFlight, IsAmongNow, IsSent, AreLastUses}
 use Rattle.fa_search.proofs.FlightLemmas.{answer_answers}
 use Rattle.fa_search.proofs.PendingLemmas.{answered_behind, request_answers_none}
 
@@ -175,7 +175,11 @@ module _ (c : List Message) (calls : List PlainCall) (are : AreCalls c calls) wh
           let at : x.at ≡ y.at = ap (λ (d : Due). d.position) e in
           one_answered c calls are i j y.at (a, x, first, one, at) (b, y, second, two, refl)
 
-  module _ (old new : InFlight) (next : new.at ≡ old.at + 1) (is : IsFlight calls old) where
+  module _ (old new : InFlight) (next : new.at ≡ old.at + 1) (same_uses : new.last_uses ≡ old.last_uses) (is : IsFlight calls old) where
+    -- the table stays
+    uses_here : AreLastUses calls new.last_uses
+    uses_here = subst (AreLastUses calls) (sym same_uses) is.uses
+
     -- ---- in flight at a message and at the next
 
     -- a call that was sent before the message, and is in flight at the next, is so here
@@ -232,6 +236,7 @@ module _ (c : List Message) (calls : List PlainCall) (are : AreCalls c calls) wh
             (found.0, subst (λ (es : List (Due × Pending)). Contains es found.0) (sym same) found.1, found.2);
         sent = sent_here;
         unsent = unsent_here;
+        uses = uses_here;
       }
 
       -- and answers this one
@@ -253,6 +258,7 @@ module _ (c : List Message) (calls : List PlainCall) (are : AreCalls c calls) wh
             );
         sent = sent_here;
         unsent = unsent_here;
+        uses = uses_here;
       }
         where
           stays : (e : Due × Pending) → Contains new.requests.entries e → (there : IsInFlight calls new.at e.1) × IsDue e.0 there.call
@@ -312,6 +318,7 @@ module _ (c : List Message) (calls : List PlainCall) (are : AreCalls c calls) wh
             (found.0, subst (λ (es : List (Due × Pending)). Contains es found.0) (sym same) found.1, found.2);
         sent = sent_with;
         unsent = unsent_with;
+        uses = uses_here;
       }
 
       -- it may name it: it is in flight too
@@ -332,6 +339,7 @@ module _ (c : List Message) (calls : List PlainCall) (are : AreCalls c calls) wh
         ];
         sent = sent_with;
         unsent = unsent_with;
+        uses = uses_here;
       }
         where
           this : (stands : IsInFlight calls new.at among.pending) × IsDue among.due stands.call

@@ -6,8 +6,9 @@ use Rattle.std.proofs.lemmas.List.{length-map, get_or-map, take-append-drop}
 use Rattle.std.proofs.lemmas.List.Elements.{All-contains, All-contains_itself, All-map, All-push, All-weaker, Contains-append_left}
 use Rattle.fa_capture.specs.Message.{Message}
 use Rattle.fa_tree.specs.State.{TreeState}
+use Rattle.fa_tree.proofs.CallerLemmas.{alike_on, alike_fewer}
 use Rattle.fa_order.specs.declared.entry.Entry.{Entry}
-use Rattle.fa_search.specs.Searches.{ComesTo, AreTreesTo}
+use Rattle.fa_search.specs.Searches.{IsUsedFrom, ComesTo, AreTreesTo}
 use Rattle.fa_search.specs.declared.coming.Alternatives.{Alternatives}
 use Rattle.fa_search.specs.parts.Configurations.{PlainConfiguration}
 use Rattle.fa_search.specs.parts.Settling.{AreLeft, AreMerged, EachLeadsTo, CameTo}
@@ -22,16 +23,16 @@ tree_among xs x has = (
 )
 
 module _ (c : List Message) (first : TreeState) (common : List Entry) (at : ℕ) (left : List PlainConfiguration) (are : AreLeft c first common at left) where
-  -- what is left may be merged
-  pub left_by_merged : (new : List PlainConfiguration) → AreMerged left new → AreLeft c first common at new
-  left_by_merged new merged = record {
+  -- what is left may be merged, where each opening of use counts
+  pub left_by_merged : (Counts : ℕ → Type 0) → ((opened : ℕ) → IsUsedFrom c at opened → Counts opened) → (new : List PlainConfiguration) → AreMerged Counts left new → AreLeft c first common at new
+  left_by_merged Counts counts new merged = record {
     stop = are.stop;
-    some = merged_some left new merged are.some;
+    some = merged_some Counts left new merged are.some;
     each = λ y has. are.each y (merged.each y has);
     complete = λ es tree request comes.
         let found = are.complete es tree request comes in
         let same = merged.all found.0 found.1 in
-        (same.0, same.1, found.2 ∙ same.2.1);
+        (same.0, same.1, alike_on (IsUsedFrom c at) tree found.0.tree same.0.tree found.2 (alike_fewer Counts (IsUsedFrom c at) found.0.tree same.0.tree counts same.2.1));
   }
 
   -- its trees are all to which entries come,
@@ -43,7 +44,7 @@ module _ (c : List Message) (first : TreeState) (common : List Entry) (at : ℕ)
         has;
     complete = λ es tree request comes.
         let found = are.complete es tree request comes in
-        subst (Contains (map (λ (x : PlainConfiguration). x.tree) left)) (sym found.2) (tree_among left found.0 found.1);
+        (found.0.tree, tree_among left found.0 found.1, found.2);
   }
     where
       Such : TreeState → Type 0

@@ -1,10 +1,14 @@
 -- Which requests are in flight at a message, and which one it answers, by the calls of the messages.
-use Rattle.std.proofs.Common.{◌≡◌, ◌↔◌, ℕ, ◌≤◌, List, Option, Some, None, refl, sym, subst, ◌∙◌, inl, inr, arith}
-use Rattle.std.specs.Prelude.{slice_get}
+use Rattle.std.proofs.Common.{◌≡◌, ◌↔◌, ℕ, ◌+◌, ◌<◌, ◌≤◌, List, length, get_or, take, Option, Some, None, refl, sym, subst, ◌∙◌, inl, inr, arith}
+use Rattle.std.specs.Prelude.{All, slice_get}
 use Rattle.std.proofs.lemmas.Bool.{cases_lt}
-use Rattle.std.proofs.lemmas.Option.{same_Some}
+use Rattle.std.proofs.lemmas.List.Elements.{All-push, All-weaker}
+use Rattle.std.proofs.lemmas.Option.{same_Some, get_or_from_slice_get}
 use Rattle.fa_capture.specs.Message.{Message}
+use Rattle.fa_capture.proofs.CallerLemmas.{take_one_more}
 use Rattle.fa_session.specs.Answers.{IsAnsweredBy}
+use Rattle.fa_ledger.specs.declared.name.NodeName.{NodeName}
+use Rattle.fa_ledger.specs.declared.name.NodeName.TheVariants.{Root, Given}
 use Rattle.fa_ledger.specs.Calls.{PlainAnswer, PlainCall, AreCalls}
 use Rattle.fa_ledger.specs.Choices.{Allows, AllowsBy, MayBePlaced}
 use Rattle.fa_ledger.specs.Kinds.{OnlyReads}
@@ -16,7 +20,8 @@ use Rattle.fa_check.specs.Orders.{IsTreeRequestAt}
 use Rattle.fa_check.specs.Cuts.{IsAnsweredBefore}
 use Rattle.fa_check.specs.Replays.{IsAnswerAt}
 use Rattle.fa_check.proofs.CallerLemmas.{call_is_tree, tree_is_call, call_answered, answered_call, allowed_choice, choice_allowed}
-use Rattle.fa_search.specs.parts.Configurations.{most_written, IsCountUpTo, IsPending, IsCallPending, AnswersNone}
+use Rattle.fa_search.specs.parts.Configurations.{most_written, IsCountUpTo, IsPending, IsCallPending, AnswersNone, IsGivenUpTo}
+use Rattle.fa_search.proofs.LoopLemmas.{there_at}
 
 -- ---- which calls an order may name
 
@@ -26,7 +31,7 @@ some_choice (Acts (Write offset size payload o)) changes = (Some 0, (0, refl, om
 some_choice other changes = (None, (changes, refl))
 
 -- and one that only reads may not
-no_choice : (o : PlainOperation) (wrote : Option ℕ) → OnlyReads o → MayBePlaced o wrote → ⊥
+pub no_choice : (o : PlainOperation) (wrote : Option ℕ) → OnlyReads o → MayBePlaced o wrote → ⊥
 no_choice (Acts (Write offset size payload o)) wrote reads may = reads
 no_choice other wrote reads may = may.0 reads
 
@@ -107,3 +112,18 @@ module _ (c : List Message) (calls : List PlainCall) (are : AreCalls c calls) (a
             named = (some.0, allowed_choice c calls are e place call there refl some.1);
           }),
     )
+
+-- ---- nodes that are given
+
+up_more : (last more : ℕ) → last ≤ more → (name : NodeName) → IsGivenUpTo last name → IsGivenUpTo more name
+up_more last more later Root given = absurd given
+up_more last more later (Given by id) given = omega (arith, given, later)
+
+-- one node more is given up to a later reply
+pub given_more : (names : List NodeName) (n last more : ℕ) → n < length names → last ≤ more → IsGivenUpTo more (get_or names n Root) → All (IsGivenUpTo last) (take n names)
+    → All (IsGivenUpTo more) (take (n + 1) names)
+given_more names n last more within later now given =
+    let one = there_at names n within in
+    subst (All (IsGivenUpTo more)) (sym (take_one_more names n one.0 one.1))
+    (All-push (IsGivenUpTo more) (take n names) one.0 (All-weaker (IsGivenUpTo last) (IsGivenUpTo more) (up_more last more later) (take n names) given)
+    (subst (IsGivenUpTo more) (get_or_from_slice_get names n one.0 Root one.1) now))

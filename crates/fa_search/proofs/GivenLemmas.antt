@@ -27,6 +27,8 @@ use Rattle.fa_check.specs.Runs.{EntrySteps, Runs}
 use Rattle.fa_check.proofs.CallerLemmas.{call_one, call_of_message}
 use Rattle.fa_search.specs.parts.Going.{OrThis}
 use Rattle.fa_search.specs.parts.Configurations.{PlainConfiguration, IsReached, KeepsTrees, IsGivenUpTo, GivesUpTo, IsKnown, MakesKnown, KnowsGiven, LeavesFrom, IsAhead}
+use Rattle.fa_search.specs.Searches.{IsUsedFrom}
+use Rattle.fa_search.proofs.AlikeLemmas.{knows_alike}
 use Rattle.fa_search.proofs.IdleLemmas.{AreKnown, step_knowing_stays}
 
 -- ---- runs
@@ -154,7 +156,7 @@ module _ (c : List Message) (calls : List PlainCall) (are : AreCalls c calls) (p
 
   -- a call that leaves each tree as it is does
   pub call_leaves : KeepsTrees call → (tree : TreeState) → LeavesFrom c tree call.asked
-  call_leaves keeps tree es later new e run at step =
+  call_leaves keeps tree later new e as_much at step =
       let taken : Steps later new call e.wrote step.so_far = subst (λ (k : PlainCall). Steps later new k e.wrote step.so_far) (of_entry e later new at step) step.steps in
       elim keeps [
         | inl fails ↦ step_failed_stays later new call e.wrote step.so_far fails taken
@@ -163,7 +165,7 @@ module _ (c : List Message) (calls : List PlainCall) (are : AreCalls c calls) (p
 
   -- and so does one that only reads, opens no directory anew, and gives nodes that the tree knows
   pub knowing_leaves : (reply : ℕ) → GivesUpTo reply call → (tree : TreeState) → ((name : NodeName) → Contains (names_given call) name → IsKnown name tree) → LeavesFrom c tree call.asked
-  knowing_leaves reply up tree known es later new e run at step = by_outcome (ended call.operation) refl
+  knowing_leaves reply up tree known later new e as_much at step = by_outcome (ended call.operation) refl
     where
       taken : Steps later new call e.wrote step.so_far
       taken = subst (λ (k : PlainCall). Steps later new k e.wrote step.so_far) (of_entry e later new at step) step.steps
@@ -174,7 +176,7 @@ module _ (c : List Message) (calls : List PlainCall) (are : AreCalls c calls) (p
 
       known_later : AreKnown later.nodes (names_given call)
       known_later name has =
-          stands name (All-contains (IsGivenUpTo reply) (names_given call) name up.2 has) (run_keeps c (IsKnown name) (entry_keeps c name) es tree later run (known name has))
+          stands name (All-contains (IsGivenUpTo reply) (names_given call) name up.2 has) (as_much name (known name has))
 
       by_outcome : (o : Outcome (Unit {0})) → ended call.operation ≡ o → new ≡ later
       by_outcome (Fails error) is = step_failed_stays later new call e.wrote step.so_far (subst IsFailure (sym is) tt) taken
@@ -202,12 +204,12 @@ knows_next c at Placed tree new e step knows p name done makes = elim done [
 ]
 
 -- and what is ahead
-pub knows_ahead : (c : List Message) (at : ℕ) (Placed : ℕ → Type 0) (tree : TreeState) (x : PlainConfiguration) → KnowsGiven c at Placed tree → IsAhead c Placed tree x
+pub knows_ahead : (c : List Message) (at : ℕ) (Placed : ℕ → Type 0) (tree : TreeState) (x : PlainConfiguration) → KnowsGiven c at Placed tree → IsAhead c at Placed tree x
     → KnowsGiven c at (Contains x.placed) x.tree
-knows_ahead c at Placed tree x knows ahead p name done makes = subst (IsKnown name) (sym ahead.same) (elim done [
+knows_ahead c at Placed tree x knows ahead p name done makes = knows_alike (IsUsedFrom c at) tree x.tree ahead.same name (elim done [
   | inl answered ↦ knows p name (inl answered) makes
   | inr has ↦ elim (ahead.others p has) [
     | inl placed ↦ knows p name (inr placed) makes
-    | inr idle ↦ makes tree tree idle.entry idle.number idle.steps
+    | inr idle ↦ idle.knows name makes
   ]
 ])

@@ -8,13 +8,17 @@ use Rattle.fa_capture.specs.Message.{Message}
 use Rattle.fa_capture.proofs.CallerLemmas.{contains_cases, contains_first, contains_behind}
 use Rattle.fa_session.specs.Answers.{IsAnsweredBy}
 use Rattle.fa_tree.specs.State.{TreeState}
+use Rattle.fa_tree.specs.Alike.{AreAlike}
 use Rattle.fa_order.specs.declared.entry.Entry.{Entry}
 use Rattle.fa_check.specs.Orders.{numbers}
 use Rattle.fa_check.specs.Runs.{EntrySteps, Runs}
 use Rattle.fa_check.specs.Faults.{order_checks, EachPlaced}
 use Rattle.fa_check.proofs.CallerLemmas.{number_more, number_still, number_now}
+use Rattle.fa_search.specs.Searches.{IsUsedFrom}
 use Rattle.fa_search.specs.parts.Going.{MayCome, OrThis, GoesOn}
 use Rattle.fa_search.specs.parts.Configurations.{PlainConfiguration, IsAnsweredTree, IsDoneAt, AreDoneOrIn, LeavesFrom, IsAhead}
+use Rattle.fa_search.proofs.AlikeLemmas.{goes_on_alike}
+use Rattle.fa_search.proofs.GivenLemmas.{entry_keeps}
 
 -- ---- what is done
 
@@ -85,7 +89,8 @@ this_last Done Others this p = (
 
 -- what leaves a tree and each later one leaves those behind its steps
 leaves_on : (c : List Message) (this : ℕ) (old new : TreeState) (e : Entry) → EntrySteps old new c e → LeavesFrom c old this → LeavesFrom c new this
-leaves_on c this old new e step leaves es later other f run at steps = leaves (e ∷ es) later other f (new, step, run) at steps
+leaves_on c this old new e step leaves later other f as_much at steps =
+    leaves later other f (λ name known. as_much name (entry_keeps c name old new e step known)) at steps
 
 -- Where one leaves the tree as it is, and each later one, entries go on without it: it may be done at once.
 one_done : (c : List Message) (this : ℕ) (es : List Entry) (Done : ℕ → Type 0) (old new : TreeState) → LeavesFrom c old this → GoesOn c Done old new es
@@ -94,7 +99,7 @@ one_done c this [] Done old new leaves on = record { rest = []; on = on; kept = 
 one_done c this (e ∷ es) Done old new leaves on =
     elim (cases_eq this e.at) [
       | inl same ↦
-          let stays : on.0 ≡ old = leaves [] old on.0 e refl (sym same) on.2 in
+          let stays : on.0 ≡ old = leaves old on.0 e (λ name known. known) (sym same) on.2 in
           record {
             rest = es;
             on = subst (λ (k : ℕ). GoesOn c (OrThis Done k) old new es) (sym same) (subst (λ (t : TreeState). GoesOn c (OrThis Done e.at) t new es) stays on.3);
@@ -170,15 +175,18 @@ some_done c (this ∷ others) es Done old new each on =
       shorter = (let less = first.shorter in let still = further.shorter in omega (arith, less, still));
     }
 
--- some rest, no longer than this, goes on from the configuration, and with it no request of these entries is left out
+-- Some rest, no longer than this, goes on from the configuration, to this tree but for openings of no use, and with it no request of these
+-- entries is left out.
 pub record GoesOnAhead (c : List Message) (at : ℕ) (x : PlainConfiguration) (last : TreeState) (es : List Entry) (size : ℕ) : Type 0 where
   pub rest : List Entry
   pub within : length rest ≤ size
-  pub on : GoesOn c (IsDoneAt c at x.placed) x.tree last rest
+  pub to : TreeState
+  pub on : GoesOn c (IsDoneAt c at x.placed) x.tree to rest
+  pub alike : AreAlike (IsUsedFrom c at) last to
   pub kept : AreDoneOrIn c (IsDoneAt c at x.placed) rest es
 
 -- what goes on from a tree, where some requests are done, goes on from what is ahead of it
-pub ahead_goes_on : (c : List Message) (at : ℕ) (Placed : ℕ → Type 0) (tree last : TreeState) (x : PlainConfiguration) (rest es : List Entry) → IsAhead c Placed tree x
+pub ahead_goes_on : (c : List Message) (at : ℕ) (Placed : ℕ → Type 0) (tree last : TreeState) (x : PlainConfiguration) (rest es : List Entry) → IsAhead c at Placed tree x
     → GoesOn c (λ p. IsAnsweredTree c at p ⊎ Placed p) tree last rest → AreDoneOrIn c (λ p. IsAnsweredTree c at p ⊎ Placed p) rest es → GoesOnAhead c at x last es (length rest)
 ahead_goes_on c at Placed tree last x rest es ahead on kept =
     let Before : ℕ → Type 0 = λ p. IsAnsweredTree c at p ⊎ Placed p in
@@ -193,11 +201,14 @@ ahead_goes_on c at Placed tree last x rest es ahead on kept =
         | inr has ↦ inr has
       ];
     } in
+    let moved = goes_on_alike c at found.rest (IsDoneAt c at x.placed) (λ p answered. inl answered) tree last x.tree ahead.same
+    (goes_on_fewer c (λ p. Before p ⊎ Contains x.placed p) (IsDoneAt c at x.placed) tree last found.rest fewer found.on) in
     record {
       rest = found.rest;
       within = found.shorter;
-      on = subst (λ (t : TreeState). GoesOn c (IsDoneAt c at x.placed) t last found.rest) (sym ahead.same)
-          (goes_on_fewer c (λ p. Before p ⊎ Contains x.placed p) (IsDoneAt c at x.placed) tree last found.rest fewer found.on);
+      to = moved.0;
+      on = moved.1;
+      alike = moved.2;
       kept = λ p q by has. elim (kept p q by has) [
         | inl done ↦ inl (fewer.all p q by (inl done))
         | inr there ↦ elim (found.kept p there) [ inl other ↦ inl (inr other) | inr behind ↦ inr behind ]

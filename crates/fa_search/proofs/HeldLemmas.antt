@@ -7,15 +7,17 @@ use Rattle.fa_capture.proofs.CallerLemmas.{contains_cases, contains_first}
 use Rattle.fa_session.specs.Answers.{IsAnsweredBy}
 use Rattle.fa_ledger.specs.Passing.{AreGood}
 use Rattle.fa_tree.specs.State.{TreeState}
+use Rattle.fa_tree.proofs.CallerLemmas.{alike_self, alike_on, alike_fewer}
 use Rattle.fa_order.specs.declared.entry.Entry.{Entry}
 use Rattle.fa_check.specs.Orders.{IsTreeRequestAt, numbers}
 use Rattle.fa_check.specs.Runs.{EntrySteps, Runs, HasOrder}
 use Rattle.fa_check.specs.Faults.{order_checks}
 use Rattle.fa_check.specs.Cuts.{Explains}
 use Rattle.fa_check.proofs.CallerLemmas.{explains_all_is_legal, number_more, number_still, number_now, each_more, run_more}
-use Rattle.fa_search.specs.Searches.{IsStop}
+use Rattle.fa_search.specs.Searches.{IsStop, IsUsedFrom}
 use Rattle.fa_search.specs.parts.Going.{OrThis, GoesOn}
 use Rattle.fa_search.specs.parts.Configurations.{PlainConfiguration, IsDoneAt, MayBeTried, IsOneMore, AnswersNone, IsReached, HasRest, AreHeld, IsAheadIfKnown, AreSettling, AreSpent, AreWithout}
+use Rattle.fa_search.proofs.AlikeLemmas.{used_earlier}
 use Rattle.fa_search.proofs.StopLemmas.{none_placed, explains_earlier}
 use Rattle.fa_search.proofs.PendingLemmas.{done_still, done_answered, none_done}
 use Rattle.fa_search.proofs.GivenLemmas.{knows_reached}
@@ -117,21 +119,25 @@ held_first c first =
         from = x;
         there = contains_first x [];
         rest = es;
+        to = last;
+        alike = alike_self (IsUsedFrom c 0) last;
         on = goes_on_same c (λ p. ⊥) (IsDoneAt c 0 []) first last es (λ p. ((λ none. absurd none), none_done c p)) (order_goes_on c first last es explained.placed run);
         kept = λ p q by has. inr has;
       };
     }
 
--- where the same is done, entries go on as they did
-rest_same : (c : List Message) (at other : ℕ) (held new : List PlainConfiguration) (es : List Entry) (last : TreeState) (rest : HasRest c at held es last) (y : PlainConfiguration) → Contains new y
-    → y.tree ≡ rest.from.tree → ((p : ℕ) → IsDoneAt c at rest.from.placed p ↔ IsDoneAt c other y.placed p) → HasRest c other new es last
-rest_same c at other held new es last rest y has trees same = record {
+-- where the same is done behind one more message, entries go on as they did
+rest_same : (c : List Message) (at : ℕ) (held new : List PlainConfiguration) (es : List Entry) (last : TreeState) (rest : HasRest c at held es last) (y : PlainConfiguration) → Contains new y
+    → y.tree ≡ rest.from.tree → ((p : ℕ) → IsDoneAt c at rest.from.placed p ↔ IsDoneAt c (at + 1) y.placed p) → HasRest c (at + 1) new es last
+rest_same c at held new es last rest y has trees same = record {
   from = y;
   there = has;
   rest = rest.rest;
-  on = subst (λ (t : TreeState). GoesOn c (IsDoneAt c other y.placed) t last rest.rest) (sym trees)
-      (goes_on_same c (IsDoneAt c at rest.from.placed) (IsDoneAt c other y.placed) rest.from.tree last rest.rest same rest.on);
-  kept = kept_same c (IsDoneAt c at rest.from.placed) (IsDoneAt c other y.placed) rest.rest es same rest.kept;
+  to = rest.to;
+  on = subst (λ (t : TreeState). GoesOn c (IsDoneAt c (at + 1) y.placed) t rest.to rest.rest) (sym trees)
+      (goes_on_same c (IsDoneAt c at rest.from.placed) (IsDoneAt c (at + 1) y.placed) rest.from.tree rest.to rest.rest same rest.on);
+  alike = alike_fewer (IsUsedFrom c at) (IsUsedFrom c (at + 1)) last rest.to (used_earlier c at) rest.alike;
+  kept = kept_same c (IsDoneAt c at rest.from.placed) (IsDoneAt c (at + 1) y.placed) rest.rest es same rest.kept;
 }
 
 -- behind a message that answers no tree request the same are held
@@ -140,7 +146,7 @@ held_still c first at held none are = record {
   reached = λ x has. reached_same c first at (at + 1) x x refl (done_still c at x.placed none) (are.reached x has);
   complete = λ es last explained run.
       let found = are.complete es last (explains_earlier c first at (at + 1) es (omega arith) explained) run in
-      rest_same c at (at + 1) held held es last found found.from found.there refl (done_still c at found.from.placed none);
+      rest_same c at held held es last found found.from found.there refl (done_still c at found.from.placed none);
 }
 
 -- Each may be held further on, with requests placed that leave its tree as it is, and each later one.
@@ -152,9 +158,17 @@ held_ahead c first at held new reached ahead are = record {
       let found = are.complete es last explained run in
       let x : PlainConfiguration = found.from in
       let to = ahead x found.there in
-      let further : GoesOnAhead c at to.0 last es (length found.rest) = ahead_goes_on c at (Contains x.placed) x.tree last to.0 found.rest es
+      let further : GoesOnAhead c at to.0 found.to es (length found.rest) = ahead_goes_on c at (Contains x.placed) x.tree found.to to.0 found.rest es
       (to.2 (knows_reached c first at x (are.reached x found.there))) found.on found.kept in
-      record { from = to.0; there = to.1; rest = further.rest; on = further.on; kept = further.kept };
+      record {
+        from = to.0;
+        there = to.1;
+        rest = further.rest;
+        to = further.to;
+        on = further.on;
+        alike = alike_on (IsUsedFrom c at) last found.to further.to found.alike further.alike;
+        kept = further.kept;
+      };
 }
 
 -- Behind the answer to a tree request those are held in which it is placed, without it: entries come to each, and whatever holds that
@@ -171,7 +185,7 @@ held_answered c first at asked old work settled new tree by are settling spent w
       let found = all_settled c first at asked tree by old work settled settling spent es last has (are.complete es last (explains_earlier c first at (at + 1) es (omega arith) explained) run) in
       let x : PlainConfiguration = found.from in
       let to = without.all x found.there in
-      rest_same c at (at + 1) settled new es last found to.0 to.1 to.2.0 (done_answered c at asked x.placed to.0.placed tree by (settling.placed x found.there) to.2.1);
+      rest_same c at settled new es last found to.0 to.1 to.2.0 (done_answered c at asked x.placed to.0.placed tree by (settling.placed x found.there) to.2.1);
 }
 
 -- ---- what it says of the messages

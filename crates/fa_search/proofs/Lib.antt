@@ -11,9 +11,11 @@ pub mod SettlingLemmas
 pub mod HeldLemmas
 pub mod CodeLemmas
 pub mod TriedLemmas
+pub mod UseLemmas
 pub mod FlightLemmas
 pub mod TracedLemmas
 pub mod PlacedLemmas
+pub mod AlikeLemmas
 pub mod BetweenLemmas
 pub mod TakenLemmas
 pub mod ReplyLemmas

@@ -110,16 +110,3 @@ noted_placed c e old stepped new tree from placed entries steps more behind left
   placed = subst (λ (ps : List ℕ). IsOneMore ps e.at new.placed) placed more;
   entries = behind ∙ ap (λ (es : List Entry). es ++ e ∷ []) entries;
 }
-
--- ---- the same one
-
--- one of these was told to be the same
-pub one_is_same : (list : List PlainConfiguration) (other : PlainConfiguration) (told : Bool)
-    → MatchBool told ((k : ℕ) × (k < length list) × HoldsAt (IsSameAs other) list k) (AllWithin (λ _. Unit {0}) list 0 (length list))
-    → IsTrue told → (one : PlainConfiguration) × Contains list one × IsSameAs other one
-one_is_same list other told cases told_so = by told cases told_so
-  where
-    by : (told : Bool) → MatchBool told ((k : ℕ) × (k < length list) × HoldsAt (IsSameAs other) list k) (AllWithin (λ _. Unit {0}) list 0 (length list)) → IsTrue told
-        → (one : PlainConfiguration) × Contains list one × IsSameAs other one
-    by true found told_so = let one = get_or list found.0 other in (one, Contains-get_or list found.0 other found.1, found.2 other)
-    by false all told_so = absurd (true≢false (sym told_so))

@@ -106,7 +106,7 @@ module _ (c : List Message) (first : TreeState) (common : List Entry) (at asked 
               (settled_more c first at asked taken work settled y traced.0 (waits_more c first at asked taken so_far.work settled x is.0 so_far.settling lacks) ((in_it.placed asked).1 (inr refl)));
           spent = spent_more c at so_far.work work (settled ++ y ∷ []) x
               (spent_alone c at asked x work (settled ++ y ∷ []) only.1 only.2
-              (λ new steps. step_followed c at x y e y.tree work (settled ++ y ∷ []) in_it.steps (λ knows. one_ahead c x y asked y.tree refl in_it.placed) (inr (Contains-push settled y)) new steps))
+              (λ new steps. step_followed c at x y e y.tree work (settled ++ y ∷ []) in_it.steps (λ knows. one_ahead c at x y asked y.tree refl in_it.placed) (inr (Contains-push settled y)) new steps))
               (spent_still c at so_far.work so_far.work settled work (settled ++ y ∷ []) ((λ z there. still_there so_far.work x z there), (λ z there. still_there settled y z there)) so_far.spent);
           left_is = λ none. absurd (never_none settled y none);
           traced = each_of settled y (IsTraced c first common at) so_far.traced traced;

@@ -10,6 +10,8 @@ use Rattle.fa_session.specs.Answers.{IsAnsweredBy}
 use Rattle.fa_ledger.specs.Passing.{AreGood}
 use Rattle.fa_ledger.specs.Calls.{PlainCall, AreCalls}
 use Rattle.fa_tree.specs.State.{TreeState}
+use Rattle.fa_tree.specs.Alike.{AreAlike}
+use Rattle.fa_tree.proofs.CallerLemmas.{alike_self}
 use Rattle.fa_order.specs.declared.entry.Entry.{Entry}
 use Rattle.fa_check.specs.Orders.{IsTreeRequestAt}
 use Rattle.fa_check.specs.Runs.{Runs, IsLegalRun}
@@ -20,7 +22,7 @@ use Rattle.fa_check.specs.Verdicts.{IsLegalWith, Exactly}
 use Rattle.fa_check.specs.declared.verdict.Verdict.{Verdict}
 use Rattle.fa_check.specs.declared.verdict.Verdict.TheVariants.{Legal, Fault, NotShown}
 use Rattle.fa_check.proofs.CallerLemmas.{explains_all_is_legal, one_place, legal_has_no_fault}
-use Rattle.fa_search.specs.Searches.{IsStop, IsLeastCode, ComesTo, IsRefusedFrom, IsExplainedUpTo, AreSerialBefore, IsFound}
+use Rattle.fa_search.specs.Searches.{IsStop, IsUsedFrom, IsLeastCode, ComesTo, IsRefusedFrom, IsExplainedUpTo, AreSerialBefore, IsFound}
 use Rattle.fa_search.specs.declared.finding.Finding.{Finding}
 use Rattle.fa_search.specs.declared.finding.Finding.TheVariants.{NoOrder, GaveUp}
 use Rattle.fa_search.specs.declared.flight.Due.{Due}
@@ -35,7 +37,7 @@ use Rattle.fa_search.proofs.FlightLemmas.{pending_by_call}
 use Rattle.fa_search.proofs.GivenLemmas.{knows_reached, knows_next}
 use Rattle.fa_search.proofs.HeldLemmas.{held_first, held_still, held_ahead, held_answered, none_held_stops}
 use Rattle.fa_search.proofs.SettlingLemmas.{one_of, still_there}
-use Rattle.fa_search.proofs.CodeLemmas.{reached_comes, reached_comes_by, tree_is_there}
+use Rattle.fa_search.proofs.CodeLemmas.{reached_comes, reached_comes_by, refused_from_alike, tree_is_there}
 use Rattle.fa_search.proofs.ReplyLemmas.{answer_tried, asked_answered}
 
 -- ---- without the request that was answered
@@ -130,7 +132,7 @@ held_by_joined c first common more at x same are =
             y,
             contains_first y [],
             elim (contains_cases x [] z has) [
-              | inl here ↦ subst (λ (w : PlainConfiguration). IsAheadIfKnown c at (Contains w.placed) w.tree y) here (λ knows. record { same = refl; all = λ p q by there. there; others = λ p there. inl there })
+              | inl here ↦ subst (λ (w : PlainConfiguration). IsAheadIfKnown c at (Contains w.placed) w.tree y) here (λ knows. record { same = alike_self (IsUsedFrom c at) x.tree; all = λ p q by there. there; others = λ p there. inl there })
               | inr none ↦ absurd (omega (arith, none.1))
             ],
           ))
@@ -201,8 +203,9 @@ module _ (c : List Message) (first : TreeState) (common : List Entry) (at asked 
       none_held_stops c first at x held good within has are.are
       (held_answered c first at asked is.held is.work [] [] tree by is.are_held is.settling is.spent (without_plain [] asked [] (without_none asked)))
 
-  -- each tree to which entries come is that of one which is left,
-  left_is_all : (es : List Entry) (last : TreeState) (request : ℕ) → ComesTo c first at es last request → (request ≡ asked) × ((y : PlainConfiguration) × Contains left y × (last ≡ y.tree))
+  -- each tree to which entries come is that of one which is left, but for openings of no use,
+  left_is_all : (es : List Entry) (last : TreeState) (request : ℕ) → ComesTo c first at es last request
+      → (request ≡ asked) × ((y : PlainConfiguration) × Contains left y × AreAlike (IsUsedFrom c at) last y.tree)
   left_is_all es last request comes =
       let same : request ≡ asked = one_answered c request asked at comes.answered by in
       let found = tree_is_there c first at asked tree by is.held is.work is.are_held is.settling is.spent es last (subst (ComesTo c first at es last) same comes) in
@@ -239,7 +242,7 @@ module _ (c : List Message) (first : TreeState) (common : List Entry) (at asked 
           let all = left_is_all es last request comes in
           let found = all.1 in
           let here : IsRefusedFrom last c asked other = subst (λ (k : ℕ). IsRefusedFrom last c k other) all.0 refused in
-          least.least found.0 other found.1 (subst (λ (t : TreeState). IsRefusedFrom t c asked other) found.2 here)
+          least.least found.0 other found.1 (refused_from_alike c at asked tree by last found.0.tree other found.2 here)
 
 -- whether any explain the reply of a request too or not
 pub explained_up_to : (c : List Message) (first : TreeState) (common : List Entry) (at : ℕ) (held : List PlainConfiguration) (x : PlainConfiguration) → Contains held x → AreHeldBy c first common at held

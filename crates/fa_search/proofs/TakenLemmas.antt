@@ -14,11 +14,13 @@ use Rattle.fa_ledger.specs.declared.calls.Calls.{Calls}
 use Rattle.fa_ledger.specs.Calls.{PlainCall, AreCalls}
 use Rattle.fa_ledger.specs.Choices.{Allows}
 use Rattle.fa_tree.specs.State.{TreeState}
+use Rattle.fa_tree.proofs.CallerLemmas.{alike_back, alike_on, alike_fewer}
 use Rattle.fa_order.specs.declared.entry.Entry.{Entry}
 use Rattle.fa_order.proofs.CallerLemmas.{same_entry}
 use Rattle.fa_check.specs.Runs.{EntrySteps}
 use Rattle.fa_check.specs.Verdicts.{AreMessagesOf}
 use Rattle.fa_check.proofs.CallerLemmas.{answered_call}
+use Rattle.fa_search.specs.Searches.{IsUsedFrom}
 use Rattle.fa_search.specs.declared.flight.Due.{Due}
 use Rattle.fa_search.specs.declared.flight.InFlight.{InFlight}
 use Rattle.fa_search.specs.declared.flight.Pending.{Pending}
@@ -27,6 +29,7 @@ use Rattle.fa_search.specs.parts.Configurations.{PlainConfiguration, IsCountUpTo
 use Rattle.fa_search.specs.parts.Flight.{IsInFlight, IsFlight}
 use Rattle.fa_search.specs.parts.Placed.{IsPlacedIn, IsSameAs}
 use Rattle.fa_search.specs.parts.Settling.{IsTraced, AreSettlingBy, AreSettlingStill, IsFurther, IsIn, AreGrown, IsPushedNew, IsPut}
+use Rattle.fa_search.proofs.AlikeLemmas.{knows_alike, leaves_alike}
 use Rattle.fa_search.proofs.SettlingLemmas.{each_of, waits_more, settled_more, followed_still}
 use Rattle.fa_search.proofs.FlightLemmas.{counts_allowed, pending_by_call}
 use Rattle.fa_search.proofs.GivenLemmas.{knows_ahead}
@@ -40,19 +43,28 @@ on_ok (Err error) P is = tt
 
 -- ---- what is ahead of what is ahead
 
-pub ahead_ahead : (c : List Message) (Placed : ℕ → Type 0) (tree : TreeState) (x y : PlainConfiguration) → IsAhead c Placed tree x → IsAhead c (Contains x.placed) x.tree y → IsAhead c Placed tree y
-ahead_ahead c Placed tree x y ahead further = record {
-  same = further.same ∙ ahead.same;
+pub ahead_ahead : (c : List Message) (at : ℕ) (Placed : ℕ → Type 0) (tree : TreeState) (x y : PlainConfiguration) → IsAhead c at Placed tree x → IsAhead c at (Contains x.placed) x.tree y
+    → IsAhead c at Placed tree y
+ahead_ahead c at Placed tree x y ahead further = record {
+  same = alike_on (IsUsedFrom c at) tree x.tree y.tree ahead.same further.same;
   all = λ p q by placed. further.all p q by (ahead.all p q by placed);
-  others = λ p has. elim (further.others p has) [ inl before ↦ ahead.others p before | inr idle ↦ inr (subst (λ (t : TreeState). IsIdleIn c t p) ahead.same idle) ];
+  others = λ p has. elim (further.others p has) [ inl before ↦ ahead.others p before | inr idle ↦ inr (idle_back p idle) ];
 }
+  where
+    idle_back : (p : ℕ) → IsIdleIn c x.tree p → IsIdleIn c tree p
+    idle_back p idle =
+        let back = alike_back (IsUsedFrom c at) tree x.tree ahead.same in
+        record {
+          leaves = leaves_alike c (IsUsedFrom c at) x.tree tree p back idle.leaves;
+          knows = λ name makes. knows_alike (IsUsedFrom c at) x.tree tree back name (idle.knows name makes);
+        }
 
 -- the same, where the tree knows what was given
 pub ahead_if_known : (c : List Message) (at : ℕ) (Placed : ℕ → Type 0) (tree : TreeState) (x y : PlainConfiguration) → IsAheadIfKnown c at Placed tree x
     → IsAheadIfKnown c at (Contains x.placed) x.tree y → IsAheadIfKnown c at Placed tree y
 ahead_if_known c at Placed tree x y ahead further knows =
     let one = ahead knows in
-    ahead_ahead c Placed tree x y one (further (knows_ahead c at Placed tree x knows one))
+    ahead_ahead c at Placed tree x y one (further (knows_ahead c at Placed tree x knows one))
 
 pub further_further : (c : List Message) (at : ℕ) (x y z : PlainConfiguration) → IsFurther c at x y → IsFurther c at y z → IsFurther c at x z
 further_further c at x y z to further = record {
@@ -60,10 +72,11 @@ further_further c at x y z to further = record {
   traced = λ first common traced. further.traced first common (to.traced first common traced);
 }
 
--- what is the same is ahead
-pub same_is_ahead : (c : List Message) (x y : PlainConfiguration) → IsSameAs x y → IsAhead c (Contains x.placed) x.tree y
-same_is_ahead c x y is = record {
-  same = sym is.1;
+-- What is the same is ahead, where each opening of use counts.
+pub same_is_ahead : (c : List Message) (at : ℕ) (Counts : ℕ → Type 0) → ((opened : ℕ) → IsUsedFrom c at opened → Counts opened) → (x y : PlainConfiguration) → IsSameAs Counts x y
+    → IsAhead c at (Contains x.placed) x.tree y
+same_is_ahead c at Counts counts x y is = record {
+  same = alike_fewer Counts (IsUsedFrom c at) x.tree y.tree counts is.1;
   all = λ p q by has. subst (λ (placed : List ℕ). Contains placed p) is.0 has;
   others = λ p has. inl (subst (λ (placed : List ℕ). Contains placed p) (sym is.0) has);
 }
@@ -102,31 +115,31 @@ grown_among work settled more further grown = (
 
 -- ---- what is pushed, unless the same one is there
 
-module _ (old : List PlainConfiguration) (x : PlainConfiguration) (new : List PlainConfiguration) (pushed : IsPushedNew old x new) where
+module _ (Counts : ℕ → Type 0) (old : List PlainConfiguration) (x : PlainConfiguration) (new : List PlainConfiguration) (pushed : IsPushedNew Counts old x new) where
   pushed_behind : (behind : List PlainConfiguration) × (new ≡ old ++ behind)
   pushed_behind = elim pushed [ inl more ↦ (x ∷ [], more) | inr same ↦ ([], same.0 ∙ sym (append-nil old)) ]
 
-  pushed_ahead : (c : List Message) → (y : PlainConfiguration) × Contains new y × IsAhead c (Contains x.placed) x.tree y
-  pushed_ahead c = elim pushed [
-    | inl more ↦ (x, subst (λ (l : List PlainConfiguration). Contains l x) (sym more) (Contains-append_right old (x ∷ []) x (contains_first x [])), same_ahead c x)
-    | inr same ↦ (same.1.0, subst (λ (l : List PlainConfiguration). Contains l same.1.0) (sym same.0) same.1.1, same_is_ahead c x same.1.0 same.1.2)
+  pushed_ahead : (c : List Message) (at : ℕ) → ((opened : ℕ) → IsUsedFrom c at opened → Counts opened) → (y : PlainConfiguration) × Contains new y × IsAhead c at (Contains x.placed) x.tree y
+  pushed_ahead c at counts = elim pushed [
+    | inl more ↦ (x, subst (λ (l : List PlainConfiguration). Contains l x) (sym more) (Contains-append_right old (x ∷ []) x (contains_first x [])), same_ahead c at x)
+    | inr same ↦ (same.1.0, subst (λ (l : List PlainConfiguration). Contains l same.1.0) (sym same.0) same.1.1, same_is_ahead c at Counts counts x same.1.0 same.1.2)
   ]
 
-module _ (asked : ℕ) (x : PlainConfiguration) (work settled more further : List PlainConfiguration) (put : IsPut asked x work settled more further) where
+module _ (Counts : ℕ → Type 0) (asked : ℕ) (x : PlainConfiguration) (work settled more further : List PlainConfiguration) (put : IsPut Counts asked x work settled more further) where
   pub put_grown : AreGrown work settled more further
   put_grown = elim put [
     | inl has ↦
-        let pushed = pushed_behind settled x further has.2 in
+        let pushed = pushed_behind Counts settled x further has.2 in
         record { behind = []; beside = pushed.0; work_is = has.1 ∙ sym (append-nil work); settled_is = pushed.1 }
     | inr lacks ↦
-        let pushed = pushed_behind work x more lacks.1 in
+        let pushed = pushed_behind Counts work x more lacks.1 in
         record { behind = pushed.0; beside = []; work_is = pushed.1; settled_is = lacks.2 ∙ sym (append-nil settled) }
   ]
 
-  pub put_in : (c : List Message) (at : ℕ) → IsIn c at x more further
-  put_in c at = elim put [
-    | inl has ↦ (let to = pushed_ahead settled x further has.2 c in record { to = to.0; there = inr to.1; ahead = λ knows. to.2 })
-    | inr lacks ↦ (let to = pushed_ahead work x more lacks.1 c in record { to = to.0; there = inl to.1; ahead = λ knows. to.2 })
+  pub put_in : (c : List Message) (at : ℕ) → ((opened : ℕ) → IsUsedFrom c at opened → Counts opened) → IsIn c at x more further
+  put_in c at counts = elim put [
+    | inl has ↦ (let to = pushed_ahead Counts settled x further has.2 c at counts in record { to = to.0; there = inr to.1; ahead = λ knows. to.2 })
+    | inr lacks ↦ (let to = pushed_ahead Counts work x more lacks.1 c at counts in record { to = to.0; there = inl to.1; ahead = λ knows. to.2 })
   ]
 
   module _ (c : List Message) (first : TreeState) (common : List Entry) (at : ℕ) (held : List PlainConfiguration) (traced : IsTraced c first common at x)
@@ -222,12 +235,12 @@ module _ (c : List Message) (at : ℕ) (x : PlainConfiguration) (e : Entry) (one
   pub taken_followed : IsIn c at one work settled → (new : TreeState) → EntrySteps x.tree new c e → IsFollowed c at x e new work settled
   taken_followed is new steps =
       step_followed c at x is.to e one.tree work settled in_it.steps
-      (ahead_if_known c at (OrThis (Contains x.placed) e.at) one.tree one is.to (λ knows. one_ahead c x one e.at one.tree refl in_it.placed) is.ahead) is.there new steps
+      (ahead_if_known c at (OrThis (Contains x.placed) e.at) one.tree one is.to (λ knows. one_ahead c at x one e.at one.tree refl in_it.placed) is.ahead) is.there new steps
 
   -- and where it changes nothing and its request is never answered
   pub kept_followed : IsUnanswered c e.at → one.tree ≡ x.tree → Contains work x → (new : TreeState) → EntrySteps x.tree new c e → IsFollowed c at x e new work settled
   kept_followed none same there new steps =
-      step_followed c at x x e one.tree work settled in_it.steps (λ knows. unanswered_ahead c x e.at one.tree none (sym same)) (inl there) new steps
+      step_followed c at x x e one.tree work settled in_it.steps (λ knows. unanswered_ahead c at x e.at one.tree none (sym same)) (inl there) new steps
 
 -- ---- what is tried, one after the other
 

@@ -2,6 +2,9 @@
 -- by whatever messages they are of, it is so.
 use Rattle.std.proofs.Common.{◌≡◌, ◌⊎◌, ℕ, ◌<◌, ◌≤◌, Bool, true, false, List, [], ◌∷◌, Option, Some, None, refl, sym, subst, ap, ◌∙◌, inl, inr, arith}
 use Rattle.std.specs.Prelude.{slice_get, Contains, All, IfSome}
+use Rattle.std.specs.BTreeMap.{BTreeMap, is_at}
+use Rattle.std.specs.Map.{lookup}
+use Rattle.std.specs.Ordering.{nat_cmp}
 use Rattle.std.proofs.Math.Logic.{∥∥₁_elim}
 use Rattle.std.proofs.lemmas.Bool.{cases_lt, cases_eq}
 use Rattle.std.proofs.lemmas.List.Elements.{All-cons, All-head, All-tail, All-contains, All-contains_itself, All-weaker}
@@ -24,6 +27,7 @@ use Rattle.fa_search.specs.declared.flight.Due.{Due}
 use Rattle.fa_search.specs.declared.flight.Pending.{Pending}
 use Rattle.fa_search.specs.declared.flight.InFlight.{InFlight}
 use Rattle.fa_search.specs.parts.Configurations.{IsCallPending, KeepsTrees, IsGivenUpTo, GivesUpTo, most_written}
+use Rattle.fa_tree.specs.Alike.{IsLastFrom}
 use Rattle.fa_search.specs.parts.Flight.{IsDue, IsPendingOf, IsInFlight, IsFlight, due_by}
 
 -- ---- what is decided
@@ -161,6 +165,16 @@ place_decided (e ∷ entries) place = elim (cases_eq e.1.place place) [
   ]
 ]
 
+last_decided : (last_uses : BTreeMap ℕ ℕ) (from opened : ℕ) → IsDecided (IsLastFrom last_uses from opened)
+last_decided last_uses from opened = by (lookup (is_at (nat_cmp opened)) last_uses.entries) refl
+  where
+    by : (found : Option ℕ) → lookup (is_at (nat_cmp opened)) last_uses.entries ≡ found → IsDecided (IsLastFrom last_uses from opened)
+    by None none = inr (λ last. (let clash : None ≡ Some last.0 = sym none ∙ last.1 in cc))
+    by (Some number) is = elim (most_decided from number) [
+      | inl most ↦ inl (number, is, most)
+      | inr less ↦ inr (λ last. less (let same : number ≡ last.0 = same_Some number last.0 (sym is ∙ last.1) in let behind = last.2 in omega (arith, same, behind)))
+    ]
+
 -- ---- what is so by whatever messages
 
 module _ (calls : Calls) where
@@ -228,6 +242,8 @@ module _ (calls : Calls) where
     -- what is in flight
     pub flight_there : IsFlight calls.list flight
     flight_there = record {
+      uses = λ place call there answer listing opened has lists on.
+          told (IsLastFrom flight.last_uses answer.at opened) (last_decided flight.last_uses answer.at opened) (λ c are. (by c are).uses place call there answer listing opened has lists on);
       each = All-weaker (Contains flight.requests.entries) (λ (e : Due × Pending). (is : IsInFlight calls.list flight.at e.1) × IsDue e.0 is.call)
           (λ e has. one_by e has (slice_get calls.list e.1.place) refl) flight.requests.entries (All-contains_itself flight.requests.entries);
       all = λ place call there waits.

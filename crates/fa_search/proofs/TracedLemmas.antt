@@ -49,7 +49,7 @@ traced_placed c first common at x y e may lacks in_it (reached, traced) = (
 
 -- one that is as it was is
 pub further_same : (c : List Message) (at : ℕ) (x : PlainConfiguration) → IsFurther c at x x
-further_same c at x = record { ahead = λ knows. same_ahead c x; traced = λ first common traced. traced }
+further_same c at x = record { ahead = λ knows. same_ahead c at x; traced = λ first common traced. traced }
 
 -- so is one in which a request is placed that leaves the tree as it is, and each later one, if that knows what was given
 pub further_placed : (c : List Message) (at : ℕ) (old x y : PlainConfiguration) (e : Entry) → MayBeTried c at e → LeavesIfKnown c at x e.at → (Contains x.placed e.at → ⊥)
@@ -57,6 +57,6 @@ pub further_placed : (c : List Message) (at : ℕ) (old x y : PlainConfiguration
 further_placed c at old x y e may leaves lacks in_it further = record {
   ahead = λ knows.
       let before = further.ahead knows in
-      further_ahead c (Contains old.placed) old.tree x y e (leaves (knows_ahead c at (Contains old.placed) old.tree x knows before)) in_it.steps in_it.placed before;
+      further_ahead c at (Contains old.placed) old.tree x y e (leaves (knows_ahead c at (Contains old.placed) old.tree x knows before)) in_it.steps in_it.placed before;
   traced = λ first common traced. traced_placed c first common at x y e may lacks in_it (further.traced first common traced);
 }

@@ -8,6 +8,8 @@ use Rattle.fa_ledger.specs.Calls.{PlainCall, AreCalls}
 use Rattle.fa_ledger.specs.Choices.{Allows}
 use Rattle.fa_ledger.specs.SoFar.{listing_so_far}
 use Rattle.fa_tree.specs.State.{TreeState}
+use Rattle.fa_tree.specs.Alike.{AreAlike}
+use Rattle.fa_tree.proofs.CallerLemmas.{alike_self, alike_back}
 use Rattle.fa_tree.specs.Steps.{Steps, step_checks}
 use Rattle.fa_order.specs.declared.entry.Entry.{Entry}
 use Rattle.fa_order.proofs.CallerLemmas.{same_entry}
@@ -15,7 +17,9 @@ use Rattle.fa_check.specs.Runs.{EntrySteps}
 use Rattle.fa_check.specs.Cuts.{IsAnsweredBefore}
 use Rattle.fa_check.proofs.CallerLemmas.{entry_is_one, no_step_failure, tree_is_call, call_is_tree, call_of_message, allowed_choice, choice_allowed}
 use Rattle.fa_search.specs.parts.Going.{OrThis}
-use Rattle.fa_search.specs.parts.Configurations.{PlainConfiguration, MayBeTried, IsOneMore, LeavesFrom, IsIdleIn, IsAhead, IsAheadIfKnown, IsFollowed, IsPending, IsSpent}
+use Rattle.fa_search.specs.Searches.{IsUsedFrom}
+use Rattle.fa_search.proofs.AlikeLemmas.{alike_same, knows_alike, leaves_alike}
+use Rattle.fa_search.specs.parts.Configurations.{PlainConfiguration, MayBeTried, IsOneMore, IsKnown, LeavesFrom, IsIdleIn, IsAhead, IsAheadIfKnown, IsFollowed, IsPending, IsSpent}
 
 module _ (c : List Message) (calls : List PlainCall) (are : AreCalls c calls) (at : ℕ) where
   -- what may be tried names a call, which allows its count
@@ -75,41 +79,44 @@ spent_alone c at asked x work settled by only followed e new may lacks steps =
 -- ---- what is ahead
 
 -- one more that is placed is
-pub one_ahead : (c : List Message) (x y : PlainConfiguration) (asked : ℕ) (tree : TreeState) → y.tree ≡ tree → IsOneMore x.placed asked y.placed → IsAhead c (OrThis (Contains x.placed) asked) tree y
-one_ahead c x y asked tree same one = record {
-  same = same;
+pub one_ahead : (c : List Message) (at : ℕ) (x y : PlainConfiguration) (asked : ℕ) (tree : TreeState) → y.tree ≡ tree → IsOneMore x.placed asked y.placed
+    → IsAhead c at (OrThis (Contains x.placed) asked) tree y
+one_ahead c at x y asked tree same one = record {
+  same = alike_same (IsUsedFrom c at) tree y.tree same;
   all = λ p q by placed. (one p).1 placed;
   others = λ p has. inl ((one p).0 has);
 }
 
 -- so is what is placed itself
-pub same_ahead : (c : List Message) (x : PlainConfiguration) → IsAhead c (Contains x.placed) x.tree x
-same_ahead c x = record { same = refl; all = λ p q by has. has; others = λ p has. inl has }
+pub same_ahead : (c : List Message) (at : ℕ) (x : PlainConfiguration) → IsAhead c at (Contains x.placed) x.tree x
+same_ahead c at x = record { same = alike_self (IsUsedFrom c at) x.tree; all = λ p q by has. has; others = λ p has. inl has }
 
 -- one more that leaves the tree as it is, and each later one, may be placed in what is ahead,
-pub further_ahead : (c : List Message) (Placed : ℕ → Type 0) (tree : TreeState) (x y : PlainConfiguration) (e : Entry) → LeavesFrom c x.tree e.at → EntrySteps x.tree y.tree c e
-    → IsOneMore x.placed e.at y.placed → IsAhead c Placed tree x → IsAhead c Placed tree y
-further_ahead c Placed tree x y e leaves steps one ahead = record {
-  same = stays ∙ ahead.same;
+pub further_ahead : (c : List Message) (at : ℕ) (Placed : ℕ → Type 0) (tree : TreeState) (x y : PlainConfiguration) (e : Entry) → LeavesFrom c x.tree e.at → EntrySteps x.tree y.tree c e
+    → IsOneMore x.placed e.at y.placed → IsAhead c at Placed tree x → IsAhead c at Placed tree y
+further_ahead c at Placed tree x y e leaves steps one ahead = record {
+  same = subst (AreAlike (IsUsedFrom c at) tree) (sym stays) ahead.same;
   all = λ p q by placed. (one p).1 (inl (ahead.all p q by placed));
   others = λ p has. elim ((one p).0 has) [ inl before ↦ ahead.others p before | inr here ↦ inr (subst (IsIdleIn c tree) here idle) ];
 }
   where
     stays : y.tree ≡ x.tree
-    stays = leaves [] x.tree y.tree e refl refl steps
+    stays = leaves x.tree y.tree e (λ name known. known) refl steps
+
+    back : AreAlike (IsUsedFrom c at) x.tree tree
+    back = alike_back (IsUsedFrom c at) tree x.tree ahead.same
 
     idle : IsIdleIn c tree e.at
     idle = record {
-      entry = e;
-      number = refl;
-      steps = subst (λ (t : TreeState). EntrySteps t t c e) ahead.same (subst (λ (t : TreeState). EntrySteps x.tree t c e) stays steps);
-      leaves = subst (λ (t : TreeState). LeavesFrom c t e.at) ahead.same leaves;
+      leaves = leaves_alike c (IsUsedFrom c at) x.tree tree e.at back leaves;
+      knows = λ name makes. knows_alike (IsUsedFrom c at) x.tree tree back name (subst (IsKnown name) stays (makes x.tree y.tree e refl steps));
     }
 
 -- and one without an answer need not be, where it left the tree as it was
-pub unanswered_ahead : (c : List Message) (x : PlainConfiguration) (asked : ℕ) (tree : TreeState) → IsUnanswered c asked → x.tree ≡ tree → IsAhead c (OrThis (Contains x.placed) asked) tree x
-unanswered_ahead c x asked tree none same = record {
-  same = same;
+pub unanswered_ahead : (c : List Message) (at : ℕ) (x : PlainConfiguration) (asked : ℕ) (tree : TreeState) → IsUnanswered c asked → x.tree ≡ tree
+    → IsAhead c at (OrThis (Contains x.placed) asked) tree x
+unanswered_ahead c at x asked tree none same = record {
+  same = alike_same (IsUsedFrom c at) tree x.tree same;
   all = λ p q by placed. elim placed [ inl has ↦ has | inr here ↦ absurd (none q (subst (λ (k : ℕ). IsAnsweredBy c k q) (sym here) by)) ];
   others = λ p has. inl (inl has);
 }

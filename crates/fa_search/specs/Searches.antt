@@ -1,15 +1,19 @@
 -- What a search of all orders finds: the message past which none goes where none is legal, and why; how far it came; and an order.
-use Rattle.std.specs.Prelude.{◌≡◌, ℕ, ◌+◌, ◌<◌, ◌≤◌, List, length, take, Contains, All, Option, None}
+use Rattle.std.specs.Prelude.{◌≡◌, ℕ, ◌+◌, ◌<◌, ◌≤◌, List, length, take, Contains, All, Option, None, Some}
 use Rattle.std.specs.List.Sorted.{IsStrictlyIncreasing}
 use Rattle.fa_capture.specs.Message.{Message}
+use Rattle.fa_bodies.specs.Dirents.{PlainDirent}
 use Rattle.fa_session.specs.Answers.{IsAnsweredBy}
 use Rattle.fa_ledger.specs.Passing.{AreGood}
+use Rattle.fa_ledger.specs.declared.call.Listing.{Listing}
+use Rattle.fa_ledger.specs.Calls.{PlainCall}
 use Rattle.fa_tree.specs.State.{TreeState}
+use Rattle.fa_tree.specs.Alike.{AreAlike}
 use Rattle.fa_order.specs.declared.entry.Entry.{Entry}
 use Rattle.fa_check.specs.Orders.{IsTreeRequestAt, IsChoice, numbers}
-use Rattle.fa_check.specs.Runs.{HasOrder}
+use Rattle.fa_check.specs.Runs.{IsCallAt, HasOrder}
 use Rattle.fa_check.specs.Faults.{StepFails}
-use Rattle.fa_check.specs.Cuts.{Explains}
+use Rattle.fa_check.specs.Cuts.{IsAnsweredBefore, Explains}
 use Rattle.fa_check.specs.Verdicts.{IsLegalWith}
 use Rattle.fa_search.specs.declared.coming.Alternatives.{Alternatives}
 use Rattle.fa_search.specs.declared.finding.Finding.{Finding}
@@ -35,6 +39,25 @@ pub record IsFirstWithout (c : List Message) (first : TreeState) (at : ℕ) : Ty
   pub within : at < length c
   pub before : HasOrder (take at c) first
   pub none : HasNoOrder (take (at + 1) c) first
+
+-- ---- what may come behind a message
+
+-- the tree request at p may be named by an order: it does not only read, or it is answered
+abbrev pub MayBeNamed : List Message → (p : ℕ) → Type 0
+MayBeNamed c p = IsTreeRequestAt c p × ((wrote : Option ℕ) × IsChoice c (record { at = p; wrote = wrote }))
+
+-- An opening of a directory is of use from this message on: a tree request lists on the handle that the request at `opened` opened, was
+-- not answered before the message, and may be named by an order.
+pub record IsUsedFrom (c : List Message) (at opened : ℕ) : Type 0 where
+  pub asked : ℕ
+  pub call : PlainCall
+  pub so_far : List PlainDirent
+  pub of_request : IsCallAt c asked call so_far
+  pub listing : Listing
+  pub lists : call.listing ≡ Some listing
+  pub on : call.handle ≡ Some opened
+  pub waits : IsAnsweredBefore c at asked → ⊥
+  pub named : MayBeNamed c asked
 
 -- ---- the refusal
 
@@ -74,12 +97,14 @@ pub record IsLeastCode (c : List Message) (first : TreeState) (at code : ℕ) : 
 abbrev pub EachComesTo : List Message → (first : TreeState) → (at : ℕ) → Alternatives → Type 0
 EachComesTo c first at found = All (λ order. (tree : TreeState) × (asked : ℕ) × ComesTo c first at order.items tree asked) found.orders.items
 
--- These are all trees to which entries come at this message, some of them more than once.
+-- To these trees entries come at this message, and to no others, but for openings of directories that are of no use from there on. Some
+-- may stand there more than once.
 pub record AreTreesTo (c : List Message) (first : TreeState) (at : ℕ) (trees : List TreeState) : Type 0 where
   pub each : (tree : TreeState) → Contains trees tree → (es : List Entry) × (asked : ℕ) × ComesTo c first at es tree asked
-  pub complete : (es : List Entry) (tree : TreeState) (asked : ℕ) → ComesTo c first at es tree asked → Contains trees tree
+  pub complete : (es : List Entry) (tree : TreeState) (asked : ℕ) → ComesTo c first at es tree asked
+      → (other : TreeState) × Contains trees other × AreAlike (IsUsedFrom c at) tree other
 
--- entries come to so many trees at this message, or to fewer where some of these are the same
+-- entries come to so many trees at this message, or to fewer where some of these are alike
 abbrev pub ComeToSoMany : List Message → (first : TreeState) → (at count : ℕ) → Type 0
 ComeToSoMany c first at count = (trees : List TreeState) × AreTreesTo c first at trees × (length trees ≡ count)
 
@@ -92,10 +117,6 @@ pub record IsExplainedUpTo (c : List Message) (first : TreeState) (at : ℕ) : T
   pub answered : IsAnsweredBy c asked at
   pub entries : List Entry
   pub explains : Explains c first at entries
-
--- the tree request at p may be named by an order: it does not only read, or it is answered
-abbrev pub MayBeNamed : List Message → (p : ℕ) → Type 0
-MayBeNamed c p = IsTreeRequestAt c p × ((wrote : Option ℕ) × IsChoice c (record { at = p; wrote = wrote }))
 
 -- Of each two tree requests that were sent before this message, and that an order may name, the earlier one is answered before the later
 -- one is sent.

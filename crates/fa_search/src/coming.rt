@@ -5,7 +5,7 @@ ghost use Rattle.fa_capture.specs.Message.{Message};
 ghost use Rattle.fa_tree.specs.State.{TreeState};
 ghost use Rattle.fa_check.specs.Verdicts.{AreMessagesOf};
 ghost use Rattle.fa_search.specs.Searches.{IsStop, EachComesTo, ComeToSoMany};
-ghost use Rattle.fa_search.specs.parts.Flight.{IsFlight};
+ghost use Rattle.fa_search.specs.parts.Flight.{IsFlight, CoversFrom};
 ghost use Rattle.fa_search.specs.parts.Settling.{IsSearching, AreLeft, EachLeadsTo, CameTo};
 
 use crate::budget::{Budget, Halt};
@@ -14,7 +14,7 @@ use crate::listener::Listener;
 use crate::searching::{Ended, Progress, merged_if_due};
 use fa_ledger::Calls;
 use fa_order::Entry;
-use fa_tree::Tree;
+use fa_tree::{InUse, Tree};
 use std::alloc::{AllocError, Global};
 use std::mem;
 
@@ -24,7 +24,8 @@ use std::mem;
 pub struct Alternatives {
     /// An order for each of the first trees.
     pub orders: Vec<Vec<Entry>>,
-    /// How many trees there are, those with others of the requests in flight placed counted apart.
+    /// How many trees there are, those with others of the requests in flight placed counted apart. An opening of a directory makes no
+    /// difference where no request lists on it whose answer is still to come.
     pub trees: usize,
 }
 
@@ -86,7 +87,7 @@ impl<'c> Progress<'c> {
         match self.pass_until(alloc, at + 1, listener)? {
             Some(Ended::Stop { at: stop, .. }) => {
                 if stop == at {
-                    return self.orders_left(alloc, most);
+                    return self.orders_left(alloc, at, most);
                 }
                 Ok(None)
             }
@@ -94,19 +95,24 @@ impl<'c> Progress<'c> {
         }
     }
 
-    /// The orders that lead to what is held, of the first so many; `None` where the budget is spent.
+    /// The orders that lead to what is held at this message, of the first so many; `None` where the budget is spent.
     fn orders_left(
         &mut self,
         alloc: Global,
+        at: u32,
         most: usize,
     ) -> Result<Option<Alternatives>, AllocError>
-        ensures comes { IfOk result (λ found. IfSome found (λ found. (c : List Message) (first : TreeState) (at : ℕ) →
-            AreLeft c first self.old.common.items at self.old.held.items → CameTo c first at found)) }
+        ensures comes { IfOk result (λ found. IfSome found (λ found. (c : List Message) (first : TreeState) →
+            AreLeft c first self.old.common.items at self.old.held.items → CoversFrom c at self.old.flight.last_uses → CameTo c first at found)) }
         ensures most { IfOk result (λ found. IfSome found (λ found. length found.orders.items ≡ min most found.trees)) }
     {
         let held = mem::replace(&mut self.held, Vec::new(alloc));
+        let in_use = InUse {
+            last: &self.flight.last_uses,
+            from: at,
+        };
         // Where each took its step by itself, some may be the same.
-        match merged_if_due(alloc, &mut self.tries.spending, held, true) {
+        match merged_if_due(alloc, &mut self.tries.spending, held, true, &in_use) {
             Ok(left) => Ok(Some(alternatives_of(alloc, &self.common, left, most)?)),
             Err(Halt::Spent) => Ok(None),
             Err(Halt::Memory) => Err(AllocError),

@@ -2,13 +2,14 @@
 
 ghost use Rattle.std.specs.Prelude.{◌≡◌, ◌↔◌, ◌∷◌, ◌++◌, [], List, Contains, IsTrue, IfOk, IfErr, OnOk};
 ghost use Rattle.fa_capture.specs.Message.{Message};
+ghost use Rattle.fa_tree.specs.Alike.{IsInUse};
 ghost use Rattle.fa_check.specs.Verdicts.{AreMessagesOf};
 ghost use Rattle.fa_search.specs.parts.Configurations.{PlainConfiguration, IsOneMore, IsWithout};
 ghost use Rattle.fa_search.specs.parts.Placed.{MayBePlacedAt, IsPlacedIn, IsRefusedIn, IsSameAs};
 ghost use Rattle.fa_search.specs.parts.Settling.{IsPushedNew};
 
 use fa_order::Entry;
-use fa_tree::{Replay, StepError, Tree};
+use fa_tree::{InUse, Replay, StepError, Tree};
 use std::alloc::{AllocError, Global};
 use std::collections::{BTreeMap, BTreeSet};
 use std::hash::{BuildHasher, Hasher};
@@ -145,14 +146,14 @@ impl Configuration {
         Ok(order)
     }
 
-    /// Reckons the number by which the same ones are found, and about how many bytes it holds.
+    /// Reckons the number by which the same ones are found, where these openings are of use, and about how many bytes it holds.
     ///
     /// Takes no memory, and time of [`Tree::digest`] and [`Tree::weight`].
-    pub fn reckon(&mut self)
+    pub fn reckon(&mut self, in_use: &InUse<'_>)
         ensures { self.new ≡ self.old }
     {
         let mut digest = self.tree.seed().build_hasher();
-        digest.write_u64(self.tree.digest());
+        digest.write_u64(self.tree.digest(in_use));
         for asked in self.placed.iter() {
             digest.write_u32(*asked);
         }
@@ -161,12 +162,14 @@ impl Configuration {
         self.weight = self.tree.weight().saturating_add(entries);
     }
 
-    /// Whether the same requests are placed in both, and both have the same tree. True where this is so, if the trees of both have one seed
-    /// and the numbers of both were reckoned.
-    pub fn is_same(&self, other: &Configuration) -> bool
-        ensures { IsTrue result → IsSameAs self.now other.now }
+    /// Whether the same requests are placed in both, and both have the same tree, but for openings that are of no use. True where this is
+    /// so, if the trees of both have one seed and the numbers of both were reckoned with these openings.
+    pub fn is_same(&self, other: &Configuration, in_use: &InUse<'_>) -> bool
+        ensures { IsTrue result → IsSameAs (IsInUse in_use.now) self.now other.now }
     {
-        self.digest == other.digest && self.placed == other.placed && self.has_same_tree(other)
+        self.digest == other.digest
+            && self.placed == other.placed
+            && self.tree.is_alike(&other.tree, in_use)
     }
 
     /// Whether both have the same tree.
@@ -204,18 +207,19 @@ impl Known {
         }
     }
 
-    /// Pushes a configuration, unless the same one is found to be known: how many bytes were added. Its number was reckoned, and so were
-    /// theirs.
+    /// Pushes a configuration, unless the same one is found to be known, where these openings are of use: how many bytes were added. Its
+    /// number was reckoned, and so were theirs.
     ///
     /// Time in the logarithm of the list, and that of a comparison with each of the first 16 that have its number.
     pub fn push_new(
         &mut self,
         list: &mut Vec<Configuration>,
         one: Configuration,
+        in_use: &InUse<'_>,
     ) -> Result<u64, AllocError>
-        ensures { OnOk result (IsPushedNew list.old.items one list.new.items) }
+        ensures { OnOk result (IsPushedNew (IsInUse in_use.now) list.old.items one list.new.items) }
     {
-        if self.has(list, &one) {
+        if self.has(list, &one, in_use) {
             return Ok(0);
         }
         let weight = one.weight();
@@ -235,13 +239,13 @@ impl Known {
     }
 
     /// Whether one of the first that are known by its number is the same.
-    fn has(&self, list: &[Configuration], other: &Configuration) -> bool
-        ensures { IsTrue result → (one : PlainConfiguration) × Contains list.now one × IsSameAs other.now one }
+    fn has(&self, list: &[Configuration], other: &Configuration, in_use: &InUse<'_>) -> bool
+        ensures { IsTrue result → (one : PlainConfiguration) × Contains list.now one × IsSameAs (IsInUse in_use.now) other.now one }
     {
         match self.places.get(&other.digest) {
             Some(places) => {
                 let first = places.get(..MOST_COMPARED).unwrap_or(places);
-                is_among(list, first, other)
+                is_among(list, first, other, in_use)
             }
             None => false,
         }
@@ -249,11 +253,16 @@ impl Known {
 }
 
 /// Whether one at these places is the same.
-fn is_among(list: &[Configuration], places: &[usize], other: &Configuration) -> bool
-    ensures { IsTrue result → (one : PlainConfiguration) × Contains list.now one × IsSameAs other.now one }
+fn is_among(
+    list: &[Configuration],
+    places: &[usize],
+    other: &Configuration,
+    in_use: &InUse<'_>,
+) -> bool
+    ensures { IsTrue result → (one : PlainConfiguration) × Contains list.now one × IsSameAs (IsInUse in_use.now) other.now one }
 {
     for place in places {
-        if is_there(list, *place, other) {
+        if is_there(list, *place, other, in_use) {
             return true;
         }
     }
@@ -261,13 +270,13 @@ fn is_among(list: &[Configuration], places: &[usize], other: &Configuration) -> 
 }
 
 /// Whether the one at this place is the same.
-fn is_there(list: &[Configuration], place: usize, other: &Configuration) -> bool
-    ensures { IsTrue result → (one : PlainConfiguration) × Contains list.now one × IsSameAs other.now one }
+fn is_there(list: &[Configuration], place: usize, other: &Configuration, in_use: &InUse<'_>) -> bool
+    ensures { IsTrue result → (one : PlainConfiguration) × Contains list.now one × IsSameAs (IsInUse in_use.now) other.now one }
 {
     if list.len() <= place {
         return false;
     }
-    other.is_same(&list[place])
+    other.is_same(&list[place], in_use)
 }
 
 /// Pushes a configuration.

@@ -1,6 +1,6 @@
 //! Which requests are in flight.
 
-ghost use Rattle.std.specs.Prelude.{◌≡◌, ◌↔◌, ◌∷◌, ◌+◌, ◌<◌, ◌^◌, [], ℕ, false, List, Some, IsTrue, IfSome, IsNone, OnOk};
+ghost use Rattle.std.specs.Prelude.{◌≡◌, ◌↔◌, ◌∷◌, ◌+◌, ◌<◌, ◌^◌, [], ℕ, false, List, Some, All, IsTrue, IfSome, IsNone, IfOk, OnOk};
 ghost use Rattle.fa_capture.specs.Message.{Message};
 ghost use Rattle.fa_ledger.specs.Calls.{call_shown};
 ghost use Rattle.fa_ledger.specs.declared.calls.Calls.{Calls as TheCalls};
@@ -8,10 +8,12 @@ ghost use Rattle.fa_ledger.specs.Kinds.{OnlyReads};
 ghost use Rattle.fa_tree.specs.Steps.{names_given, opens_anew};
 ghost use Rattle.fa_check.specs.Replays.{IsAnswerAt};
 ghost use Rattle.fa_check.specs.Verdicts.{AreMessagesOf};
-ghost use Rattle.fa_search.specs.parts.Configurations.{most_written, KeepsTrees, GivesUpTo};
-ghost use Rattle.fa_search.specs.parts.Flight.{IsInFlight, IsFlight, IsDue, IsPendingOf, IsSent, IsAlone};
+ghost use Rattle.fa_search.specs.parts.Configurations.{most_written, KeepsTrees, IsGivenUpTo, GivesUpTo};
+ghost use Rattle.fa_tree.specs.Alike.{IsInUse, IsLastFrom};
+ghost use Rattle.fa_search.specs.parts.Flight.{IsInFlight, IsFlight, IsDue, IsPendingOf, IsSent, IsAlone, IsUseNoted, AreLastUses, AreLater};
 
 use fa_ledger::{Action, Call, Calls, GivenNodes, NodeName, Operation, Outcome};
+use fa_tree::InUse;
 use std::alloc::{AllocError, Global};
 use std::collections::BTreeMap;
 
@@ -56,8 +58,8 @@ pub(crate) struct Pending {
     /// Whether it leaves each tree as it is, by what came of it: an error, or a success that only reads, gives no node and opens no
     /// directory.
     pub keeps_trees: bool,
-    /// Of a success that only reads, opens no directory and gives one node: the reply that was the first to give it. It leaves each tree that
-    /// knows that node.
+    /// Of a success that only reads and opens no directory: the last of the replies that were the first to give the nodes that it gives. It
+    /// leaves each tree that knows them.
     pub gives_up_to: Option<u32>,
     /// The node that it gives, if it gives one alone.
     pub gives: Option<NodeName>,
@@ -98,18 +100,33 @@ pub(crate) struct InFlight {
     seen: usize,
     /// How many messages came.
     pub at: u32,
+    /// Of each opening on which an answered request lists, at whatever time, the message of the last of these answers.
+    pub last_uses: BTreeMap<u32, u32>,
 }
 
 impl InFlight {
     /// None, before the first message.
-    pub fn new(alloc: Global) -> Self
-        ensures first { result.at ≡ 0 }
-        ensures flight { (c : List Message) (calls : TheCalls) → AreMessagesOf calls c → IsFlight calls.list result }
+    ///
+    /// Time in the calls, with a logarithm of the openings for each that lists, and memory for each opening on which one does.
+    pub fn new(alloc: Global, calls: &Calls<'_>) -> Result<Self, AllocError>
+        ensures first { IfOk result (λ flight. flight.at ≡ 0) }
+        ensures flight { IfOk result (λ flight. IsFlight calls.now.list flight) }
     {
-        InFlight {
+        Ok(InFlight {
             requests: BTreeMap::new(alloc),
             seen: 0,
             at: 0,
+            last_uses: last_uses(alloc, calls)?,
+        })
+    }
+
+    /// Which openings of directories are of use from the next message on.
+    pub fn in_use(&self) -> InUse<'_>
+        ensures { (opened : ℕ) → IsInUse result opened ↔ IsLastFrom self.now.last_uses self.now.at opened }
+    {
+        InUse {
+            last: &self.last_uses,
+            from: self.at,
         }
     }
 
@@ -153,6 +170,7 @@ impl InFlight {
         ensures at { OnOk result (self.new.at ≡ self.old.at) }
         ensures seen { OnOk result (self.new.seen ≡ self.old.seen + 1) }
         ensures sent { OnOk result (IsSent self.old.seen (call_shown call.now) self.old.requests.entries self.new.requests.entries) }
+        ensures uses { OnOk result (self.new.last_uses ≡ self.old.last_uses) }
     {
         let place = self.seen;
         self.seen += 1;
@@ -194,6 +212,38 @@ impl InFlight {
     }
 }
 
+/// Of each opening on which an answered call lists, the message of the last of these answers.
+fn last_uses(alloc: Global, calls: &Calls<'_>) -> Result<BTreeMap<u32, u32>, AllocError>
+    ensures { IfOk result (AreLastUses calls.now.list) }
+{
+    let mut last_uses = BTreeMap::new(alloc);
+    for place in 0..calls.list.len() {
+        note_use(&mut last_uses, &calls.list.call(place))?;
+    }
+    Ok(last_uses)
+}
+
+/// Takes note of the opening on which a call lists, if it lists on one and is answered.
+fn note_use(last_uses: &mut BTreeMap<u32, u32>, call: &Call<'_>) -> Result<(), AllocError>
+    ensures noted { OnOk result (IsUseNoted (call_shown call.now) last_uses.new) }
+    ensures kept { OnOk result (AreLater last_uses.old last_uses.new) }
+{
+    match (&call.answer, &call.listing, call.handle) {
+        (Some(answer), Some(_), Some(opened)) => note_last(last_uses, opened, answer.at),
+        _ => Ok(()),
+    }
+}
+
+/// Takes note of a message that answers a request which lists on an opening.
+fn note_last(last_uses: &mut BTreeMap<u32, u32>, opened: u32, at: u32) -> Result<(), AllocError>
+    ensures noted { OnOk result (IsLastFrom last_uses.new at opened) }
+    ensures kept { OnOk result (AreLater last_uses.old last_uses.new) }
+{
+    let before = last_uses.get(&opened).copied().unwrap_or(0);
+    last_uses.insert(opened, at.max(before))?;
+    Ok(())
+}
+
 /// How many bytes at most an order may say that the call wrote: all of a WRITE without an answer.
 fn most_written(call: &Call<'_>) -> Option<u32>
     ensures { result ≡ most_written (call_shown call.now).answer (call_shown call.now).operation }
@@ -221,17 +271,32 @@ fn keeps_trees(call: &Call<'_>) -> bool
     }
 }
 
-/// The reply that was the first to give the only node that the call gives, if it gives one alone, only reads and opens no directory.
+/// The last of the replies that were the first to give the nodes that the call gives, if it only reads and opens no directory; the first
+/// message where it gives none. None where it gives the root.
 fn gives_up_to(call: &Call<'_>) -> Option<u32>
     ensures { IfSome result (λ reply. GivesUpTo reply (call_shown call.now)) }
 {
     if !reads_alone(call) {
         return None;
     }
-    match only_given(call) {
-        Some(NodeName::Given { by, .. }) => Some(by),
-        _ => None,
+    match &call.answer {
+        Some(answer) => last_giving(answer.given.names()),
+        None => None,
     }
+}
+
+/// The last of the replies that were the first to give these nodes; the first message where there are none. None where one is the root.
+fn last_giving(names: &[NodeName]) -> Option<u32>
+    ensures { IfSome result (λ reply. All (IsGivenUpTo reply) names.now) }
+{
+    let mut last = 0;
+    for name in names {
+        match name {
+            NodeName::Given { by, .. } => last = last.max(*by),
+            NodeName::Root => return None,
+        }
+    }
+    Some(last)
 }
 
 /// Whether the call only reads, and opens no directory.

@@ -2,6 +2,7 @@
 
 ghost use Rattle.std.specs.Prelude.{◌≡◌, ◌+◌, ◌<◌, ◌≤◌, ◌++◌, ℕ, List, length, Contains, Ok, IfOk, IfSome, IsSomeAnd, IsNone, IsErrOf, OnOk};
 ghost use Rattle.fa_capture.specs.Message.{Message};
+ghost use Rattle.fa_tree.specs.Alike.{IsInUse};
 ghost use Rattle.fa_tree.specs.State.{TreeState};
 ghost use Rattle.fa_order.specs.declared.entry.Entry.{Entry as TheEntry};
 ghost use Rattle.fa_check.specs.Runs.{IsLegalRun};
@@ -14,7 +15,7 @@ ghost use Rattle.fa_search.specs.declared.finding.Finding.TheVariants.{NoOrder, 
 ghost use Rattle.fa_search.specs.declared.searching.Ended.TheVariants.{Stop};
 ghost use Rattle.fa_search.specs.declared.searching.Ended.TheVariants as Ended;
 ghost use Rattle.fa_search.specs.parts.Configurations.{PlainConfiguration};
-ghost use Rattle.fa_search.specs.parts.Flight.{IsInFlight, IsFlight};
+ghost use Rattle.fa_search.specs.parts.Flight.{IsInFlight, IsFlight, CoversFrom};
 ghost use Rattle.fa_search.specs.parts.Settling.{AreHeldBy, AreMerged, AreWithoutBy, IsSearching, AreLeft, IfOrder, EndsEarly};
 
 use crate::budget::{Budget, Halt, Spending};
@@ -27,7 +28,7 @@ use fa_check::{Verdict, check};
 use fa_ledger::Calls;
 use fa_order::Entry;
 use fa_propose::propose;
-use fa_tree::{Replay, Tree};
+use fa_tree::{InUse, Replay, Tree};
 use std::alloc::{AllocError, Global};
 use std::mem;
 
@@ -36,13 +37,13 @@ const STEPS_BETWEEN: u64 = 100_000;
 
 /// Searches for an order of the tree requests of a capture that is legal from the tree that the server began with.
 ///
-/// First comes the order that is proposed ([`propose`](fa_propose::propose)): it is the answer where it is legal. Else all orders
-/// are searched, message by message. What is held are configurations: a tree, and which of the requests in flight are placed in the
-/// entries that lead to it. Where a reply comes, its request has to be placed: from each configuration that lacks it the requests in flight
-/// are tried in every order, an unanswered WRITE with each count, until it is. Configurations with the same tree and the same
-/// requests placed fall together, where one request alone is in flight behind some of the replies. Where none is left, no order explains
-/// that reply and those before it. The listener is told how far the search has come behind a message, where 100,000 steps or more were
-/// spent since it was told last.
+/// First comes the order that is proposed ([`propose`](fa_propose::propose)): it is the answer where it is legal. Else all orders are
+/// searched, message by message. What is held are configurations: a tree, and which of the requests in flight are placed in the entries
+/// that lead to it. Where a reply comes, its request has to be placed: from each configuration that lacks it the requests in flight are
+/// tried in every order, an unanswered WRITE with each count, until it is. Configurations with the same tree and the same requests placed
+/// fall together, where one request alone is in flight behind some of the replies; an opening of a directory makes no difference to them
+/// where no request lists on it whose answer is still to come. Where none is left, no order explains that reply and those before it. The listener is told how far
+/// the search has come behind a message, where 100,000 steps or more were spent since it was told last.
 ///
 /// # Errors
 ///
@@ -50,13 +51,14 @@ const STEPS_BETWEEN: u64 = 100_000;
 ///
 /// # Cost
 ///
-/// That of a proposal and of a check, and of two copies of the tree. Where the proposal is not legal, that of a search, of two copies of the
-/// tree more, and of a check of the order that is found. A search takes a step for each tree that is held where one request alone is in
+/// That of a proposal and of a check, and of two copies of the tree. Where the proposal is not legal, that of a search, of two copies of
+/// the tree more, and of a check of the order that is found. A search takes a step for each tree that is held where one request alone is in
 /// flight. Elsewhere it holds a tree for each set of the requests in flight that may have come first, and more where their order or the
-/// count of an unanswered WRITE tells. Errors are no such choice, nor is a request that only reads, opens no directory, and gives no node
-/// or one alone that is known: they are placed at once. For each tree it looks through the requests in flight, and through them once more
-/// for each that gives a node alone which no reply gave before, copies the tree where one of them steps, and looks through the tree once
-/// more. The budget ends it. The listener is told of it between two messages alone.
+/// count of an unanswered WRITE tells, or what a directory had when it was opened, as long as a listing of it is to come. Errors are no such choice,
+/// nor is a request that only reads, opens no directory, and gives no node but such as are known: they are placed at once. For each tree it
+/// looks through the requests in flight, and through them once more for each that gives a node alone which no reply gave before, copies the
+/// tree where one of them steps, and looks through the tree once more. The budget ends it. The listener is told of it between two messages
+/// alone.
 pub fn search<L: Listener>(
     alloc: Global,
     calls: &Calls<'_>,
@@ -206,7 +208,7 @@ fn search_all<L: Listener>(
 #[derive(Drop)]
 pub(crate) struct Progress<'c> {
     pub tries: Tries<'c>,
-    flight: InFlight,
+    pub flight: InFlight,
     /// The entries that all configurations have in common, before their own.
     pub common: Vec<Entry>,
     /// What is held: never none. Where no order goes on, those in which the request is not placed.
@@ -255,12 +257,13 @@ impl<'c> Progress<'c> {
         let seed = tree.seed();
         let mut held = Vec::new(alloc);
         held.push(Configuration::first(alloc, tree))?;
+        let flight = InFlight::new(alloc, calls)?;
         Ok(Progress {
             tries: Tries {
                 replay: Replay::new(alloc, seed, calls),
                 spending: Spending::new(budget),
             },
-            flight: InFlight::new(alloc),
+            flight,
             common: Vec::new(alloc),
             held,
             lull: Lull::default(),
@@ -348,7 +351,7 @@ impl<'c> Progress<'c> {
         ensures stop { IfOk result (λ code. IfSome code (λ code. (c : List Message) (first : TreeState) → AreMessagesOf self.old.tries.replay c → IsSearching c first self.old →
             IsStop c first self.old.flight.at × IsLeastCode c first self.old.flight.at code)) }
         ensures left { IfOk result (λ code. IfSome code (λ code. (c : List Message) (first : TreeState) → AreMessagesOf self.old.tries.replay c → IsSearching c first self.old →
-            AreLeft c first self.new.common.items self.old.flight.at self.new.held.items)) }
+            AreLeft c first self.new.common.items self.old.flight.at self.new.held.items × CoversFrom c self.old.flight.at self.new.flight.last_uses)) }
         ensures spent { IsErrOf result Spent → (c : List Message) (first : TreeState) → AreMessagesOf self.old.tries.replay c → IsSearching c first self.old →
             IsExplainedUpTo c first self.old.flight.at × (AreSerialBefore c self.old.flight.at → ⊥) }
         ensures same { IfOk result (λ code. IsNone code → self.new.tries.replay ≡ self.old.tries.replay) }
@@ -377,7 +380,7 @@ impl<'c> Progress<'c> {
         ensures stop { IfOk result (λ code. IfSome code (λ code. (c : List Message) (first : TreeState) → AreMessagesOf self.old.tries.replay c → IsSearching c first self.old →
             IsStop c first self.old.flight.at × IsLeastCode c first self.old.flight.at code)) }
         ensures left { IfOk result (λ code. IfSome code (λ code. (c : List Message) (first : TreeState) → AreMessagesOf self.old.tries.replay c → IsSearching c first self.old →
-            AreLeft c first self.new.common.items self.old.flight.at self.new.held.items)) }
+            AreLeft c first self.new.common.items self.old.flight.at self.new.held.items × CoversFrom c self.old.flight.at self.new.flight.last_uses)) }
         ensures spent { IsErrOf result Spent → (c : List Message) (first : TreeState) → AreMessagesOf self.old.tries.replay c → IsSearching c first self.old →
             IsExplainedUpTo c first self.old.flight.at × (AreSerialBefore c self.old.flight.at → ⊥) }
         ensures same { IfOk result (λ code. IsNone code → self.new.tries.replay ≡ self.old.tries.replay) }
@@ -392,7 +395,8 @@ impl<'c> Progress<'c> {
         }
         self.flight.answer(self.tries.replay.calls(), &asked);
         let left = without(alloc, settling.settled, asked.asked)?;
-        self.held = merged_if_due(alloc, &mut self.tries.spending, left, due)?;
+        let in_use = self.flight.in_use();
+        self.held = merged_if_due(alloc, &mut self.tries.spending, left, due, &in_use)?;
         join(&mut self.common, &mut self.held)?;
         Ok(None)
     }
@@ -425,40 +429,42 @@ fn without(
     Ok(held)
 }
 
-/// The configurations, each once, if that is to be looked at and there are several.
+/// The configurations, each once, if that is to be looked at and there are several, where these openings are of use.
 #[tactic(auto, using(crate::proofs::MergedLemmas::merged_same))]
 pub(crate) fn merged_if_due(
     alloc: Global,
     spending: &mut Spending,
     held: Vec<Configuration>,
     due: bool,
+    in_use: &InUse<'_>,
 ) -> Result<Vec<Configuration>, Halt>
-    ensures merged { IfOk result (λ different. AreMerged held.items different.items) }
+    ensures merged { IfOk result (λ different. AreMerged (IsInUse in_use.now) held.items different.items) }
     ensures fewer { IfOk result (λ different. length different.items ≤ length held.items) }
     ensures spent { IsErrOf result Spent → 1 < length held.items }
 {
     if !due || held.len() < 2 {
         return Ok(held);
     }
-    merged(alloc, spending, held)
+    merged(alloc, spending, held, in_use)
 }
 
-/// The configurations, each once.
+/// The configurations, each once, where these openings are of use.
 fn merged(
     alloc: Global,
     spending: &mut Spending,
     held: Vec<Configuration>,
+    in_use: &InUse<'_>,
 ) -> Result<Vec<Configuration>, Halt>
-    ensures merged { IfOk result (λ different. AreMerged held.items different.items) }
+    ensures merged { IfOk result (λ different. AreMerged (IsInUse in_use.now) held.items different.items) }
     ensures fewer { IfOk result (λ different. length different.items ≤ length held.items) }
 {
     let mut different = Vec::new(alloc);
     let mut known = Known::new(alloc);
     let mut bytes: u64 = 0;
     for mut one in held {
-        one.reckon();
+        one.reckon(in_use);
         spending.spend(one.copy_steps())?;
-        let added = known.push_new(&mut different, one)?;
+        let added = known.push_new(&mut different, one, in_use)?;
         bytes = bytes.saturating_add(added);
     }
     spending.hold(different.len(), 0, bytes)?;

@@ -3,6 +3,7 @@
 ghost use Rattle.std.specs.Prelude.{◌≡◌, ◌+◌, ◌<◌, ◌≤◌, ◌++◌, ◌∷◌, [], ℕ, List, length, slice_get, Some, None, Contains, IsTrue, IfOk, IfErr, IsErrOf, OnOk};
 ghost use Rattle.std.specs.Map.{values_of};
 ghost use Rattle.fa_capture.specs.Message.{Message};
+ghost use Rattle.fa_tree.specs.Alike.{IsInUse};
 ghost use Rattle.fa_tree.specs.State.{TreeState};
 ghost use Rattle.fa_order.specs.declared.entry.Entry.{Entry as TheEntry};
 ghost use Rattle.fa_check.specs.Runs.{EntrySteps};
@@ -21,7 +22,7 @@ use crate::configuration::{Configuration, Known, push};
 use crate::flight::{InFlight, Pending};
 use fa_ledger::NodeName;
 use fa_order::Entry;
-use fa_tree::{Replay, StepError};
+use fa_tree::{InUse, Replay, StepError};
 use std::alloc::{AllocError, Global};
 use std::mem;
 
@@ -207,16 +208,18 @@ impl Settling {
     {
         let mut one = one;
         place_keeping(tries, &mut one, flight, asked)?;
-        one.reckon();
-        self.put(one, asked)?;
+        let in_use = flight.in_use();
+        one.reckon(&in_use);
+        self.put(one, asked, &in_use)?;
         tries
             .spending
             .hold(self.work.len(), self.settled.len(), self.bytes)
     }
 
-    /// Puts a configuration among those in which the request is placed, or among the others, unless the same one is there.
-    fn put(&mut self, one: Configuration, asked: u32) -> Result<(), AllocError>
-        ensures { OnOk result (IsPut asked one self.old.work.items self.old.settled.items self.new.work.items self.new.settled.items) }
+    /// Puts a configuration among those in which the request is placed, or among the others, unless the same one is there, where these
+    /// openings are of use.
+    fn put(&mut self, one: Configuration, asked: u32, in_use: &InUse<'_>) -> Result<(), AllocError>
+        ensures { OnOk result (IsPut (IsInUse in_use.now) asked one self.old.work.items self.old.settled.items self.new.work.items self.new.settled.items) }
     {
         if one.has(asked) {
             return push_new(
@@ -224,9 +227,16 @@ impl Settling {
                 &mut self.settled,
                 one,
                 &mut self.bytes,
+                in_use,
             );
         }
-        push_new(&mut self.known_work, &mut self.work, one, &mut self.bytes)
+        push_new(
+            &mut self.known_work,
+            &mut self.work,
+            one,
+            &mut self.bytes,
+            in_use,
+        )
     }
 
     /// Tries from one of the configurations in which the request is not placed whatever is in flight.
@@ -374,16 +384,17 @@ impl Settling {
     }
 }
 
-/// Pushes a configuration, unless the same one is known, and counts the bytes that were added.
+/// Pushes a configuration, unless the same one is known, where these openings are of use, and counts the bytes that were added.
 fn push_new(
     known: &mut Known,
     list: &mut Vec<Configuration>,
     one: Configuration,
     bytes: &mut u64,
+    in_use: &InUse<'_>,
 ) -> Result<(), AllocError>
-    ensures { OnOk result (IsPushedNew list.old.items one list.new.items) }
+    ensures { OnOk result (IsPushedNew (IsInUse in_use.now) list.old.items one list.new.items) }
 {
-    let added = known.push_new(list, one)?;
+    let added = known.push_new(list, one, in_use)?;
     *bytes = bytes.saturating_add(added);
     Ok(())
 }

@@ -90,6 +90,30 @@ static SERIAL_SIZE: &[Sent] = &[
     Attr(6),
 ];
 
+/// A directory is opened while a name is made in it, the messages 2 and 3, and listed; at last the name is denied (ENOENT). In the second the listing
+/// is answered behind that.
+static LISTED: &[Sent] = &[
+    Opendir(2, ROOT),
+    Mknod(4, ROOT),
+    Opened(2, 1, 0),
+    Sent::Entry(4, 2),
+    Readdir(6, ROOT, 1, 0),
+    Dirents(6, &[("a", 1)]),
+    Lookup(8, ROOT),
+    Error(8, -2),
+];
+
+static LISTED_LATER: &[Sent] = &[
+    Opendir(2, ROOT),
+    Mknod(4, ROOT),
+    Opened(2, 1, 0),
+    Sent::Entry(4, 2),
+    Readdir(6, ROOT, 1, 0),
+    Lookup(8, ROOT),
+    Error(8, -2),
+    Dirents(6, &[("a", 1)]),
+];
+
 const fn entry(at: u32) -> Entry {
     Entry { at, wrote: None }
 }
@@ -166,6 +190,23 @@ fn are_orders(found: &Option<Alternatives>, orders: &[&[Entry]]) -> bool {
         }
         None => false,
     }
+}
+
+/// How many trees are told, 0 where none are.
+fn count_trees(found: &Option<Alternatives>) -> usize {
+    match found {
+        Some(found) => found.trees,
+        None => 0,
+    }
+}
+
+#[test]
+fn trees_that_differ_in_an_opening(rt: HostRuntime) {
+    let budget = Budget::default();
+    let found = orders_found(&rt, rt.alloc(), LISTED, 9, budget);
+    assert!(rt; count_trees(&found) == 1);
+    let found = orders_found(&rt, rt.alloc(), LISTED_LATER, 8, budget);
+    assert!(rt; count_trees(&found) == 2);
 }
 
 #[test]

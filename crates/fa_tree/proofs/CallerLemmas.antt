@@ -2,6 +2,8 @@
 
 -- a step of a whole, and of a part of it
 pub use Rattle.fa_tree.proofs.PartLemmas.{IsPartOf, OpensNone, UsesKept, whole_part, step_same, step_failed, step_read, step_lost}
+-- trees that are alike step alike
+pub use Rattle.fa_tree.proofs.AlikeLemmas.{alike_self, alike_back, alike_on, alike_fewer, fails_alike, step_alike}
 -- steps that leave the tree as it is
 pub use Rattle.fa_tree.proofs.UnchangedLemmas.{step_failed_stays, step_read_stays}
 -- a call as it is shown

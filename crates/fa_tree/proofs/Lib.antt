@@ -1,3 +1,4 @@
+pub mod AlikeLemmas
 pub mod BindingLemmas
 pub mod CauseLemmas
 pub mod ChangeLemmas

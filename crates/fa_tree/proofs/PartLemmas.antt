@@ -113,7 +113,7 @@ module _ (Kept : ℕ → Type 0) (whole part : TreeState) (p : IsPartOf Kept who
             ap (option_and_then (resolved_with whole call node)) (other_within part whole p.nodes call.other other has) ∙ sym (with_part node other) ∙ some
 
     -- what the part resolves, the whole resolves so
-    resolved_within : resolved part call ≡ Some x → resolved whole call ≡ Some x
+    pub resolved_within : resolved part call ≡ Some x → resolved whole call ≡ Some x
     resolved_within is = by (file_of part call.node) refl is
       where
         by : (found : Option FileId) → file_of part call.node ≡ found → option_and_then (resolved_on part call) found ≡ Some x
@@ -189,7 +189,7 @@ module _ (Kept : ℕ → Type 0) (whole part : TreeState) (p : IsPartOf Kept who
       get-each_open (open_after edited) part.handles q ∙ ap (option_map (open_after edited)) (p.handles q kept) ∙ sym (get-each_open (open_after edited) whole.handles q)
 
   -- the same operation keeps a part a part
-  done_part : IsPartOf Kept (tree_done whole x call o count) (tree_done part x call o count)
+  pub done_part : IsPartOf Kept (tree_done whole x call o count) (tree_done part x call o count)
   done_part = record {
     store = ap (λ (s : Store). changed s x call.truncates o count) p.store;
     nodes = subst (λ (s : Store). NodesWithin (nodes_after (given_in (setting s x call o count []) call o) part.nodes) (nodes_after given whole.nodes)) (sym p.store)

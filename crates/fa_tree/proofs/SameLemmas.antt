@@ -169,18 +169,35 @@ known_in slots directory at k known = record {
     by name None was is = absurd (let clash : false ≡ true = is in cc)
     by name (Some slot) was is = known name slot was is
 
--- where the directories that the noted requests opened are the same in others, all are
-pub handles_within : (slots : List (Place × Slot)) (openings : List Opening) (places : List (ℕ × ℕ)) → AreLast places openings
-    → (others : FinMap nat_cmp OpenDirectory) → All (λ asked. map.get (handles_shown slots 0 map.empty openings) asked ≡ map.get others asked) (keys_of places)
-    → IsMapWithin (handles_shown slots 0 map.empty openings) others
-handles_within slots openings places last others all asked h there = by (last_opening asked 0 openings) refl (sym (get-shown_openings slots openings asked) ∙ there)
+-- where such directories of those that the noted requests opened are the same in others, all such are
+pub such_handles_within : (Such : ℕ → Type 0) (slots : List (Place × Slot)) (openings : List Opening) (places : List (ℕ × ℕ)) → AreLast places openings
+    → (others : FinMap nat_cmp OpenDirectory) → All (λ asked. Such asked → map.get (handles_shown slots 0 map.empty openings) asked ≡ map.get others asked) (keys_of places)
+    → (asked : ℕ) (h : OpenDirectory) → Such asked → map.get (handles_shown slots 0 map.empty openings) asked ≡ Some h → map.get others asked ≡ Some h
+such_handles_within Such slots openings places last others all asked h such there = by (last_opening asked 0 openings) refl (sym (get-shown_openings slots openings asked) ∙ there)
   where
     by : (found : Option (ℕ × FileId)) → last_opening asked 0 openings ≡ found → option_map (λ p. open_shown slots p.1 p.0) found ≡ Some h → map.get others asked ≡ Some h
     by None was is = absurd (let clash : None ≡ Some h = is in cc)
     by (Some p) was is =
-        let at = key_among (λ asked. map.get (handles_shown slots 0 map.empty openings) asked ≡ map.get others asked) (nat_eq asked) places all p.0 (last asked ∙ ap (option_map (λ p. p.0)) was) in
+        let at = key_among (λ asked. Such asked → map.get (handles_shown slots 0 map.empty openings) asked ≡ map.get others asked) (nat_eq asked) places all p.0 (last asked ∙ ap (option_map (λ p. p.0)) was) in
         let same : asked ≡ at.0 = (let test : nat_eq asked at.0 ≡ true = at.1 in grind (arith, nat_tests)) in
-        ap (map.get others) same ∙ sym at.2 ∙ ap (map.get (handles_shown slots 0 map.empty openings)) (sym same) ∙ there
+        ap (map.get others) same ∙ sym (at.2 (subst Such same such)) ∙ ap (map.get (handles_shown slots 0 map.empty openings)) (sym same) ∙ there
+
+-- so where all are
+pub handles_within : (slots : List (Place × Slot)) (openings : List Opening) (places : List (ℕ × ℕ)) → AreLast places openings
+    → (others : FinMap nat_cmp OpenDirectory) → All (λ asked. map.get (handles_shown slots 0 map.empty openings) asked ≡ map.get others asked) (keys_of places)
+    → IsMapWithin (handles_shown slots 0 map.empty openings) others
+handles_within slots openings places last others all asked h there =
+    such_handles_within (λ opened. Unit {0}) slots openings places last others (λ k d less such. all k d less) asked h tt there
+
+-- such as are the same in two maps, each of one in the other, are the same
+pub such_both : (Such : ℕ → Type 0) (m n : FinMap nat_cmp OpenDirectory) → ((asked : ℕ) (h : OpenDirectory) → Such asked → map.get m asked ≡ Some h → map.get n asked ≡ Some h)
+    → ((asked : ℕ) (h : OpenDirectory) → Such asked → map.get n asked ≡ Some h → map.get m asked ≡ Some h) → (asked : ℕ) → Such asked → map.get n asked ≡ map.get m asked
+such_both Such m n there back asked such = by (map.get m asked) (map.get n asked) refl refl
+  where
+    by : (x y : Option OpenDirectory) → map.get m asked ≡ x → map.get n asked ≡ y → map.get n asked ≡ map.get m asked
+    by (Some h) y is also = there asked h such is ∙ sym is
+    by None (Some h) is also = also ∙ sym (back asked h such also)
+    by None None is also = also ∙ sym is
 
 -- ---- pages
 

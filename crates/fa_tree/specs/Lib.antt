@@ -38,6 +38,8 @@ pub mod Bindings
 pub mod Steps
 -- what a refusal says
 pub mod Refusals
+-- trees that are the same but for openings
+pub mod Alike
 -- trees that are put together
 pub mod Building
 -- what a tree tells of itself

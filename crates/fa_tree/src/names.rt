@@ -7,6 +7,7 @@ ghost use Rattle.std.specs.Option.{option_map};
 ghost use Rattle.std.specs.declared.cmp.Ordering.TheVariants.{Greater};
 ghost use Rattle.fa_tree.specs.State as state;
 ghost use Rattle.fa_tree.specs.State.{file_eq, place_cmp};
+ghost use Rattle.fa_tree.specs.Alike.{IsInUse};
 ghost use Rattle.fa_tree.specs.Edits.Edit.{Added, Removed};
 ghost use Rattle.fa_tree.specs.Renaming.{moved, exchanged};
 ghost use Rattle.fa_tree.specs.parts.NameParts.{NamesShown, no_names, edited, opened_by};
@@ -15,6 +16,7 @@ ghost use Rattle.fa_tree.specs.parts.OpenParts.{open_of};
 use crate::digest::digest_of;
 use crate::holders::Holders;
 use crate::id::FileId;
+use crate::in_use::InUse;
 use crate::open::{OpenNames, Opening, Openings};
 use crate::slots::Slots;
 use fa_capture::Seed;
@@ -108,12 +110,33 @@ impl Names {
                 .is_same(&self.slots, &other.openings, &other.slots)
     }
 
-    /// A number under the seed for the names and the requests that opened directories, the same for the same ones, in whichever order they
-    /// came.
+    /// Whether both have the same names, for the same files, and of each opening that is of use the same is known, in whichever order
+    /// all this came.
     ///
-    /// Takes no memory, and time in the places that ever had a name, the bytes of their names, and the openings.
-    pub fn digest(&self, seed: Seed) -> u64 {
-        digest_of(seed, &(self.slots.digest(seed), self.openings.digest(seed)))
+    /// Takes no memory. Expected time in the places that ever had a name and the bytes of their names, in the openings, and for each
+    /// request that opened a directory, and is of use, in the places that this ever had.
+    pub fn is_alike(&self, other: &Names, in_use: &InUse<'_>) -> bool
+        ensures names { IsTrue result → other.now.names ≡ self.now.names }
+        ensures handles { IsTrue result → (opened : ℕ) → IsInUse in_use.now opened → get other.now.handles opened ≡ get self.now.handles opened }
+    {
+        self.slots.is_same(&other.slots)
+            && self
+                .openings
+                .is_alike(&self.slots, &other.openings, &other.slots, in_use)
+    }
+
+    /// A number under the seed for the names and the openings that are of use, with what is known of these: the same for the same ones, in
+    /// whichever order they came.
+    ///
+    /// Takes no memory, and time as [`is_alike`](Names::is_alike) does.
+    pub fn digest(&self, seed: Seed, in_use: &InUse<'_>) -> u64 {
+        digest_of(
+            seed,
+            &(
+                self.slots.digest(seed),
+                self.openings.digest(seed, &self.slots, in_use),
+            ),
+        )
     }
 
     /// About so many bytes of memory are taken. Time in the places.

@@ -2,6 +2,8 @@
 
 ghost use Rattle.std.specs.Prelude.{◌≡◌, ◌∷◌, ◌++◌, [], ℕ, List, None, Some, true, false, length, slice_get, IsTrue, IsFalse, IsSome, IfSome, IfNone, IfOk, OnOk, OnErr};
 ghost use Rattle.fa_tree.specs.declared.id.FileId.{FileId};
+ghost use Rattle.fa_tree.specs.State.{OpenDirectory};
+ghost use Rattle.fa_tree.specs.Alike.{IsInUse};
 ghost use Rattle.fa_tree.specs.declared.slots.Place.{Place};
 ghost use Rattle.fa_tree.specs.declared.slots.Slot.{Slot};
 ghost use Rattle.std.specs.Fn.{FnReturnsAt};
@@ -15,6 +17,7 @@ ghost use Rattle.fa_tree.specs.parts.SameParts.{IsMapWithin, IsOpenWithin, IsSlo
 
 use crate::digest::digest_of;
 use crate::id::FileId;
+use crate::in_use::InUse;
 use crate::slots::{Slot, Slots};
 use fa_capture::Seed;
 use indexmap::IndexMap;
@@ -117,10 +120,59 @@ impl Openings {
         }
     }
 
-    /// A number under the seed for the requests that opened directories, the same for the same ones, in whichever order. Takes no memory, and
-    /// time in the requests.
-    pub fn digest(&self, seed: Seed) -> u64 {
-        self.places.keys().fold(0_u64, |sum, asked| sum.wrapping_add(digest_of(seed, asked)))
+    /// Whether of each opening that is of use the same is known in both, each with its slots of names.
+    ///
+    /// Takes no memory, and expected time in the requests, with a logarithm of the openings for each, the places that the directory of each
+    /// one in use ever had, and the bytes of their names.
+    pub fn is_alike(
+        &self,
+        slots: &Slots,
+        other: &Openings,
+        other_slots: &Slots,
+        in_use: &InUse<'_>,
+    ) -> bool
+        ensures { IsTrue result → (opened : ℕ) → IsInUse in_use.now opened → get (handles_shown other_slots.now.table.entries 0 map.empty other.now) opened ≡ get (handles_shown slots.now.table.entries 0 map.empty self.now) opened }
+    {
+        self.is_alike_within(slots, other, other_slots, in_use)
+            && other.is_alike_within(other_slots, self, slots, in_use)
+    }
+
+    /// Whether each directory that is open by a request, and of use, is open by it in others too, and the same was in it and stayed. Takes
+    /// no memory, and time as [`is_alike`](Openings::is_alike) does.
+    fn is_alike_within(
+        &self,
+        slots: &Slots,
+        other: &Openings,
+        other_slots: &Slots,
+        in_use: &InUse<'_>,
+    ) -> bool
+        ensures { IsTrue result → (opened : ℕ) (h : OpenDirectory) → IsInUse in_use.now opened → get (handles_shown slots.now.table.entries 0 map.empty self.now) opened ≡ Some h → get (handles_shown other_slots.now.table.entries 0 map.empty other.now) opened ≡ Some h }
+    {
+        self.places.keys().all(|opened| {
+            !in_use.has(*opened) || self.is_same_at(*opened, slots, other, other_slots)
+        })
+    }
+
+    /// A number under the seed for the openings that are of use, with their slots of names: the same for such of which the same is known,
+    /// in whichever order.
+    ///
+    /// Takes no memory, and time in the requests, with a logarithm of the openings for each, in the places that the directory of each one in
+    /// use ever had, and in the bytes of their names.
+    pub fn digest(&self, seed: Seed, slots: &Slots, in_use: &InUse<'_>) -> u64 {
+        self.places.keys().fold(0_u64, |sum, opened| {
+            sum.wrapping_add(self.digest_at(seed, *opened, slots, in_use))
+        })
+    }
+
+    /// A number under the seed for the opening by this request, 0 where it is of no use.
+    fn digest_at(&self, seed: Seed, opened: u32, slots: &Slots, in_use: &InUse<'_>) -> u64 {
+        if !in_use.has(opened) {
+            return 0;
+        }
+        match self.last(opened, slots) {
+            Some(names) => names.digest(seed, opened),
+            None => 0,
+        }
     }
 
     /// About so many bytes of memory are taken. Constant time.
@@ -202,6 +254,31 @@ impl OpenNames<'_> {
         indexes
             .iter()
             .all(|index| self.is_slot_within(*index, other))
+    }
+
+    /// A number under the seed for the directory that this request opened, the names that were in it since, and the files that stayed.
+    /// Takes no memory, and time in the places that the directory ever had and the bytes of their names.
+    fn digest(&self, seed: Seed, opened: u32) -> u64 {
+        let indexes = self.slots.members.of(self.directory);
+        indexes.iter().fold(
+            digest_of(seed, &(opened, self.directory)),
+            |sum, index| sum.wrapping_add(self.digest_of_slot(seed, opened, *index)),
+        )
+    }
+
+    /// A number under the seed for the name of a place of the table, if it was in the directory since that was opened, and for its file, if
+    /// it stayed; 0 if it was not.
+    fn digest_of_slot(&self, seed: Seed, opened: u32, index: usize) -> u64 {
+        match self.slots.table.get_index(index) {
+            Some((place, slot)) => {
+                if place.directory == self.directory && self.was_there(*slot) {
+                    digest_of(seed, &(opened, place, self.file_stayed(*slot)))
+                } else {
+                    0
+                }
+            }
+            None => 0,
+        }
     }
 
     /// Whether the name of a place of the table was in the other directory, and the same file stayed under it, if it was in this

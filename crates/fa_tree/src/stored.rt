@@ -1,10 +1,12 @@
 //! What a tree stores: files, the names of directories, the parents of these, and the directories that are open.
 
-ghost use Rattle.std.specs.Prelude.{◌≡◌, None, IsTrue, IfOk, OnOk, OnErr};
+ghost use Rattle.std.specs.Prelude.{◌≡◌, ℕ, None, IsTrue, IfOk, OnOk, OnErr};
 ghost use Rattle.std.specs.FinMap as map;
+ghost use Rattle.std.specs.FinMap.{get};
 ghost use Rattle.std.specs.Option.{option_map};
 ghost use Rattle.fa_tree.specs.State as state;
 ghost use Rattle.fa_tree.specs.State.{IsFile, IsDirectory};
+ghost use Rattle.fa_tree.specs.Alike.{IsInUse};
 ghost use Rattle.fa_tree.specs.Making.{MayBeMade};
 ghost use Rattle.fa_tree.specs.Building.{empty_tree, next_added, tree_added, tree_linked};
 ghost use Rattle.fa_tree.specs.parts.FileParts.{file_shown};
@@ -15,6 +17,7 @@ use crate::digest::digest_of;
 use crate::file::File;
 use crate::files::Files;
 use crate::id::FileId;
+use crate::in_use::InUse;
 use crate::names::Names;
 use crate::open::OpenNames;
 use crate::parents::Parents;
@@ -85,10 +88,22 @@ impl Stored {
         self.names.is_same(&other.names) && self.files.is_same(&other.files)
     }
 
-    /// A number under its seed for what it shows, the same for the same. Takes no memory, and time in all of it.
-    pub fn digest(&self) -> u64 {
+    /// Whether both show the same, but for openings that are of no use. Takes no memory. Expected time in all of both.
+    pub fn is_alike(&self, other: &Stored, in_use: &InUse<'_>) -> bool
+        ensures store { IsTrue result → other.now.store ≡ self.now.store }
+        ensures handles { IsTrue result → (opened : ℕ) → IsInUse in_use.now opened → get other.now.handles opened ≡ get self.now.handles opened }
+    {
+        self.names.is_alike(&other.names, in_use) && self.files.is_same(&other.files)
+    }
+
+    /// A number under its seed for what it shows, without openings that are of no use: the same for the same. Takes no memory, and time in
+    /// all of it.
+    pub fn digest(&self, in_use: &InUse<'_>) -> u64 {
         let seed = self.seed;
-        digest_of(seed, &(self.names.digest(seed), self.files.digest(seed)))
+        digest_of(
+            seed,
+            &(self.names.digest(seed, in_use), self.files.digest(seed)),
+        )
     }
 
     /// About so many bytes of memory are taken. Time in the names, the files and the pages that are there.

@@ -4,6 +4,7 @@ ghost use Rattle.std.specs.Prelude.{◌≡◌, ◌↔◌, ◌≤◌, None, IsTru
 ghost use Rattle.std.specs.FinMap as map;
 ghost use Rattle.fa_capture.specs.declared.codes.TheConstants.{SUCCESS_NOT_ALLOWED};
 ghost use Rattle.fa_tree.specs.State as state;
+ghost use Rattle.fa_tree.specs.Alike.{AreAlike, IsInUse};
 ghost use Rattle.fa_tree.specs.Attributes.{all_bits};
 ghost use Rattle.fa_tree.specs.Building.{empty_tree, file_of_kind, MayHold, MayBeAdded, next_added, tree_added, MayBeLinkedTo, tree_linked};
 ghost use Rattle.fa_tree.specs.Refusals.{IsRefusal};
@@ -13,6 +14,7 @@ use crate::digest::digest_of;
 use crate::error::StepError;
 use crate::file::File;
 use crate::id::FileId;
+use crate::in_use::InUse;
 use crate::nodes::Nodes;
 use crate::stored::Stored;
 use fa_bodies::{Kind, MAX_FILE_BYTES, is_name, is_target};
@@ -91,15 +93,28 @@ impl Tree {
         self.nodes.is_same(&other.nodes) && self.stored.is_same(&other.stored)
     }
 
-    /// A number for the tree, equal for trees that are the same ([`is_same`](Tree::is_same)) and have the same seed, in whichever order
+    /// Whether both are the same tree ([`is_same`](Tree::is_same)), but for openings of directories that are of no use: no request that
+    /// lists on none of these can tell the trees apart, nor those that it leaves.
+    ///
+    /// Proved: true of no two trees that are not. Tested alone: true of trees that are.
+    ///
+    /// Takes no memory. Expected time in the size of both, as [`copy`](Tree::copy) has it, with a logarithm of the openings for each
+    /// request that opened a directory, and for each opening that is of use in the names that the directory ever had.
+    pub fn is_alike(&self, other: &Tree, in_use: &InUse<'_>) -> bool
+        ensures { IsTrue result → AreAlike (IsInUse in_use.now) self.now other.now }
+    {
+        self.nodes.is_same(&other.nodes) && self.stored.is_alike(&other.stored, in_use)
+    }
+
+    /// A number for the tree, equal for trees that are alike ([`is_alike`](Tree::is_alike)) and have the same seed, in whichever order
     /// they came to be.
     /// Others may have it too: it only sorts trees, so that few are compared. It looks at names, at files with their permission bits
-    /// and bytes, at nodes, and at which requests opened a directory, and not at what was in that.
+    /// and bytes, at nodes, and at each opening that is of use, with the names that were in its directory since, and the files that stayed.
     ///
-    /// Takes no memory, and time in the size of the tree, as [`copy`](Tree::copy) has it.
-    pub fn digest(&self) -> u64 {
+    /// Takes no memory, and time as [`is_alike`](Tree::is_alike) does.
+    pub fn digest(&self, in_use: &InUse<'_>) -> u64 {
         let seed = self.seed();
-        digest_of(seed, &(self.stored.digest(), self.nodes.digest(seed)))
+        digest_of(seed, &(self.stored.digest(in_use), self.nodes.digest(seed)))
     }
 
     /// About how many bytes of memory the tree holds, and a copy of it takes: what its tables and pages store, without what they have

@@ -1,4 +1,4 @@
-//! Trees that the same requests made in two orders, and copies.
+//! Trees that the same requests made in two orders, with openings of directories that are of use or not, and copies.
 
 use crate::steps::step;
 use crate::trees::Added::{self, File};
@@ -9,8 +9,9 @@ use fa_tests::messages::begun;
 use fa_tests::paired::calls_in;
 use fa_tests::sent::Sent::{self, *};
 use fa_tests::sent::with_all;
-use fa_tree::{Kind, Tree};
-use std::alloc::Global;
+use fa_tree::{InUse, Kind, Tree};
+use std::alloc::{AllocError, Global};
+use std::collections::BTreeMap;
 use std::process::Abort;
 
 /// A directory.
@@ -32,13 +33,19 @@ const MESSAGES: &[Sent] = &[
 /// An order of the requests.
 const FIRST: &[u32] = &[2, 4, 6, 8];
 
-/// Others, and whether each leaves the same tree. The root may be opened before the directory is made, in which it is not; where the
-/// directory above it is opened before, what was made did not stay in it since.
-static OTHERS: [(&[u32], bool); 3] = [
-    (&[2, 4, 6, 8], true),
-    (&[2, 6, 4, 8], true),
-    (&[2, 6, 8, 4], false),
+/// Others, and whether each leaves the same tree, and one that is alike where the opening of the directory is of no use. The root may be
+/// opened before the directory is made, in which it is not; where the directory above it is opened before, what was made did not stay in it
+/// since. A root that is never opened is another, since that opening is of use.
+static OTHERS: [(&[u32], bool, bool); 5] = [
+    (&[2, 4, 6, 8], true, true),
+    (&[2, 6, 4, 8], true, true),
+    (&[2, 6, 8, 4], false, true),
+    (&[2, 4, 6], false, true),
+    (&[2, 4, 8], false, false),
 ];
+
+/// The openings, each with the message of the last answer to what lists on it.
+const LAST_USES: [(u32, u32); 2] = [(6, 20), (8, 10)];
 
 /// The tree after these requests.
 fn tree_after(rt: &impl Abort, alloc: Global, calls: &Calls<'_>, order: &[u32]) -> Tree {
@@ -49,20 +56,40 @@ fn tree_after(rt: &impl Abort, alloc: Global, calls: &Calls<'_>, order: &[u32]) 
     tree
 }
 
-/// Whether two orders leave the same tree, and whether the digests are the same.
+/// The table of the openings.
+fn last_uses(alloc: Global) -> Result<BTreeMap<u32, u32>, AllocError> {
+    let mut last = BTreeMap::new(alloc);
+    for (opened, at) in LAST_USES.iter() {
+        last.insert(*opened, *at)?;
+    }
+    Ok(last)
+}
+
+/// Whether trees are alike where these openings are of use, and whether their digests are the same then.
+fn are_alike(tree: &Tree, others: &Tree, in_use: &InUse<'_>) -> (bool, bool) {
+    (
+        tree.is_alike(others, in_use) && others.is_alike(tree, in_use),
+        tree.digest(in_use) == others.digest(in_use),
+    )
+}
+
+/// Whether two orders leave the same tree, and trees that are alike, with whether the digests are the same: where both openings are of use,
+/// from the message 10 on, where that of the root alone is, and where none is.
 fn are_same(
     rt: &impl Abort,
     alloc: Global,
     calls: &Calls<'_>,
     one: &[u32],
     other: &[u32],
-) -> (bool, bool) {
+) -> (bool, [(bool, bool); 3]) {
+    let last = last_uses(alloc).expect(rt, "memory");
     let tree = tree_after(rt, alloc, calls, one);
     let others = tree_after(rt, alloc, calls, other);
-    let same = (tree.is_same(&others), tree.digest() == others.digest());
+    let alike = [10, 11, 21].map(|from| are_alike(&tree, &others, &InUse { last: &last, from }));
+    let same = tree.is_same(&others);
     drop(tree);
     drop(others);
-    same
+    (same, alike)
 }
 
 /// Whether a copy is the same tree and weighs as much, and whether it is the same after a step of the copy alone.
@@ -83,10 +110,17 @@ fn orders_that_leave_the_same_tree(rt: HostRuntime) {
         .capture()
         .expect(&rt, "memory");
     let calls = calls_in(rt.alloc(), &bytes).expect(&rt, "calls");
-    for (number, (other, same)) in OTHERS.iter().enumerate() {
+    for (number, (other, same, alike)) in OTHERS.iter().enumerate() {
         let told = are_same(&rt, rt.alloc(), &calls, FIRST, other);
         assert!(rt; told.0 == *same, "row {number}");
-        assert!(rt; told.1 || !told.0, "row {number}");
+        let [both, root, none] = told.1;
+        assert!(rt; both.0 == *same, "row {number}");
+        assert!(rt; root.0 == *alike, "row {number}");
+        assert!(rt; none.0, "row {number}");
+        assert!(rt;
+            (both.1 || !both.0) && (root.1 || !root.0) && none.1,
+            "row {number}"
+        );
     }
     let copied = is_copied(&rt, rt.alloc(), &calls);
     drop(calls);

@@ -12,12 +12,14 @@ use Rattle.fa_ledger.specs.Operations.PlainAction.{Write}
 use Rattle.fa_ledger.specs.Operations.PlainOperation.{Acts}
 use Rattle.fa_tree.specs.declared.id.FileId.{FileId}
 use Rattle.fa_tree.specs.State.{TreeState, file_of}
+use Rattle.fa_tree.specs.Alike.{AreAlike}
 use Rattle.fa_tree.specs.Steps.{names_given, opens_anew}
 use Rattle.fa_order.specs.declared.entry.Entry.{Entry}
 use Rattle.fa_check.specs.Orders.{IsTreeRequestAt, IsChoice, numbers}
 use Rattle.fa_check.specs.Runs.{EntrySteps, Runs}
 use Rattle.fa_check.specs.Faults.{EachPlaced}
 use Rattle.fa_check.specs.Cuts.{IsAnsweredBefore, Explains}
+use Rattle.fa_search.specs.Searches.{IsUsedFrom}
 use Rattle.fa_search.specs.parts.Going.{OrThis, GoesOn}
 
 -- Which requests in flight are placed, by the numbers of their messages, the tree, and entries that led to it.
@@ -95,13 +97,15 @@ pub record IsReached (c : List Message) (first : TreeState) (at : ℕ) (x : Plai
 abbrev pub AreDoneOrIn : List Message → (Done : ℕ → Type 0) → (rest es : List Entry) → Type 0
 AreDoneOrIn c Done rest es = (p q : ℕ) → IsAnsweredBy c p q → Contains (numbers es) p → Done p ⊎ Contains (numbers rest) p
 
--- Entries that lead to this tree go on from one of these configurations: some rest leads from it to the same tree, and with it no answered
--- request of theirs is left out.
+-- Entries that lead to this tree go on from one of these configurations: some rest leads from it to the same tree, but for openings of no use,
+-- and with it no answered request of theirs is left out.
 pub record HasRest (c : List Message) (at : ℕ) (held : List PlainConfiguration) (es : List Entry) (last : TreeState) : Type 0 where
   pub from : PlainConfiguration
   pub there : Contains held from
   pub rest : List Entry
-  pub on : GoesOn c (IsDoneAt c at from.placed) from.tree last rest
+  pub to : TreeState
+  pub on : GoesOn c (IsDoneAt c at from.placed) from.tree to rest
+  pub alike : AreAlike (IsUsedFrom c at) last to
   pub kept : AreDoneOrIn c (IsDoneAt c at from.placed) rest es
 
 -- The configurations that a search holds at a message: entries come to each, and whatever explains the replies before that message goes on
@@ -138,32 +142,34 @@ MakesKnown c p name = (old new : TreeState) (e : Entry) → e.at ≡ p → Entry
 abbrev pub KnowsGiven : List Message → (at : ℕ) → (Placed : ℕ → Type 0) → TreeState → Type 0
 KnowsGiven c at Placed tree = (p : ℕ) (name : NodeName) → IsAnsweredTree c at p ⊎ Placed p → MakesKnown c p name → IsKnown name tree
 
--- a step of the request at p leaves this tree as it is, and each to which entries lead from it
+-- each node that the one tree knows the other knows
+abbrev pub KnowsAsMuch : (tree other : TreeState) → Type 0
+KnowsAsMuch tree other = (name : NodeName) → IsKnown name tree → IsKnown name other
+
+-- a step of the request at p leaves this tree as it is, and each that knows as much, such as those to which entries lead from it
 abbrev pub LeavesFrom : List Message → TreeState → (p : ℕ) → Type 0
-LeavesFrom c tree p = (es : List Entry) (later new : TreeState) (e : Entry) → Runs tree later c es → e.at ≡ p → EntrySteps later new c e → new ≡ later
+LeavesFrom c tree p = (later new : TreeState) (e : Entry) → KnowsAsMuch tree later → e.at ≡ p → EntrySteps later new c e → new ≡ later
 
 -- it does so from the tree of the configuration, if that knows what was given
 abbrev pub LeavesIfKnown : List Message → (at : ℕ) → PlainConfiguration → (p : ℕ) → Type 0
 LeavesIfKnown c at x p = KnowsGiven c at (Contains x.placed) x.tree → LeavesFrom c x.tree p
 
--- The request at p has a step from the tree, and leaves it as it is, and each to which entries lead from it.
+-- The request at p leaves the tree as it is, and each that knows as much, and the tree knows what its steps make known.
 pub record IsIdleIn (c : List Message) (tree : TreeState) (p : ℕ) : Type 0 where
-  pub entry : Entry
-  pub number : entry.at ≡ p
-  pub steps : EntrySteps tree tree c entry
   pub leaves : LeavesFrom c tree p
+  pub knows : (name : NodeName) → MakesKnown c p name → IsKnown name tree
 
--- The configuration has this tree, and of the requests in flight those are placed in it that are answered at any time, and of others only
--- such as leave this tree and each later one. So whatever goes on where these requests are placed goes on from it: those that leave the tree
--- may be placed at once, and those without an answer later.
-pub record IsAhead (c : List Message) (Placed : ℕ → Type 0) (tree : TreeState) (x : PlainConfiguration) : Type 0 where
-  pub same : x.tree ≡ tree
+-- The configuration has this tree, but for openings of no use, and of the requests in flight those are placed in it that are answered at
+-- any time, and of others only such as leave this tree and each later one. So whatever goes on where these requests are placed goes on from
+-- it: those that leave the tree may be placed at once, and those without an answer later.
+pub record IsAhead (c : List Message) (at : ℕ) (Placed : ℕ → Type 0) (tree : TreeState) (x : PlainConfiguration) : Type 0 where
+  pub same : AreAlike (IsUsedFrom c at) tree x.tree
   pub all : (p q : ℕ) → IsAnsweredBy c p q → Placed p → Contains x.placed p
   pub others : (p : ℕ) → Contains x.placed p → Placed p ⊎ IsIdleIn c tree p
 
 -- it is so if the tree knows what was given
 abbrev pub IsAheadIfKnown : List Message → (at : ℕ) → (Placed : ℕ → Type 0) → TreeState → PlainConfiguration → Type 0
-IsAheadIfKnown c at Placed tree x = KnowsGiven c at Placed tree → IsAhead c Placed tree x
+IsAheadIfKnown c at Placed tree x = KnowsGiven c at Placed tree → IsAhead c at Placed tree x
 
 -- ---- what is settled where a reply comes
 

@@ -1,13 +1,18 @@
 -- Which requests are in flight at a message, as a search keeps them.
 use Rattle.std.specs.Prelude.{◌≡◌, ◌⊎◌, ℕ, ◌<◌, ◌≤◌, true, false, List, [], ◌∷◌, Contains, All, slice_get, Option, None, Some, IsTrue, IfSome}
+use Rattle.std.specs.BTreeMap.{BTreeMap}
 use Rattle.std.specs.Map.{values_of}
+use Rattle.fa_capture.specs.Message.{Message}
+use Rattle.fa_ledger.specs.declared.call.Listing.{Listing}
 use Rattle.fa_ledger.specs.declared.name.NodeName.{NodeName}
 use Rattle.fa_ledger.specs.Kinds.{OnlyReads}
 use Rattle.fa_ledger.specs.Calls.{PlainAnswer, PlainCall}
+use Rattle.fa_tree.specs.Alike.{IsLastFrom}
 use Rattle.fa_tree.specs.Steps.{names_given}
 use Rattle.fa_search.specs.declared.flight.Due.{Due}
 use Rattle.fa_search.specs.declared.flight.Pending.{Pending}
 use Rattle.fa_search.specs.declared.flight.InFlight.{InFlight}
+use Rattle.fa_search.specs.Searches.{IsUsedFrom}
 use Rattle.fa_search.specs.parts.Configurations.{PlainConfiguration, IsCallPending, KeepsTrees, GivesUpTo, most_written}
 
 -- when a call with this answer is answered
@@ -35,13 +40,36 @@ pub record IsInFlight (calls : List PlainCall) (at : ℕ) (pending : Pending) : 
   pub kept : IsPendingOf pending.place call pending
   pub waits : IsCallPending at call
 
--- These are all of them, each by when it is answered. So many calls were sent.
+-- ---- which openings are of use
+
+-- the opening on which an answered call lists stands there with the message that answers it, or a later one
+abbrev pub IsUseNoted : PlainCall → (last_uses : BTreeMap ℕ ℕ) → Type 0
+IsUseNoted call last_uses =
+    (answer : PlainAnswer) (listing : Listing) (opened : ℕ) → call.answer ≡ Some answer → call.listing ≡ Some listing → call.handle ≡ Some opened
+    → IsLastFrom last_uses answer.at opened
+
+-- that of each of these calls does
+abbrev pub AreLastUses : List PlainCall → (last_uses : BTreeMap ℕ ℕ) → Type 0
+AreLastUses calls last_uses = (place : ℕ) (call : PlainCall) → slice_get calls place ≡ Some call → IsUseNoted call last_uses
+
+-- what stands in the table stands in another so, or with a later message
+abbrev pub AreLater : (last_uses later : BTreeMap ℕ ℕ) → Type 0
+AreLater last_uses later = (from opened : ℕ) → IsLastFrom last_uses from opened → IsLastFrom later from opened
+
+-- each opening that is of use from this message on stands there with it, or a later one
+abbrev pub CoversFrom : List Message → (at : ℕ) → (last_uses : BTreeMap ℕ ℕ) → Type 0
+CoversFrom c at last_uses = (opened : ℕ) → IsUsedFrom c at opened → IsLastFrom last_uses at opened
+
+-- ---- what is in flight
+
+-- These are all of them, each by when it is answered. So many calls were sent. The table has what lists on which opening.
 pub record IsFlight (calls : List PlainCall) (flight : InFlight) : Type 0 where
   pub each : All (λ e. (is : IsInFlight calls flight.at e.1) × IsDue e.0 is.call) flight.requests.entries
   pub all : (place : ℕ) (call : PlainCall) → slice_get calls place ≡ Some call → IsCallPending flight.at call
       → (e : Due × Pending) × Contains flight.requests.entries e × (e.1.place ≡ place)
   pub sent : (place : ℕ) (call : PlainCall) → slice_get calls place ≡ Some call → place < flight.seen → call.asked < flight.at
   pub unsent : (place : ℕ) (call : PlainCall) → slice_get calls place ≡ Some call → flight.seen ≤ place → flight.at ≤ call.asked
+  pub uses : AreLastUses calls flight.last_uses
 
 -- no request is in flight but that of the call at this place
 abbrev pub IsAlone : InFlight → (place : ℕ) → Type 0

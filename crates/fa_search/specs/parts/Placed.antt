@@ -4,6 +4,7 @@ use Rattle.fa_capture.specs.Message.{Message}
 use Rattle.fa_ledger.specs.Calls.{PlainCall}
 use Rattle.fa_ledger.specs.declared.calls.Calls.{Calls}
 use Rattle.fa_ledger.specs.Choices.{Allows}
+use Rattle.fa_tree.specs.Alike.{AreAlike}
 use Rattle.fa_tree.specs.declared.error.StepError.{StepError}
 use Rattle.fa_tree.specs.declared.error.StepError.TheVariants.{Refused, Memory}
 use Rattle.fa_order.specs.declared.entry.Entry.{Entry}
@@ -27,6 +28,6 @@ abbrev pub IsRefusedIn : Calls → (old new : PlainConfiguration) → Entry → 
 IsRefusedIn calls old new e (Refused code) = (new ≡ old) × ((c : List Message) → AreMessagesOf calls c → StepFails old.tree c e code)
 IsRefusedIn calls old new e Memory = Unit {0}
 
--- the same requests are placed in both, and both have the same tree
-abbrev pub IsSameAs : (one other : PlainConfiguration) → Type 0
-IsSameAs one other = (one.placed ≡ other.placed) × (one.tree ≡ other.tree)
+-- the same requests are placed in both, and their trees are alike, where such openings count
+abbrev pub IsSameAs : (Counts : ℕ → Type 0) → (one other : PlainConfiguration) → Type 0
+IsSameAs Counts one other = (one.placed ≡ other.placed) × AreAlike Counts one.tree other.tree

@@ -3,18 +3,19 @@ use Rattle.std.specs.Prelude.{◌≡◌, ◌⊎◌, ℕ, ◌<◌, ◌≤◌, Lis
 use Rattle.std.specs.declared.alloc.Global.{Global}
 use Rattle.fa_capture.specs.Message.{Message}
 use Rattle.fa_tree.specs.State.{TreeState}
+use Rattle.fa_tree.specs.Alike.{AreAlike}
 use Rattle.fa_order.specs.declared.entry.Entry.{Entry}
 use Rattle.fa_session.specs.Answers.{IsAnsweredBy}
 use Rattle.fa_ledger.specs.declared.calls.Calls.{Calls}
 use Rattle.fa_check.specs.Orders.{IsTreeRequestAt}
 use Rattle.fa_check.specs.Runs.{EntrySteps}
 use Rattle.fa_check.specs.Verdicts.{AreMessagesOf}
-use Rattle.fa_search.specs.Searches.{IsStop, IsLeastCode, ComesTo, IsRefusedFrom, EachComesTo, ComeToSoMany, IsExplainedUpTo, AreSerialBefore}
+use Rattle.fa_search.specs.Searches.{IsStop, IsUsedFrom, IsLeastCode, ComesTo, IsRefusedFrom, EachComesTo, ComeToSoMany, IsExplainedUpTo, AreSerialBefore}
 use Rattle.fa_search.specs.declared.coming.Alternatives.{Alternatives}
 use Rattle.fa_search.specs.declared.searching.Progress.{Progress}
 use Rattle.fa_search.specs.declared.searching.Ended.{Ended}
 use Rattle.fa_search.specs.declared.searching.Ended.TheVariants.{Order, Stop, Spent}
-use Rattle.fa_search.specs.parts.Flight.{IsFlight}
+use Rattle.fa_search.specs.parts.Flight.{IsFlight, CoversFrom}
 use Rattle.fa_search.specs.parts.Placed.{IsPlacedIn, IsSameAs}
 use Rattle.fa_search.specs.parts.Configurations.{PlainConfiguration, IsPending, IsReached, AreHeld, IsAheadIfKnown, AreSettling, AreSpent, IsWithout}
 
@@ -49,12 +50,14 @@ pub record IsSettled (c : List Message) (first : TreeState) (common : List Entry
   pub traced : (x : PlainConfiguration) → Contains settled x → IsTraced c first common at x
   pub left_traced : (x : PlainConfiguration) → Contains left x → IsTraced c first common at x
 
--- These are left where a request is placed in none: no order goes past the message, entries come to each, and to no other tree.
+-- These are left where a request is placed in none: no order goes past the message, entries come to each, and to no other tree, but for
+-- openings of no use.
 pub record AreLeft (c : List Message) (first : TreeState) (common : List Entry) (at : ℕ) (left : List PlainConfiguration) : Type 0 where
   pub stop : IsStop c first at
   pub some : 0 < length left
   pub each : (x : PlainConfiguration) → Contains left x → (asked : ℕ) × ComesTo c first at (common ++ x.entries) x.tree asked
-  pub complete : (es : List Entry) (tree : TreeState) (request : ℕ) → ComesTo c first at es tree request → (x : PlainConfiguration) × Contains left x × (tree ≡ x.tree)
+  pub complete : (es : List Entry) (tree : TreeState) (request : ℕ) → ComesTo c first at es tree request
+      → (x : PlainConfiguration) × Contains left x × AreAlike (IsUsedFrom c at) tree x.tree
 
 -- each of these orders is the entries that all have in common, and then those of one of the configurations
 abbrev pub EachLeadsTo : (common : List Entry) → (left : List PlainConfiguration) → List (Vec Entry Global) → Type 0
@@ -85,14 +88,15 @@ pub record AreGrown (work settled more further : List PlainConfiguration) : Type
   pub work_is : more ≡ work ++ behind
   pub settled_is : further ≡ settled ++ beside
 
--- the list with this configuration behind it, or as it was, where it has the same one
-abbrev pub IsPushedNew : (old : List PlainConfiguration) → (x : PlainConfiguration) → (new : List PlainConfiguration) → Type 0
-IsPushedNew old x new = (new ≡ old ++ x ∷ []) ⊎ ((new ≡ old) × ((y : PlainConfiguration) × Contains old y × IsSameAs x y))
+-- the list with this configuration behind it, or as it was, where it has the same one, as far as openings count
+abbrev pub IsPushedNew : (Counts : ℕ → Type 0) → (old : List PlainConfiguration) → (x : PlainConfiguration) → (new : List PlainConfiguration) → Type 0
+IsPushedNew Counts old x new = (new ≡ old ++ x ∷ []) ⊎ ((new ≡ old) × ((y : PlainConfiguration) × Contains old y × IsSameAs Counts x y))
 
--- the configuration is pushed to those in which the request is placed, or to the others, unless they have the same one
-abbrev pub IsPut : (asked : ℕ) → PlainConfiguration → (work settled more further : List PlainConfiguration) → Type 0
-IsPut asked x work settled more further =
-    (Contains x.placed asked × (more ≡ work) × IsPushedNew settled x further) ⊎ ((Contains x.placed asked → ⊥) × IsPushedNew work x more × (further ≡ settled))
+-- the configuration is pushed to those in which the request is placed, or to the others, unless they have the same one, as far as openings
+-- count
+abbrev pub IsPut : (Counts : ℕ → Type 0) → (asked : ℕ) → PlainConfiguration → (work settled more further : List PlainConfiguration) → Type 0
+IsPut Counts asked x work settled more further =
+    (Contains x.placed asked × (more ≡ work) × IsPushedNew Counts settled x further) ⊎ ((Contains x.placed asked → ⊥) × IsPushedNew Counts work x more × (further ≡ settled))
 
 -- the message answers this tree request, and no other is in flight that an order may name
 abbrev pub IsOnlyPending : List Message → (at asked : ℕ) → Type 0
@@ -125,10 +129,10 @@ pub record AreWithoutBy (settled : List PlainConfiguration) (asked : ℕ) (held 
   pub each : (y : PlainConfiguration) → Contains held y → (x : PlainConfiguration) × Contains settled x × IsWithout x asked y × (y.entries ≡ x.entries)
   pub all : (x : PlainConfiguration) → Contains settled x → (y : PlainConfiguration) × Contains held y × IsWithout x asked y
 
--- of these each is there once, or one that is the same
-pub record AreMerged (old new : List PlainConfiguration) : Type 0 where
+-- of these each is there once, or one that is the same, as far as openings count
+pub record AreMerged (Counts : ℕ → Type 0) (old new : List PlainConfiguration) : Type 0 where
   pub each : (y : PlainConfiguration) → Contains new y → Contains old y
-  pub all : (x : PlainConfiguration) → Contains old x → (y : PlainConfiguration) × Contains new y × IsSameAs x y
+  pub all : (x : PlainConfiguration) → Contains old x → (y : PlainConfiguration) × Contains new y × IsSameAs Counts x y
 
 -- A search behind the messages that came: what is in flight, and what is held, never nothing; one alone where requests came one after the other.
 pub record IsSearching (c : List Message) (first : TreeState) (progress : Progress) : Type 0 where
@@ -137,10 +141,12 @@ pub record IsSearching (c : List Message) (first : TreeState) (progress : Progre
   pub some : 0 < length progress.held.items
   pub serial : AreSerialBefore c progress.flight.at → length progress.held.items ≤ 1
 
--- A search ended so before all messages were passed: no order is found there, and where none goes on it holds what is left.
+-- A search ended so before all messages were passed: no order is found there, and where none goes on it holds what is left, and has noted
+-- which openings are of use.
 abbrev pub EndsEarly : List Message → (first : TreeState) → Progress → Ended → Type 0
 EndsEarly c first progress (Order order) = ⊥
-EndsEarly c first progress (Stop at code) = IsStop c first at × IsLeastCode c first at code × AreLeft c first progress.common.items at progress.held.items
+EndsEarly c first progress (Stop at code) =
+    IsStop c first at × IsLeastCode c first at code × AreLeft c first progress.common.items at progress.held.items × CoversFrom c at progress.flight.last_uses
 EndsEarly c first progress (Spent at) = IsExplainedUpTo c first at × (AreSerialBefore c at → ⊥)
 
 -- the order in which it ended, if it did in one, is such

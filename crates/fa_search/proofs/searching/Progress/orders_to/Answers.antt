@@ -1,6 +1,7 @@
 use Rattle.std.proofs.Common.{◌≡◌, ℕ, subst, rules, tests}
 use Rattle.std.proofs.lemmas.Option.{IfSome_then}
 use Rattle.std.proofs.lemmas.Result.{IfOk-weaker}
+use Rattle.fa_search.specs.parts.Flight.{CoversFrom}
 use Rattle.fa_search.specs.parts.Settling.{AreLeft}
 use Rattle.fa_search.proofs.searching.Progress.orders_to.Goals as goal
 
@@ -13,5 +14,6 @@ returns-then-stop-at-clause-comes g c =
     IfOk-weaker c.orders_left.result _ _
     (λ found is. IfSome_then found is
     (λ those told m first are searching.
-    told m first c.args.at (subst (λ (k : ℕ). AreLeft m first now.common.items k now.held.items) here (early m first are searching).2)))
+    told m first (subst (λ (k : ℕ). AreLeft m first now.common.items k now.held.items) here (early m first are searching).2)
+    (subst (λ (k : ℕ). CoversFrom m k now.flight.last_uses) here (early m first are searching).3)))
     c.orders_left.ensures.comes

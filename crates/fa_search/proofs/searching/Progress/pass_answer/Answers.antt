@@ -5,13 +5,15 @@ use Rattle.fa_ledger.specs.declared.calls.Calls.{Calls}
 use Rattle.fa_check.specs.Replays.{IsAnswerAt}
 use Rattle.fa_check.specs.Verdicts.{AreMessagesOf}
 use Rattle.fa_search.specs.declared.budget.Halt.TheVariants.{Spent}
-use Rattle.fa_search.specs.Searches.{AreSerialBefore}
+use Rattle.fa_tree.specs.Alike.{IsInUse, IsLastFrom}
+use Rattle.fa_search.specs.Searches.{IsUsedFrom, AreSerialBefore}
 use Rattle.fa_search.specs.parts.Configurations.{PlainConfiguration}
 use Rattle.fa_search.specs.parts.Flight.{IsFlight}
 use Rattle.fa_search.specs.parts.Placed.{MayBePlacedAt}
 use Rattle.fa_search.specs.parts.Settling.{AreHeldBy, IsSettled, AreLeft}
 use Rattle.fa_search.proofs.LoopLemmas.{empty_list, some_there}
 use Rattle.fa_search.proofs.ThereLemmas.{flight_there}
+use Rattle.fa_search.proofs.UseLemmas.{covers_from}
 use Rattle.fa_search.proofs.ReplyLemmas.{answered_placed, asked_answered, kept_alone}
 use Rattle.fa_search.proofs.SearchLemmas.{alone_by_serial, serial_before, explained_up_to, held_by_answered, left_have_no_step, some_left, are_left, stops_here}
 use Rattle.fa_search.proofs.MergedLemmas.{held_by_merged, merged_some}
@@ -97,10 +99,12 @@ returns-then-is_empty-clause-left c = λ m first are is.
     let one = some_there progress.held.items is.some in
     let here : AreMessagesOf c.settle.new.tries.replay m = subst (λ (calls : Calls). AreMessagesOf calls m) (sym c.settle.ensures.same) are in
     let kept : c.least_code.new.kept.items ≡ left = kept_alone _ left _ (c.in_ok-code.ensures.kept m here
-    (left_have_no_step m first common at c.args.asked.asked by.0 by.1 progress.held.items left one.0 one.1 is.held none)) (search rules) in
-    subst (AreLeft m first common at) (sym kept)
-    (are_left m first common at c.args.asked.asked by.0 by.1 progress.held.items left one.0 one.1 is.held none are.good
-    (let next = c.requires.next in let counted = are.counted in omega (arith, next, counted)))
+    (left_have_no_step m first common at c.args.asked.asked by.0 by.1 progress.held.items left one.0 one.1 is.held none)) (search rules) in (
+      subst (AreLeft m first common at) (sym kept)
+          (are_left m first common at c.args.asked.asked by.0 by.1 progress.held.items left one.0 one.1 is.held none are.good
+          (let next = c.requires.next in let counted = are.counted in omega (arith, next, counted))),
+      covers_from m progress.tries.replay.list are.are at progress.flight.last_uses c.requires.flight.uses,
+    )
 
 pub returns-clause-flight : goal.returns-clause-flight
 returns-clause-flight c = λ none.
@@ -119,7 +123,7 @@ returns-clause-some c = λ none.
     let left : length c.in_ok-left.left.items ≡ length settled = c.in_ok-left.ensures.length in
     let some : 0 < length settled = search (rules, tests) in
     let before : 0 < length c.in_ok-left.left.items = omega (arith, left, some) in
-    let behind = merged_some c.in_ok-left.left.items c.in_ok-self.field-0.items c.in_ok-self.ensures.merged before in
+    let behind = merged_some (IsInUse c.in_use-in_use.result) c.in_ok-left.left.items c.in_ok-self.field-0.items c.in_ok-self.ensures.merged before in
     omega (arith, long, behind)
 
 pub returns-clause-on : goal.returns-clause-on
@@ -139,13 +143,17 @@ returns-clause-on c = λ none m first are is.
     c.in_ok-settling.ensures.settled m first common are (rw c.replace-held.ensures.value is.held) in
     let all : AreHeldBy m first common (at + 1) c.in_ok-left.left.items =
     held_by_answered m first common at c.args.asked.asked left settled c.in_ok-left.left.items by.0 by.1 settling c.in_ok-left.ensures.without in
+    let here : IsFlight progress.tries.replay.list c.answer.new.self = subst (λ (calls : Calls). IsFlight calls.list c.answer.new.self) same flight in
+    let counts : (opened : ℕ) → IsUsedFrom m (at + 1) opened → IsInUse c.in_use-in_use.result opened = λ opened used.
+    (c.in_use-in_use.ensures opened).1 (subst (λ (k : ℕ). IsLastFrom c.answer.new.self.last_uses k opened) (sym c.answer.ensures.at)
+    (covers_from m progress.tries.replay.list are.are (at + 1) c.answer.new.self.last_uses here.uses opened used)) in
     let held : AreHeldBy m first common (at + 1) c.in_ok-self.field-0.items =
-    held_by_merged m first common (at + 1) c.in_ok-left.left.items c.in_ok-self.field-0.items c.in_ok-self.ensures.merged all in
+    held_by_merged m first common (at + 1) (IsInUse c.in_use-in_use.result) counts c.in_ok-left.left.items c.in_ok-self.field-0.items c.in_ok-self.ensures.merged all in
     let long : length c.join.new.held.items ≡ length c.in_ok-self.field-0.items = c.in_ok-join.ensures.length in
     let many : length c.in_ok-left.left.items ≡ length settled = c.in_ok-left.ensures.length in
     let some : 0 < length settled = search (rules, tests) in
     let before : 0 < length c.in_ok-left.left.items = omega (arith, many, some) in
-    let behind = merged_some c.in_ok-left.left.items c.in_ok-self.field-0.items c.in_ok-self.ensures.merged before in
+    let behind = merged_some (IsInUse c.in_use-in_use.result) c.in_ok-left.left.items c.in_ok-self.field-0.items c.in_ok-self.ensures.merged before in
     let less = c.in_ok-self.ensures.fewer in
     record {
       flight = subst (λ (calls : Calls). IsFlight calls.list c.answer.new.self) c.calls.ensures flight;

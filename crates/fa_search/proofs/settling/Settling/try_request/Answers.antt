@@ -1,4 +1,5 @@
-use Rattle.std.proofs.Common.{◌≤◌, ℕ, List, Some, None}
+use Rattle.std.proofs.Common.{◌≤◌, ℕ, List, Some, None, sym, subst}
+use Rattle.std.specs.Prelude.{Contains}
 use Rattle.std.proofs.lemmas.Result.{on_ok_weaker}
 use Rattle.fa_capture.specs.Message.{Message}
 use Rattle.fa_tree.specs.State.{TreeState}
@@ -10,6 +11,10 @@ use Rattle.fa_search.proofs.settling.Settling.try_request.Goals as goal
 
 pub returns-then-has-clause-grown : goal.returns-then-has-clause-grown
 returns-then-has-clause-grown c = grown_same c.args.self.now.work.items c.args.self.now.settled.items
+
+pub returns-then-has-clause-followed : goal.returns-then-has-clause-followed
+returns-then-has-clause-followed c = λ messages e new are number up lacks steps.
+    absurd (lacks (subst (Contains c.args.origin.now.copy.placed) (sym number) (c.has.ensures.0 c.if-has.true)))
 
 pub returns-in-None-clause-followed : goal.returns-in-None-clause-followed
 returns-in-None-clause-followed c =
