@@ -8,7 +8,7 @@ use Rattle.fa_bodies.specs.Dirents.{PlainDirent}
 use Rattle.fa_ledger.specs.declared.operation.Outcome.{Outcome}
 use Rattle.fa_ledger.specs.declared.operation.Outcome.TheVariants.{Fails, Succeeds, Unanswered}
 use Rattle.fa_ledger.specs.Calls.{PlainCall}
-use Rattle.fa_ledger.specs.Operations.{PlainOperation, ended}
+use Rattle.fa_ledger.specs.Operations.{ended}
 use Rattle.fa_tree.specs.declared.id.FileId.{FileId}
 use Rattle.fa_tree.specs.State.{Store, TreeState, node_cmp}
 use Rattle.fa_tree.specs.Alike.{AreAlike}

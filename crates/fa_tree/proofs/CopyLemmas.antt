@@ -20,6 +20,7 @@ use Rattle.fa_tree.specs.declared.slots.Slot.{Slot}
 use Rattle.fa_tree.specs.declared.holders.Holder.{Holder}
 use Rattle.fa_tree.specs.declared.holders.Holders.{Holders}
 use Rattle.fa_tree.specs.parts.PlaceLaws.{place_cmp_total, places_apart, names_apart}
+use Rattle.fa_tree.specs.parts.BirthParts.{places_of}
 use Rattle.fa_tree.specs.parts.SlotParts.{place_of, file_in, names_shown, HaveSameSlots}
 use Rattle.fa_tree.specs.parts.MemberParts.{members_of, AreMembers}
 use Rattle.fa_tree.specs.parts.HolderParts.{entry_of, listed, tabled, AreCounted}
@@ -78,6 +79,13 @@ slots_alike [] [] alike q = refl
 slots_alike [] (f ∷ fs) alike q = absurd alike
 slots_alike (e ∷ es) [] alike q = absurd alike
 slots_alike (e ∷ es) (f ∷ fs) alike q = λ i. cond (eq_by_cmp place_cmp q (alike.0.0 i)) (Some (alike.0.1 i)) (slots_alike es fs alike.1 q i)
+
+-- the same places, in the same order
+pub places_copied : (es fs : List (Place × Slot)) → AreAlike es fs → places_of fs ≡ places_of es
+places_copied [] [] alike = refl
+places_copied [] (f ∷ fs) alike = absurd alike
+places_copied (e ∷ es) [] alike = absurd alike
+places_copied (e ∷ es) (f ∷ fs) alike = λ i. alike.0.0 i ∷ places_copied es fs alike.1 i
 
 -- the place at an index
 place_alike : (es fs : List (Place × Slot)) → AreAlike es fs → (index : ℕ) (place : Place) → slice_get (keys_of fs) index ≡ Some place

@@ -1,5 +1,6 @@
 pub mod AlikeLemmas
 pub mod BindingLemmas
+pub mod BirthLemmas
 pub mod CauseLemmas
 pub mod ChangeLemmas
 pub mod ChangedLemmas

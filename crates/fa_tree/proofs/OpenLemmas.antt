@@ -49,6 +49,16 @@ get-shown_openings slots openings asked =
     or_none None = refl
     or_none (Some h) = refl
 
+-- of an opening that is found its directory is open
+pub found_shown : (slots : List (Place × Slot)) (openings : List Opening) (asked : ℕ) (found : Option (ℕ × Opening)) → option_map (λ (f : ℕ × Opening). (f.0, f.1.directory)) found ≡ last_opening asked 0 openings
+    → map.get (handles_shown slots 0 map.empty openings) asked ≡ option_map (λ (f : ℕ × Opening). open_shown slots f.1.directory f.0) found
+found_shown slots openings asked found is =
+    get-shown_openings slots openings asked ∙ ap (option_map (λ p. open_shown slots p.1 p.0)) (sym is) ∙ by found
+  where
+    by : (x : Option (ℕ × Opening)) → option_map (λ (p : ℕ × FileId). open_shown slots p.1 p.0) (option_map (λ (f : ℕ × Opening). (f.0, f.1.directory)) x) ≡ option_map (λ (f : ℕ × Opening). open_shown slots f.1.directory f.0) x
+    by None = refl
+    by (Some f) = refl
+
 -- ---- the last opening
 
 -- it is in the list
@@ -89,13 +99,6 @@ last_is openings places last asked at there other = by (last_opening asked 0 ope
         let place : found.0 ≡ at = omega (arith, same, found.1) in
         let directory : p.1 ≡ (get_or openings at other).directory = sym (found.3 other) ∙ ap (λ i. (get_or openings i other).directory) place in
         λ i. Some (same i, directory i)
-
-pub last_none : (openings : List Opening) (places : List (ℕ × ℕ)) → AreLast places openings → (asked : ℕ) → lookup (nat_eq asked) places ≡ None → last_opening asked 0 openings ≡ None
-last_none openings places last asked none = by (last_opening asked 0 openings) (sym (last asked) ∙ none)
-  where
-    by : (x : Option (ℕ × FileId)) → option_map (λ p. p.0) x ≡ None → x ≡ None
-    by None is = refl
-    by (Some p) is = absurd (let clash : Some p.0 ≡ None = is in cc)
 
 -- ---- one opening more
 

@@ -1,6 +1,6 @@
 -- Names that were listed once, or at all, and what that says of a listing.
 use Rattle.std.proofs.Common.{◌≡◌, ℕ, zero, suc, ◌+◌, ◌<◌, ◌≤◌, Bool, true, false, cond, List, [], ◌∷◌, ◌++◌, get_or, Option, None, Some, Bor, refl, sym, ap, subst, ◌∙◌, inl, inr, arith}
-use Rattle.std.specs.Prelude.{◌↔◌, All, Contains, not, is_some, IsTrue, IsFalse}
+use Rattle.std.specs.Prelude.{◌↔◌, All, Contains, not, is_some, IsTrue, IsFalse, IfSome, IfNone}
 use Rattle.std.specs.Bool.{MatchBool}
 use Rattle.std.specs.Cmp.Lexicographic.{bytes_decides}
 use Rattle.std.specs.Fn.{Shared, FnReturnsAt}
@@ -88,17 +88,20 @@ module _ (h : OpenDirectory) where
         by None was is all = cc
         by (Some file) was is all = omega (arith, all twice.0 file was, twice.1)
 
-    -- all names that stayed were listed, where it answers whether a name was
-    pub listed_or_not : (r : Bool) → (IsTrue r → (name : List ℕ) (file : FileId) → get h.stayed name ≡ Some file → FnReturnsAt g f name true)
-        → (IsFalse r → (name : List ℕ) × (file : FileId) × (get h.stayed name ≡ Some file) × FnReturnsAt g f name false)
-        → ((p : Bor (List ℕ)) (b : Bool) → g.post f (p, tt) b → IsTrue b ↔ (1 ≤ times p.now)) → IsTrue r ↔ AllListed times
-    listed_or_not true all missing tells = (
-      (λ t name file stayed. (told_at (all t name file stayed) (λ name b. IsTrue b ↔ (1 ≤ times name)) tells).0 refl),
+    -- all names that stayed were listed, where none is found of which it answers that it was not
+    pub listed_or_found : (found : Option (Bor (List ℕ))) (r : Bool) → is_some found ≡ not r
+        → IfSome found (λ name. (file : FileId) × (get h.stayed name.now ≡ Some file) × FnReturnsAt g f name.now true)
+        → IfNone found ((name : List ℕ) (file : FileId) → get h.stayed name ≡ Some file → FnReturnsAt g f name false)
+        → ((p : Bor (List ℕ)) (b : Bool) → g.post f (p, tt) b → IsFalse b ↔ (1 ≤ times p.now)) → IsTrue r ↔ AllListed times
+    listed_or_found None true is some none tells = (
+      (λ t name file stayed. (told_at (none name file stayed) (λ name b. IsFalse b ↔ (1 ≤ times name)) tells).0 refl),
       (λ each. refl),
     )
-    listed_or_not false all missing tells = (
+    listed_or_found None false is some none tells = absurd cc
+    listed_or_found (Some name) true is some none tells = absurd cc
+    listed_or_found (Some name) false is some none tells = (
       (λ t. absurd cc),
-      (λ each. let one = missing refl in (told_at one.3 (λ name b. IsTrue b ↔ (1 ≤ times name)) tells).1 (each one.0 one.1 one.2)),
+      (λ each. absurd (let no : true ≡ false = (told_at some.2 (λ name b. IsFalse b ↔ (1 ≤ times name)) tells).1 (each name.now some.0 some.1) in cc)),
     )
 
 -- ---- entries after what was listed so far

@@ -1,9 +1,9 @@
 -- What a walk over the places of a directory tells of the names that stayed in it.
-use Rattle.std.proofs.Common.{◌≡◌, ℕ, ◌<◌, Bool, true, false, cond, List, [], ◌∷◌, length, get_or, Option, None, Some, suc, refl, sym, ap, subst, ◌∙◌, arith}
+use Rattle.std.proofs.Common.{◌≡◌, ℕ, ◌≤◌, Bool, true, false, cond, List, [], ◌∷◌, take, get_or, Option, None, Some, suc, refl, sym, ap, subst, ◌∙◌, arith}
 use Rattle.std.specs.Prelude.{◌||◌, is_some, nat_eq, slice_get, IsTrue, Vec}
 use Rattle.std.specs.Borrow.{Bor}
 use Rattle.std.specs.Fn.{Shared, FnReturnsAt}
-use Rattle.std.specs.List.{All, HoldsAt, list_any}
+use Rattle.std.specs.List.{All, list_any}
 use Rattle.std.specs.Map.{keys_of, lookup}
 use Rattle.std.specs.Option.{option_map, option_and_then}
 use Rattle.std.specs.FinMap as map
@@ -15,10 +15,12 @@ use Rattle.fa_tree.specs.declared.id.FileId.{FileId}
 use Rattle.fa_tree.specs.contracts.slots.PlacePartialEq.TheImpl as same_key
 use Rattle.fa_tree.specs.declared.slots.Place.{Place}
 use Rattle.fa_tree.specs.declared.slots.Slot.{Slot}
+use Rattle.fa_tree.specs.parts.BirthParts.{places_of, NoneStayedBehind}
 use Rattle.fa_tree.specs.parts.MemberParts.{members_of, is_member, AreMembers}
 use Rattle.fa_tree.specs.parts.PlaceLaws.{same_place}
 use Rattle.fa_tree.specs.parts.SlotParts.{place_of, is_at, slot_at}
 use Rattle.fa_tree.specs.parts.NameViews.{has_stayed, stayed_shown}
+use Rattle.fa_tree.proofs.BirthLemmas.{all_from_first}
 use Rattle.fa_tree.proofs.NameLemmas.{get-stayed_shown}
 use Rattle.fa_tree.proofs.SlotLemmas.{keys_same}
 
@@ -92,19 +94,28 @@ module _ (directory : FileId) (at : ℕ) (Answers : List ℕ → Bool → Type 0
   abbrev pub PassesAt : List (Place × Slot) → ℕ → Type 0
   PassesAt = HoldsThere directory Passes
 
-  -- the test answers false at a name whose file stayed in the directory
-  abbrev pub Missing : List (Place × Slot) → Type 0
-  Missing slots = (name : List ℕ) × (file : FileId) × (map.get (stayed_shown directory at slots) name ≡ Some file) × Answers name false
+  -- it answers true at each name that stayed, where it passes at the oldest and the names behind them came later
+  module _ (slots : List (Place × Slot)) (table : List (FileId × Vec ℕ Global)) (members : AreMembers (keys_of slots) table) (old_places : ℕ)
+      (later : NoneStayedBehind slots (members_of table directory) at old_places) (oldest : All (PassesAt slots) (take old_places (members_of table directory))) where
+    -- of the slot of a name, if it is the one that is found
+    abbrev FoundPasses : List ℕ → Slot → Type 0
+    FoundPasses name slot = slot_at slots (directory, name) ≡ Some slot → Passes name slot
 
-  -- where it does so at an index of a walk, it does
-  pub walked_missing : (slots : List (Place × Slot)) (indexes : List ℕ) → (k : ℕ) × (k < length indexes) × HoldsAt (λ index. Missing slots) indexes k → Missing slots
-  walked_missing slots indexes failed = failed.2 0
+    behind_passes : (k index : ℕ) → old_places ≤ k → slice_get (members_of table directory) k ≡ Some index → HoldsThere directory FoundPasses slots index
+    behind_passes k index behind member place slot there own found stayed = absurd (
+        let here : slice_get (places_of slots) index ≡ Some (place_of place) =
+        slice_get-map place_of (keys_of slots) index ∙ ap (option_map place_of) (slice_get-map (λ e. e.0) slots index ∙ ap (option_map (λ e. e.0)) there) in
+        let none : option_and_then (has_stayed at) (slot_at slots (directory, place.name.items)) ≡ None =
+        subst (λ of. option_and_then (has_stayed at) (slot_at slots (of, place.name.items)) ≡ None) own (later k index (place_of place) behind member here) in
+        let clash : false ≡ true = ap is_some (sym none ∙ ap (option_and_then (has_stayed at)) found) ∙ stayed in
+        cc)
 
-  -- and it answers true at each name that stayed
-  pub walked_all : (slots : List (Place × Slot)) (table : List (FileId × Vec ℕ Global)) (members : AreMembers (keys_of slots) table) (all : All (PassesAt slots) (members_of table directory))
-      → (name : List ℕ) (file : FileId) → map.get (stayed_shown directory at slots) name ≡ Some file → Answers name true
-  walked_all slots table members all name file stayed = by (slot_at slots (directory, name)) refl (sym (get-stayed_shown directory at slots name) ∙ stayed)
-    where
-      by : (x : Option Slot) → slot_at slots (directory, name) ≡ x → option_and_then (has_stayed at) x ≡ Some file → Answers name true
-      by None was is = absurd (let clash : None ≡ Some file = is in cc)
-      by (Some slot) was is = walked_holds directory Passes slots table members all name slot was (ap is_some is)
+    pub walked_oldest : (name : List ℕ) (file : FileId) → map.get (stayed_shown directory at slots) name ≡ Some file → Answers name true
+    walked_oldest name file stayed = by (slot_at slots (directory, name)) refl (sym (get-stayed_shown directory at slots name) ∙ stayed)
+      where
+        all : All (HoldsThere directory FoundPasses slots) (members_of table directory)
+        all = all_from_first _ (members_of table directory) old_places (λ k d less place slot there own found. oldest k d less place slot there own) behind_passes
+
+        by : (x : Option Slot) → slot_at slots (directory, name) ≡ x → option_and_then (has_stayed at) x ≡ Some file → Answers name true
+        by None was is = absurd (let clash : None ≡ Some file = is in cc)
+        by (Some slot) was is = walked_holds directory FoundPasses slots table members all name slot was was (ap is_some is)

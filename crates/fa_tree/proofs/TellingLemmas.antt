@@ -1,5 +1,5 @@
 -- What a tree tells of itself: the least place of a file, the bytes of a file, and the rule of a call.
-use Rattle.std.proofs.Common.{◌≡◌, ℕ, ℤ, ◌+◌, ◌<◌, ◌≤◌, ◌/◌, ◌%◌, Bool, true, false, List, length, get_or, slice_get, Option, None, Some, inl, inr, refl, sym, ap, subst, ◌∙◌, arith, zero-add}
+use Rattle.std.proofs.Common.{◌≡◌, ℕ, ℤ, ◌+◌, ◌<◌, ◌≤◌, ◌/◌, ◌%◌, Bool, true, false, List, length, take, get_or, slice_get, Option, None, Some, inl, inr, refl, sym, ap, subst, ◌∙◌, arith, zero-add}
 use Rattle.std.specs.Prelude.{◌≢◌, ◌↔◌, ◌⊎◌, Vec, is_some, IsTrue, IfSome, IfNone}
 use Rattle.std.specs.Borrow.{Bor}
 use Rattle.std.specs.Option.{option_map, option_and_then}
@@ -27,6 +27,7 @@ use Rattle.fa_tree.specs.Resolved.{Resolved, resolved}
 use Rattle.fa_tree.specs.Rules.{HasCause}
 use Rattle.fa_tree.specs.Operations.{rule}
 use Rattle.fa_tree.specs.Telling.{OfRule}
+use Rattle.fa_tree.specs.parts.BirthParts.{NoneStayedBehind}
 use Rattle.fa_tree.specs.parts.MemberParts.{members_of, AreMembers}
 use Rattle.fa_tree.specs.parts.NameViews.{has_stayed, stayed_shown}
 use Rattle.fa_tree.specs.parts.PageParts.{page_at, byte_at, bytes_of}
@@ -35,7 +36,7 @@ use Rattle.fa_tree.specs.parts.SlotParts.{place_of, is_at, slot_at, file_in, nam
 use Rattle.fa_tree.proofs.NameLemmas.{get-names_shown}
 use Rattle.fa_tree.proofs.SameLemmas.{found_among}
 use Rattle.fa_tree.proofs.SlotLemmas.{keys_same}
-use Rattle.fa_tree.proofs.StayedLemmas.{PassesAt, walked_all}
+use Rattle.fa_tree.proofs.StayedLemmas.{PassesAt, walked_oldest}
 
 -- ---- bytes
 
@@ -197,23 +198,13 @@ module _ (t : TreeState) (call : PlainCall) (o : PlainOperation) (asks : call.op
 -- ---- names that stayed
 
 module _ (directory : FileId) (at : ℕ) (slots : List (Place × Slot)) (No : List ℕ → Type 0) where
-  -- a place passes where no file stayed there
-  pub none_passes : (index : ℕ) → ((place : Place) (slot : Slot) → slice_get slots index ≡ Some (place, slot) → place.directory ≡ directory → has_stayed at slot ≡ None)
-      → PassesAt directory at (λ name b. No name) slots index
-  none_passes index none place slot there own some = absurd (let clash : false ≡ true = sym (ap is_some (none place slot there own)) ∙ some in cc)
-
-  -- and where this holds of its name
-  pub named_passes : (index : ℕ) (name : List ℕ) → ((place : Place) (slot : Slot) → slice_get slots index ≡ Some (place, slot) → place.name.items ≡ name) → No name
-      → PassesAt directory at (λ name b. No name) slots index
-  named_passes index name is says place slot there own some = subst No (sym (is place slot there)) says
-
-  -- where each place of the directory passes, it holds of each name that stayed
-  pub none_stayed : (table : List (FileId × Vec ℕ Global)) → AreMembers (keys_of slots) table
-      → ((k : ℕ) → k < length (members_of table directory) → PassesAt directory at (λ name b. No name) slots (get_or (members_of table directory) k 0))
+  -- where each of the oldest places of the directory passes, it holds of each name that stayed
+  pub none_stayed : (table : List (FileId × Vec ℕ Global)) → AreMembers (keys_of slots) table → (old_places : ℕ) → NoneStayedBehind slots (members_of table directory) at old_places
+      → ((k : ℕ) → k < length (take old_places (members_of table directory)) → PassesAt directory at (λ name b. No name) slots (get_or (take old_places (members_of table directory)) k 0))
       → (name : List ℕ) (file : FileId) → map.get (stayed_shown directory at slots) name ≡ Some file → No name
-  none_stayed table members each =
-      walked_all directory at (λ name b. No name) slots table members
-      (λ k d within. subst (PassesAt directory at (λ name b. No name) slots) (get_or_default (members_of table directory) k 0 d within) (each k within))
+  none_stayed table members old_places later each =
+      walked_oldest directory at (λ name b. No name) slots table members old_places later
+      (λ k d within. subst (PassesAt directory at (λ name b. No name) slots) (get_or_default (take old_places (members_of table directory)) k 0 d within) (each k within))
 
 -- ---- the least place, as it is lent
 

@@ -14,8 +14,9 @@ pub mod NameViews
 pub mod HolderParts
 -- what is within another
 pub mod SameParts
--- openings, and open directories
+-- openings, and open directories; names that came later
 pub mod OpenParts
+pub mod BirthParts
 -- what was listed so far
 pub mod TallyParts
 pub mod KeptParts

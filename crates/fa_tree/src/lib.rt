@@ -29,6 +29,7 @@ mod named;
 mod names;
 mod nodes;
 mod open;
+mod open_names;
 mod opened;
 mod orderly;
 mod page;

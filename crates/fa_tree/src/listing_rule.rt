@@ -10,7 +10,7 @@ ghost use Rattle.fa_tree.specs.parts.OpenParts.{open_of};
 
 use crate::entries::is_judged;
 use crate::id::FileId;
-use crate::open::OpenNames;
+use crate::open_names::OpenNames;
 use crate::orderly::is_orderly;
 use crate::replay::Replay;
 use crate::stored::Stored;

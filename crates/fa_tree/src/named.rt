@@ -1,7 +1,7 @@
 //! What a call names in a tree.
 
 use crate::id::FileId;
-use crate::open::OpenNames;
+use crate::open_names::OpenNames;
 
 /// The number of a request, and the files that it names.
 #[derive(Clone, Copy, Debug)]

@@ -17,7 +17,8 @@ use crate::digest::digest_of;
 use crate::holders::Holders;
 use crate::id::FileId;
 use crate::in_use::InUse;
-use crate::open::{OpenNames, Opening, Openings};
+use crate::open::{Opening, Openings};
+use crate::open_names::OpenNames;
 use crate::slots::Slots;
 use fa_capture::Seed;
 use std::alloc::{AllocError, Global};
@@ -53,7 +54,9 @@ impl Model for Names {
 
     ghost view = { λ n. shown n.slots.table.entries n.openings };
 
-    ghost invariant = { λ n. AreStampsWithin (length n.openings) n.slots.table.entries × AreCounted (names_shown n.slots.table.entries) (held n.holders) };
+    ghost use Rattle.fa_tree.specs.parts.BirthParts.{AreOldPlaces};
+
+    ghost invariant = { λ n. AreStampsWithin (length n.openings) n.slots.table.entries × AreCounted (names_shown n.slots.table.entries) (held n.holders) × AreOldPlaces n.slots.table.entries n.slots.members.table.entries n.openings };
 }
 
 impl Names {
@@ -331,7 +334,12 @@ impl Names {
         ensures opened { OnOk result (self.new ≡ opened_by asked directory self.old) }
         ensures unchanged { OnErr result (self.new ≡ self.old) }
     {
-        self.openings.push(Opening { asked, directory })
+        let old_places = self.slots.members.of(directory).len();
+        self.openings.push(Opening {
+            asked,
+            directory,
+            old_places,
+        })
     }
 
     /// The directory that the request of this number opened, if one did.

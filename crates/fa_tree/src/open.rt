@@ -1,6 +1,6 @@
 //! Directories that are open: all openings, and what was in a directory since one of them.
 
-ghost use Rattle.std.specs.Prelude.{◌≡◌, ◌∷◌, ◌++◌, [], ℕ, List, None, Some, true, false, length, slice_get, IsTrue, IsFalse, IsSome, IfSome, IfNone, IfOk, OnOk, OnErr};
+ghost use Rattle.std.specs.Prelude.{◌≡◌, ◌∷◌, ◌++◌, [], ℕ, List, None, Some, true, false, length, take, slice_get, IsTrue, IfSome, IfNone, IfOk, OnOk, OnErr};
 ghost use Rattle.fa_tree.specs.declared.id.FileId.{FileId};
 ghost use Rattle.fa_tree.specs.State.{OpenDirectory};
 ghost use Rattle.fa_tree.specs.Alike.{IsInUse};
@@ -12,12 +12,15 @@ ghost use Rattle.std.specs.FinMap.{get};
 ghost use Rattle.std.specs.FinSet.{contains};
 ghost use Rattle.std.specs.Option.{option_map};
 ghost use Rattle.fa_tree.specs.parts.NameViews.{has_stayed, was_since, handles_shown};
-ghost use Rattle.fa_tree.specs.parts.OpenParts.{open_of};
+ghost use Rattle.fa_tree.specs.parts.BirthParts.{AreOldPlaces};
+ghost use Rattle.fa_tree.specs.parts.MemberParts.{members_of};
+ghost use Rattle.fa_tree.specs.parts.OpenParts.{last_opening, open_of};
 ghost use Rattle.fa_tree.specs.parts.SameParts.{IsMapWithin, IsOpenWithin, IsSlotWithin};
 
 use crate::digest::digest_of;
 use crate::id::FileId;
 use crate::in_use::InUse;
+use crate::open_names::OpenNames;
 use crate::slots::{Slot, Slots};
 use fa_capture::Seed;
 use indexmap::IndexMap;
@@ -32,6 +35,8 @@ const OPENING_WEIGHT: u64 = 64;
 pub(crate) struct Opening {
     pub asked: u32,
     pub directory: FileId,
+    /// How many places of the directory had ever had a name when it was opened.
+    pub old_places: usize,
 }
 
 /// All openings of directories, the earlier before the later.
@@ -40,15 +45,6 @@ pub(crate) struct Openings {
     list: Vec<Opening>,
     /// For each request that opened a directory the place of its last opening in the list.
     places: IndexMap<u32, usize, Seed>,
-}
-
-/// A directory that is open, with the names that were in it since. Nothing of it is copied.
-#[derive(Clone, Copy)]
-pub(crate) struct OpenNames<'a> {
-    slots: &'a Slots,
-    directory: FileId,
-    /// How many openings came before.
-    at: usize,
 }
 
 impl Model for Openings {
@@ -114,7 +110,10 @@ impl Openings {
     fn is_same_at(&self, asked: u32, slots: &Slots, other: &Openings, other_slots: &Slots) -> bool
         ensures { IsTrue result → get (handles_shown slots.now.table.entries 0 map.empty self.now) asked ≡ get (handles_shown other_slots.now.table.entries 0 map.empty other.now) asked }
     {
-        match (self.last(asked, slots), other.last(asked, other_slots)) {
+        match (
+            self.last_whole(asked, slots),
+            other.last_whole(asked, other_slots),
+        ) {
             (Some(names), Some(others)) => names.is_same(&others),
             _ => false,
         }
@@ -169,7 +168,7 @@ impl Openings {
         if !in_use.has(opened) {
             return 0;
         }
-        match self.last(opened, slots) {
+        match self.last_whole(opened, slots) {
             Some(names) => names.digest(seed, opened),
             None => 0,
         }
@@ -202,18 +201,45 @@ impl Openings {
         Ok(())
     }
 
+    /// The last opening by the request of this number, if it opened a directory, with how many came before.
+    ///
+    /// Takes no memory, in expected constant time.
+    fn find(&self, asked: u32) -> Option<(usize, Opening)>
+        ensures last { option_map (λ f. (f.0, f.1.directory)) result ≡ last_opening asked 0 self.now }
+        ensures there { IfSome result (λ f. slice_get self.now f.0 ≡ Some f.1) }
+    {
+        let at = *self.places.get(&asked)?;
+        Some((at, self.list[at]))
+    }
+
     /// The directory that the request of this number opened last, if it opened one, with the slots of its names.
     ///
     /// Takes no memory, in expected constant time.
     pub fn last<'a>(&self, asked: u32, slots: &'a Slots) -> Option<OpenNames<'a>>
+        requires { AreOldPlaces slots.now.table.entries slots.now.members.table.entries self.now }
         ensures { option_map open_of result ≡ get (handles_shown slots.now.table.entries 0 map.empty self.now) asked }
     {
-        let at = *self.places.get(&asked)?;
-        let directory = self.list[at].directory;
+        let (at, opening) = self.find(asked)?;
         Some(OpenNames {
             slots,
-            directory,
+            directory: opening.directory,
             at,
+            old_places: opening.old_places,
+        })
+    }
+
+    /// The same of any slots, of which all places of the directory are looked at.
+    ///
+    /// Takes no memory, in expected constant time.
+    fn last_whole<'a>(&self, asked: u32, slots: &'a Slots) -> Option<OpenNames<'a>>
+        ensures { option_map open_of result ≡ get (handles_shown slots.now.table.entries 0 map.empty self.now) asked }
+    {
+        let (at, opening) = self.find(asked)?;
+        Some(OpenNames {
+            slots,
+            directory: opening.directory,
+            at,
+            old_places: slots.members.of(opening.directory).len(),
         })
     }
 }
@@ -321,38 +347,12 @@ impl OpenNames<'_> {
         self.file_stayed(self.slots.get(self.directory, name)?)
     }
 
-    /// Whether each name is listed, as this test tells, whose file stayed in the directory since it was opened.
-    ///
-    /// Takes no memory, and time in the places that the directory ever had.
-    pub fn all_stayed<F: Fn(&[u8]) -> bool>(&self, is_listed: F) -> bool
-        requires { F.IsAlwaysCallable is_listed }
-        ensures all { IsTrue result → (name : List ℕ) (file : FileId) → get (open_of self.now).stayed name ≡ Some file → FnReturnsAt F.Fn is_listed name true }
-        ensures missing { IsFalse result → (name : List ℕ) × (file : FileId) × (get (open_of self.now).stayed name ≡ Some file) × FnReturnsAt F.Fn is_listed name false }
+    /// The indexes of the places that may have a name whose file stayed since the directory was opened.
+    fn oldest(&self) -> &[usize]
+        ensures { result.now ≡ take self.now.old_places (members_of self.now.slots.now.members.table.entries self.now.directory) }
     {
-        self.slots
-            .members
-            .of(self.directory)
-            .iter()
-            .all(|index| self.is_listed_at(*index, &is_listed))
-    }
-
-    /// Whether the name of a place of the table is listed, as this test tells, if its file stayed in the directory since it was
-    /// opened.
-    ///
-    /// Takes no memory, in constant time and that of the test.
-    fn is_listed_at<F: Fn(&[u8]) -> bool>(&self, index: usize, is_listed: &F) -> bool
-        requires { F.IsAlwaysCallable is_listed.now }
-        ensures listed { IsTrue result → (place : Place) (slot : Slot) → slice_get self.now.slots.now.table.entries index ≡ Some (place, slot) → place.directory ≡ self.now.directory → IsSome (has_stayed self.now.at slot) → FnReturnsAt F.Fn is_listed.now place.name.items true }
-        ensures missing { IsFalse result → (name : List ℕ) × (file : FileId) × (get (open_of self.now).stayed name ≡ Some file) × FnReturnsAt F.Fn is_listed.now name false }
-    {
-        match self.slots.table.get_index(index) {
-            Some((place, slot)) => {
-                place.directory != self.directory
-                    || self.file_stayed(*slot).is_none()
-                    || is_listed(place.name.as_slice())
-            }
-            None => true,
-        }
+        let members = self.slots.members.of(self.directory);
+        members.get(..self.old_places).unwrap_or(members)
     }
 
     /// Whether the name of a slot was there at some moment since the directory was opened.
@@ -379,13 +379,13 @@ impl OpenNames<'_> {
 impl<'t> OpenNames<'t> {
     /// A name of which this test holds, and whose file stayed in the directory since it was opened, if there is one.
     ///
-    /// Takes no memory, and time in the places that the directory ever had and in the tests.
+    /// Takes no memory, and time in the places of the directory that had ever had a name when it was opened, and in the tests.
     pub fn find_stayed<F: Fn(&[u8]) -> bool>(&self, is_sought: F) -> Option<&'t [u8]>
         requires { F.IsAlwaysCallable is_sought }
         ensures found { IfSome result (λ name. (file : FileId) × (get (open_of self.now).stayed name.now ≡ Some file) × FnReturnsAt F.Fn is_sought name.now true) }
         ensures none { IfNone result ((name : List ℕ) (file : FileId) → get (open_of self.now).stayed name ≡ Some file → FnReturnsAt F.Fn is_sought name false) }
     {
-        for index in self.slots.members.of(self.directory) {
+        for index in self.oldest() {
             if let Some(name) = self.name_stayed(*index) {
                 if is_sought(name) {
                     return Some(name);
@@ -398,6 +398,7 @@ impl<'t> OpenNames<'t> {
     /// The name of a place of the table, if it is one of the directory and its file stayed since that was opened.
     ///
     /// Takes no memory, in constant time.
+    #[inline(always)]
     fn name_stayed(&self, index: usize) -> Option<&'t [u8]>
         ensures stayed { IfSome result (λ name. (file : FileId) × (get (open_of self.now).stayed name.now ≡ Some file)) }
         ensures named { IfSome result (λ name. (place : Place) (slot : Slot) → slice_get self.now.slots.now.table.entries index ≡ Some (place, slot) → place.name.items ≡ name.now) }

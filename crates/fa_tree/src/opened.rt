@@ -7,7 +7,7 @@ ghost use Rattle.std.specs.FinSet.{contains};
 ghost use Rattle.fa_tree.specs.declared.id.FileId.{FileId};
 
 use crate::id::FileId;
-use crate::open::OpenNames;
+use crate::open_names::OpenNames;
 use crate::tree::Tree;
 use std::marker::Model;
 
@@ -62,7 +62,7 @@ impl<'t> OpenedDirectory<'t> {
     /// it is, is not said. A test that holds of the names that a listing did not give finds one that is missing, at the end of a
     /// listing that is neither adrift nor shared.
     ///
-    /// Takes no memory, and time in the places that the directory ever had and in the tests.
+    /// Takes no memory, and time in the places of the directory that had ever had a name when it was opened, and in the tests.
     pub fn find_stayed<F: Fn(&[u8]) -> bool>(&self, is_sought: F) -> Option<&'t [u8]>
         requires { F.IsAlwaysCallable is_sought }
         ensures found { IfSome result (λ name. (file : FileId) × (get self.now.stayed name.now ≡ Some file) × FnReturnsAt F.Fn is_sought name.now true) }

@@ -11,7 +11,7 @@ ghost use Rattle.fa_tree.specs.parts.ListingParts.{IsFirstTime};
 ghost use Rattle.fa_tree.specs.parts.OpenParts.{open_of};
 ghost use Rattle.fa_tree.specs.parts.TallyParts.{Tallies};
 
-use crate::open::OpenNames;
+use crate::open_names::OpenNames;
 use crate::replay::Replay;
 use crate::so_far::note_all;
 use crate::tally::Tally;
@@ -42,11 +42,11 @@ impl OpenNames<'_> {
         tally.all_repeated(|name| self.stayed(name).is_none())
     }
 
-    /// Whether each name that stayed was listed. Takes time in the places that the directory ever had.
+    /// Whether each name that stayed was listed. Takes time in the places of the directory that had ever had a name when it was opened.
     fn all_listed(&self, tally: &Tally<'_>) -> bool
         ensures { (times : List ℕ → ℕ) → Tallies tally.now times → IsTrue result ↔ ((name : List ℕ) (file : FileId) → get (open_of self.now).stayed name ≡ Some file → 1 ≤ times name) }
     {
-        self.all_stayed(|name| tally.has(name))
+        self.find_stayed(|name| !tally.has(name)).is_none()
     }
 
     /// Whether each name that stayed was listed, if this is the end of the listing.
@@ -113,7 +113,7 @@ impl OpenNames<'_> {
 /// the call at this place. An error says that memory was refused.
 ///
 /// Expected time and memory in the entries and in what [`Replay::take`] looks at, and time in the names that were listed more
-/// than once; at the end of the listing time in the places that the directory ever had.
+/// than once; at the end of the listing time in the places of the directory that had ever had a name when it was opened.
 pub(crate) fn is_orderly(
     alloc: Global,
     names: &OpenNames<'_>,

@@ -9,6 +9,7 @@ ghost use Rattle.std.specs.Option.{option_map};
 ghost use Rattle.std.specs.declared.cmp.Ordering.TheVariants.{Less, Greater};
 ghost use Rattle.fa_tree.specs.State as state;
 ghost use Rattle.fa_tree.specs.State.{place_cmp};
+ghost use Rattle.fa_tree.specs.parts.BirthParts.{AreSamePlaces, ArePlacesKept};
 ghost use Rattle.fa_tree.specs.parts.SlotParts.{place_of, slot_at, gone_at, file_in, names_shown, IsChangedAt, HaveSameSlots, AreAllThere, IsBefore};
 ghost use Rattle.fa_tree.specs.parts.MemberParts.{AreMembers};
 ghost use Rattle.fa_tree.specs.parts.SameParts.{IsMapWithin};
@@ -158,7 +159,8 @@ impl Slots {
 
     /// The same slots once more, in the same order. Expected time and memory in the places and the bytes of their names.
     pub fn copy(&self) -> Result<Self, AllocError>
-        ensures { IfOk result (λ slots. HaveSameSlots slots.table.entries self.now.table.entries) }
+        ensures slots { IfOk result (λ slots. HaveSameSlots slots.table.entries self.now.table.entries) }
+        ensures places { IfOk result (λ slots. AreSamePlaces self.now.table.entries self.now.members.table.entries slots.table.entries slots.members.table.entries) }
     {
         let members = self.members.copy()?;
         let table = self.table.clone()?;
@@ -276,6 +278,8 @@ impl Slots {
     ) -> Result<Option<FileId>, AllocError>
         ensures file { IfOk result (λ file. file ≡ map.get (names_shown self.old.table.entries) (directory, name.now)) }
         ensures put { OnOk result (IsChangedAt (directory, name.now) (λ _. Some (There file born)) self.old.table.entries self.new.table.entries) }
+        ensures places { OnOk result (ArePlacesKept (directory, name.now) self.old.table.entries self.old.members.table.entries self.new.table.entries self.new.members.table.entries) }
+        ensures kept { OnErr result (AreSamePlaces self.old.table.entries self.old.members.table.entries self.new.table.entries self.new.members.table.entries) }
         ensures unchanged { OnErr result (self.new.table.entries ≡ self.old.table.entries) }
     {
         match self.table.get_mut(&PlaceAt { directory, name }) {
@@ -302,6 +306,8 @@ impl Slots {
     ) -> Result<(), AllocError>
         requires { map.get (names_shown self.old.table.entries) (directory, name.now) ≡ None }
         ensures put { OnOk result (IsChangedAt (directory, name.now) (λ _. Some (There file born)) self.old.table.entries self.new.table.entries) }
+        ensures places { OnOk result (ArePlacesKept (directory, name.now) self.old.table.entries self.old.members.table.entries self.new.table.entries self.new.members.table.entries) }
+        ensures kept { OnErr result (AreSamePlaces self.old.table.entries self.old.members.table.entries self.new.table.entries self.new.members.table.entries) }
         ensures unchanged { OnErr result (self.new.table.entries ≡ self.old.table.entries) }
     {
         if self.all_there {
@@ -324,6 +330,8 @@ impl Slots {
     ) -> Result<(), AllocError>
         requires { slot_at self.old.table.entries (directory, name.now) ≡ None }
         ensures put { OnOk result (IsChangedAt (directory, name.now) (λ _. Some (There file born)) self.old.table.entries self.new.table.entries) }
+        ensures places { OnOk result (ArePlacesKept (directory, name.now) self.old.table.entries self.old.members.table.entries self.new.table.entries self.new.members.table.entries) }
+        ensures kept { OnErr result (AreSamePlaces self.old.table.entries self.old.members.table.entries self.new.table.entries self.new.members.table.entries) }
         ensures unchanged { OnErr result (self.new.table.entries ≡ self.old.table.entries) }
     {
         let name = name.to_vec(self.alloc)?;
@@ -338,7 +346,8 @@ impl Slots {
 
     /// Puts a name at a place that has a slot, as [`insert`](Slots::insert) does. Takes no memory, in expected constant time.
     pub fn replace(&mut self, directory: FileId, name: &[u8], file: FileId, born: usize)
-        ensures { IsChangedAt (directory, name.now) (option_map (λ _. There file born)) self.old.table.entries self.new.table.entries }
+        ensures put { IsChangedAt (directory, name.now) (option_map (λ _. There file born)) self.old.table.entries self.new.table.entries }
+        ensures places { AreSamePlaces self.old.table.entries self.old.members.table.entries self.new.table.entries self.new.members.table.entries }
     {
         match self.table.get_mut(&PlaceAt { directory, name }) {
             Some(slot) => *slot = Slot::There { file, born },
@@ -351,6 +360,7 @@ impl Slots {
     pub fn remove(&mut self, directory: FileId, name: &[u8], at: usize) -> Option<FileId>
         ensures file { result ≡ map.get (names_shown self.old.table.entries) (directory, name.now) }
         ensures gone { IsChangedAt (directory, name.now) (gone_at at) self.old.table.entries self.new.table.entries }
+        ensures places { AreSamePlaces self.old.table.entries self.old.members.table.entries self.new.table.entries self.new.members.table.entries }
     {
         match self.table.get_mut(&PlaceAt { directory, name }) {
             Some(slot) => {

@@ -86,7 +86,7 @@ impl Tree {
     /// in the bytes of names and targets, and in those that are read and written; where a directory is moved, time in the
     /// directories on the way up too. READDIR and READDIRPLUS take memory in the names that were listed so far and time in all
     /// names of the answers that they go on from (this profile), and at the end of a listing time in the places that the
-    /// directory ever had. Both messages of the call are read again, in time of their names, targets and listing.
+    /// directory had, or had had, when it was opened. Both messages of the call are read again, in time of their names, targets and listing.
     pub fn step(&mut self, calls: &Calls<'_>, k: usize, wrote: Option<u32>) -> Result<(), StepError>
         requires there { k < length calls.now.list }
         requires allowed { OfCallAt calls.now.list k (λ call. Allows call wrote) }
@@ -109,7 +109,7 @@ impl Tree {
     /// that goes on from the same and did not end the listing, and there was room for the names so far in what the replay keeps;
     /// elsewhere in all names of the answers that they go on from. The replay keeps these until the step that ends the listing, or until there is
     /// no room for others beside them. Time in the names that were listed more than once comes on top, and at the end of a listing in
-    /// the places that the directory ever had.
+    /// the places of the directory that had ever had a name when it was opened.
     pub fn step_in(
         &mut self,
         replay: &mut Replay<'_>,

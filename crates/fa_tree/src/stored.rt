@@ -19,7 +19,7 @@ use crate::files::Files;
 use crate::id::FileId;
 use crate::in_use::InUse;
 use crate::names::Names;
-use crate::open::OpenNames;
+use crate::open_names::OpenNames;
 use crate::parents::Parents;
 use fa_capture::Seed;
 use std::alloc::{AllocError, Global};

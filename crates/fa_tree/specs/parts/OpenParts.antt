@@ -5,7 +5,7 @@ use Rattle.std.specs.Option.{option_map, option_or}
 use Rattle.fa_tree.specs.declared.id.FileId.{FileId}
 use Rattle.fa_tree.specs.State.{OpenDirectory}
 use Rattle.fa_tree.specs.declared.open.Opening.{Opening}
-use Rattle.fa_tree.specs.declared.open.OpenNames.{OpenNames}
+use Rattle.fa_tree.specs.declared.open_names.OpenNames.{OpenNames}
 use Rattle.fa_tree.specs.parts.NameViews.{open_shown}
 
 -- The last of these openings that is by the request of this number, if one is: its place among all, where the first of these

@@ -1,9 +1,12 @@
-use Rattle.std.proofs.Common.{◌∷◌, [], ap, subst, sym, ◌∙◌, arith}
+use Rattle.std.proofs.Common.{◌∷◌, [], Some, ap, subst, sym, ◌∙◌, arith}
 use Rattle.std.specs.FinMap.{get}
+use Rattle.fa_tree.specs.declared.slots.Slot.TheVariants.{There}
 use Rattle.fa_tree.specs.Edits.Edit.{Added, Removed}
 use Rattle.fa_tree.specs.parts.NameParts.{edited, StaysThere}
-use Rattle.fa_tree.specs.parts.SlotParts.{names_shown}
+use Rattle.fa_tree.specs.parts.SlotParts.{names_shown, slot_at}
 use Rattle.fa_tree.specs.parts.HolderParts.{held, AreCounted}
+use Rattle.fa_tree.specs.parts.BirthParts.{AreOldPlaces}
+use Rattle.fa_tree.proofs.BirthLemmas.{born_later, opened_alike, opened_kept}
 use Rattle.fa_tree.proofs.EditedLemmas.{edited_put_free}
 use Rattle.fa_tree.proofs.HolderLemmas.{names_few, same_counted}
 use Rattle.fa_tree.proofs.ViewLemmas.{names_put, shown_put, shown_stays, within_put}
@@ -16,6 +19,9 @@ invariant_of-self-in-Err c =
       c.self.invariant.0,
       same_counted names (held c.self.inside.holders) (held c.forget-in-Err.new.self)
           (λ of. c.forget-in-Err.ensures of ∙ c.forget.ensures of ∙ c.make_room_for.ensures.same of) c.self.invariant.1,
+      subst (λ slots. AreOldPlaces slots c.insert_free.new.self.members.table.entries c.self.inside.openings) c.in-Err.ensures.unchanged
+          (opened_alike c.self.inside.slots.table.entries c.insert_free.new.self.table.entries c.self.inside.slots.members.table.entries c.insert_free.new.self.members.table.entries c.self.inside.openings
+          c.in-Err.ensures.kept (λ q. ap (λ slots. slot_at slots q) c.in-Err.ensures.unchanged) c.self.invariant.2),
     )
 
 pub put-requires-clause-counted : goal.put-requires-clause-counted
@@ -41,6 +47,8 @@ invariant_of-self-in-Ok c =
       subst (λ names. AreCounted names (held c.put.new.self)) (sym (names_put old new c.args.directory c.args.name.now c.args.file c.len-born.result c.in-Ok.ensures.put))
           (c.put.ensures.counted names c.args.name.now (ap (λ n. get n.names (c.args.directory, c.args.name.now)) c.self.view_is ∙ c.requires)
           (same_counted names (held c.self.inside.holders) (held c.make_room_for.new.self) c.make_room_for.ensures.same c.self.invariant.1)),
+      opened_kept old new c.self.inside.slots.members.table.entries c.insert_free.new.self.members.table.entries (c.args.directory, c.args.name.now) (λ _. Some (There c.args.file c.len-born.result)) c.in-Ok.ensures.places c.in-Ok.ensures.put c.self.inside.openings
+          (λ at less slot. born_later at c.len-born.result c.args.file (let count = c.len-born.ensures in omega (arith, less, count))) c.self.invariant.2,
     )
 
 pub returns-in-Ok-clause-added : goal.returns-in-Ok-clause-added

@@ -1,4 +1,4 @@
-use Rattle.std.proofs.Common.{◌≡◌, ◌∷◌, [], Bool, true, false, refl, sym, ap, subst, ◌∙◌, arith}
+use Rattle.std.proofs.Common.{◌≡◌, ℕ, ◌<◌, ◌∷◌, [], Bool, true, false, length, refl, sym, ap, subst, ◌∙◌, inl, arith}
 use Rattle.std.specs.Prelude.{not}
 use Rattle.std.specs.FinMap.{get}
 use Rattle.fa_tree.specs.Edits.Edit.{Added, Removed}
@@ -6,6 +6,7 @@ use Rattle.fa_tree.specs.parts.FileIdLaws.{file_ties}
 use Rattle.fa_tree.specs.parts.NameParts.{edited}
 use Rattle.fa_tree.specs.parts.SlotParts.{names_shown}
 use Rattle.fa_tree.specs.parts.HolderParts.{held, AreCounted}
+use Rattle.fa_tree.proofs.BirthLemmas.{put_again, opened_kept}
 use Rattle.fa_tree.proofs.EditedLemmas.{edited_exchanged, edited_of_one}
 use Rattle.fa_tree.proofs.ExchangeLemmas.{after_put, also_there, names_exchanged, shown_exchanged, within_exchanged}
 use Rattle.fa_tree.proofs.HolderLemmas.{some_links, some_inside, known_links, known_inside, names_few, put_few}
@@ -78,12 +79,20 @@ invariant_of-self c =
     let also = ap (λ n. get n.names (c.args.new_directory, c.args.new_name.now)) c.self.view_is ∙ c.requires.also in
     let between = after_put names (c.args.old_directory, c.args.old_name.now) c.args.other in (
       within_exchanged c.self.inside.slots.table.entries c.replace.new.self.table.entries c.replace-then-ne.new.self.table.entries c.args.old_directory c.args.old_name.now c.args.new_directory c.args.new_name.now c.args.file c.args.other c.len-born.result
-          there also c.replace.ensures c.replace-then-ne.ensures _ c.len-born.ensures c.self.invariant.0,
+          there also c.replace.ensures.put c.replace-then-ne.ensures.put _ c.len-born.ensures c.self.invariant.0,
       subst (λ names. AreCounted names (held c.put-then-ne.new.self))
           (sym (names_exchanged c.self.inside.slots.table.entries c.replace.new.self.table.entries c.replace-then-ne.new.self.table.entries c.args.old_directory c.args.old_name.now c.args.new_directory c.args.new_name.now c.args.file c.args.other c.len-born.result
-          there also c.replace.ensures c.replace-then-ne.ensures))
+          there also c.replace.ensures.put c.replace-then-ne.ensures.put))
           (c.put-then-ne.ensures.counted between c.args.new_name.now (also_there names (c.args.old_directory, c.args.old_name.now) (c.args.new_directory, c.args.new_name.now) c.args.file c.args.other there also)
           (c.put.ensures.counted names c.args.old_name.now there c.self.invariant.1)),
+      (let old = c.self.inside.slots in
+          let between = c.replace.new.self in
+          let new = c.replace-then-ne.new.self in
+          let later : (at : ℕ) → at < length c.self.inside.openings → at < c.len-born.result = λ at less. (let count = c.len-born.ensures in omega (arith, less, count)) in
+          opened_kept between.table.entries new.table.entries between.members.table.entries new.members.table.entries (c.args.new_directory, c.args.new_name.now) _ (inl c.replace-then-ne.ensures.places) c.replace-then-ne.ensures.put
+          c.self.inside.openings (λ at less slot. put_again at c.len-born.result c.args.file (later at less) slot)
+          (opened_kept old.table.entries between.table.entries old.members.table.entries between.members.table.entries (c.args.old_directory, c.args.old_name.now) _ (inl c.replace.ensures.places) c.replace.ensures.put
+          c.self.inside.openings (λ at less slot. put_again at c.len-born.result c.args.other (later at less) slot) c.self.invariant.2)),
     )
 
 pub returns-then-ne : goal.returns-then-ne
@@ -91,7 +100,7 @@ returns-then-ne c =
     let there = ap (λ n. get n.names (c.args.old_directory, c.args.old_name.now)) c.self.view_is ∙ c.requires.there in
     let also = ap (λ n. get n.names (c.args.new_directory, c.args.new_name.now)) c.self.view_is ∙ c.requires.also in
     shown_exchanged c.self.inside.slots.table.entries c.replace.new.self.table.entries c.replace-then-ne.new.self.table.entries c.args.old_directory c.args.old_name.now c.args.new_directory c.args.new_name.now c.args.file c.args.other c.len-born.result
-    there also c.replace.ensures c.replace-then-ne.ensures
+    there also c.replace.ensures.put c.replace-then-ne.ensures.put
     c.self.inside.openings (sym c.len-born.ensures)
     ∙ ap (λ n. edited (Removed c.args.new_directory c.args.new_name.now ∷ Added c.args.new_directory c.args.new_name.now c.args.file ∷ []) (edited (Removed c.args.old_directory c.args.old_name.now ∷ Added c.args.old_directory c.args.old_name.now c.args.other ∷ []) n)) c.self.view_is
     ∙ edited_exchanged c.args.self.now c.args.old_directory c.args.old_name.now c.args.new_directory c.args.new_name.now c.args.file c.args.other (file_ties c.args.other c.args.file ∙ differs _ c.if-ne.ensures)

@@ -1,9 +1,10 @@
-use Rattle.std.proofs.Common.{◌∷◌, [], ap, subst, sym, ◌∙◌, arith}
+use Rattle.std.proofs.Common.{◌∷◌, [], ap, subst, sym, ◌∙◌, inl, arith}
 use Rattle.fa_tree.specs.Edits.Edit.{Removed}
 use Rattle.fa_tree.specs.parts.NameParts.{edited}
 use Rattle.fa_tree.specs.parts.PlaceLaws.{place_cmp_total, places_apart}
 use Rattle.fa_tree.specs.parts.SlotParts.{names_shown}
 use Rattle.fa_tree.specs.parts.HolderParts.{held, AreCounted}
+use Rattle.fa_tree.proofs.BirthLemmas.{gone_since, opened_kept}
 use Rattle.fa_tree.proofs.EditedLemmas.{remove_none}
 use Rattle.fa_tree.proofs.HolderLemmas.{same_counted}
 use Rattle.fa_tree.proofs.ViewLemmas.{names_removed, shown_removed, within_removed}
@@ -26,6 +27,8 @@ invariant_of-self c =
           (subst (λ names. AreCounted names (held c.remove.new.self)) (sym (names_removed old new c.args.directory c.args.name.now c.len-at.result c.remove-old.ensures.gone))
           (c.remove.ensures.counted (names_shown old) c.args.name.now
           (sym c.remove-old.ensures.file ∙ c.in-Some.is) c.self.invariant.1)),
+      opened_kept old new c.self.inside.slots.members.table.entries c.remove-old.new.self.members.table.entries (c.args.directory, c.args.name.now) _ (inl c.remove-old.ensures.places) c.remove-old.ensures.gone c.self.inside.openings
+          (λ at less slot. gone_since at c.len-at.result slot) c.self.invariant.2,
     )
 
 pub invariant_of-self-in-None : goal.invariant_of-self-in-None
@@ -38,6 +41,8 @@ invariant_of-self-in-None c =
           ∙ remove_none place_cmp_total places_apart (names_shown old) (c.args.directory, c.args.name.now)
           (sym c.remove-old.ensures.file ∙ c.in-None.is)))
           c.self.invariant.1,
+      opened_kept old new c.self.inside.slots.members.table.entries c.remove-old.new.self.members.table.entries (c.args.directory, c.args.name.now) _ (inl c.remove-old.ensures.places) c.remove-old.ensures.gone c.self.inside.openings
+          (λ at less slot. gone_since at c.len-at.result slot) c.self.invariant.2,
     )
 
 pub returns-in-Some-clause-gone : goal.returns-in-Some-clause-gone

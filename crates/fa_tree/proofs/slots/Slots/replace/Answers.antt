@@ -8,16 +8,16 @@ use Rattle.fa_tree.specs.parts.SlotParts.{slot_at, AreAllThere}
 use Rattle.fa_tree.proofs.SlotLemmas.{after_write, changed_at, keys_same, unchanged_at, all_there_put}
 use Rattle.fa_tree.proofs.slots.Slots.replace.Goals as goal
 
-pub returns-in-Some : goal.returns-in-Some
-returns-in-Some c = λ q.
+pub returns-in-Some-clause-put : goal.returns-in-Some-clause-put
+returns-in-Some-clause-put c = λ q.
     let place : state.Place = (c.args.directory, c.args.name.now) in
     let old = c.args.self.now.table.entries in
     let wrote = (c.get_mut.follows.holds (There c.args.file c.args.born)).3 (ap is_some (sym c.in-Some.ensures.value)) in
     after_write _ keys_same place _ (λ k. refl) old (c.get_mut.follows.lender (There c.args.file c.args.born)).entries (Some (There c.args.file c.args.born)) wrote.1 wrote.3 q
     ∙ changed_at old place q (option_map (λ _. (There c.args.file c.args.born))) _ (ap (option_map (λ _. (There c.args.file c.args.born))) c.in-Some.ensures.value)
 
-pub returns-in-None : goal.returns-in-None
-returns-in-None c = λ q.
+pub returns-in-None-clause-put : goal.returns-in-None-clause-put
+returns-in-None-clause-put c = λ q.
     let place : state.Place = (c.args.directory, c.args.name.now) in
     let old = c.args.self.now.table.entries in
     ap (λ table. slot_at table.entries q) c.get_mut.follows.holds-at-none

@@ -2,7 +2,7 @@ use Rattle.std.proofs.Common.{rules, tests, ◌≡◌, true}
 use Rattle.std.specs.Prelude.{is_some}
 use Rattle.fa_tree.specs.parts.FileIdLaws.{same_equal}
 use Rattle.fa_tree.proofs.StayedLemmas.{stayed_there}
-use Rattle.fa_tree.proofs.open.OpenNames.name_stayed.Goals as goal
+use Rattle.fa_tree.proofs.open_names.OpenNames.name_stayed.Goals as goal
 
 pub returns-then-is_some-clause-stayed : goal.returns-then-is_some-clause-stayed
 returns-then-is_some-clause-stayed c =

@@ -1,7 +1,7 @@
 use Rattle.std.proofs.Common.{rules, tests}
 use Rattle.fa_tree.specs.parts.OpenParts.{open_of}
 use Rattle.fa_tree.proofs.OrderlyLemmas.{twice_or_not}
-use Rattle.fa_tree.proofs.open.OpenNames.none_twice.Goals as goal
+use Rattle.fa_tree.proofs.open_names.OpenNames.none_twice.Goals as goal
 
 pub returns : goal.returns
 returns c = λ times are.

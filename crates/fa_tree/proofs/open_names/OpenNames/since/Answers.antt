@@ -2,7 +2,7 @@ use Rattle.std.proofs.Common.{false, sym, ap, ◌∙◌}
 use Rattle.std.specs.Option.{option_map_or, option_and_then}
 use Rattle.fa_tree.specs.parts.NameViews.{was_since, has_stayed}
 use Rattle.fa_tree.proofs.NameLemmas.{contains-since_shown, get-stayed_shown}
-use Rattle.fa_tree.proofs.open.OpenNames.since.Goals as goal
+use Rattle.fa_tree.proofs.open_names.OpenNames.since.Goals as goal
 
 pub returns-in-Some-clause-had : goal.returns-in-Some-clause-had
 returns-in-Some-clause-had c =

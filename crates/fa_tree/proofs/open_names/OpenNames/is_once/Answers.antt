@@ -3,7 +3,7 @@ use Rattle.fa_bodies.specs.Listing.{entries_left}
 use Rattle.fa_tree.specs.Directories.{times_listed}
 use Rattle.fa_tree.specs.parts.OpenParts.{open_of}
 use Rattle.fa_tree.proofs.OrderlyLemmas.{listed_before, once_so}
-use Rattle.fa_tree.proofs.open.OpenNames.is_once.Goals as goal
+use Rattle.fa_tree.proofs.open_names.OpenNames.is_once.Goals as goal
 
 pub returns-then-not-all_first : goal.returns-then-not-all_first
 returns-then-not-all_first c = λ times are.

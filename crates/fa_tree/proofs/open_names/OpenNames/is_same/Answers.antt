@@ -1,8 +1,8 @@
 use Rattle.std.proofs.Common.{◌≡◌, true, false, sym, ◌∙◌, rules, tests}
 use Rattle.fa_tree.specs.parts.FileIdLaws.{same_equal}
 use Rattle.fa_tree.proofs.SameLemmas.{open_same}
-use Rattle.fa_tree.proofs.open.OpenNames.is_same.Goals as goal
-use Rattle.fa_tree.proofs.open.OpenNames.is_same.Goals.{then-eq, else-eq}
+use Rattle.fa_tree.proofs.open_names.OpenNames.is_same.Goals as goal
+use Rattle.fa_tree.proofs.open_names.OpenNames.is_same.Goals.{then-eq, else-eq}
 
 pub returns-then-is_within : goal.returns-then-is_within
 returns-then-is_within c = λ is.

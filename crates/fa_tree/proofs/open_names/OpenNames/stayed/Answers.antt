@@ -2,7 +2,7 @@ use Rattle.std.proofs.Common.{sym, ap, ◌∙◌}
 use Rattle.std.specs.Option.{option_and_then}
 use Rattle.fa_tree.specs.parts.NameViews.{has_stayed}
 use Rattle.fa_tree.proofs.NameLemmas.{get-stayed_shown}
-use Rattle.fa_tree.proofs.open.OpenNames.stayed.Goals as goal
+use Rattle.fa_tree.proofs.open_names.OpenNames.stayed.Goals as goal
 
 pub returns-in_err-get : goal.returns-in_err-get
 returns-in_err-get c =

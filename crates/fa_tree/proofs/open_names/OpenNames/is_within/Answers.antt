@@ -9,7 +9,7 @@ use Rattle.fa_tree.specs.parts.OpenParts.{open_of}
 use Rattle.fa_tree.specs.parts.SameParts.{IsSlotWithin}
 use Rattle.fa_tree.proofs.SameLemmas.{walked, known_in}
 use Rattle.fa_tree.proofs.StayedLemmas.{walked_holds}
-use Rattle.fa_tree.proofs.open.OpenNames.is_within.Goals as goal
+use Rattle.fa_tree.proofs.open_names.OpenNames.is_within.Goals as goal
 
 pub returns : goal.returns
 returns c = λ is.

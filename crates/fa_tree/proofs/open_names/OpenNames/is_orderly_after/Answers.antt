@@ -3,7 +3,7 @@ use Rattle.fa_tree.specs.Directories.{times_listed}
 use Rattle.fa_tree.specs.parts.OpenParts.{open_of}
 use Rattle.fa_tree.proofs.ListingStepLemmas.{each_ok}
 use Rattle.fa_tree.proofs.OrderlyLemmas.{not_whole, whole_and_once}
-use Rattle.fa_tree.proofs.open.OpenNames.is_orderly_after.Goals as goal
+use Rattle.fa_tree.proofs.open_names.OpenNames.is_orderly_after.Goals as goal
 
 pub returns-then-not-is_whole : goal.returns-then-not-is_whole
 returns-then-not-is_whole c = λ listed are.
