@@ -19,7 +19,7 @@
 #   125  the recording is none of the whole session: a line says why
 #   8    the suite failed, or did not end in its time
 # or, before anything is judged
-#   4    the command line is none
+#   4    the command line is none, or there is no auditor
 #   125  there was no mount
 set -eu
 
@@ -51,6 +51,10 @@ shift 3
 
 kigzelt="${KIGZELT:-$(dirname "$0")/../..}"
 audit="${FA_AUDIT:-fa_audit}"
+if ! command -v "$audit" > /dev/null; then
+    echo "there is no auditor: FA_AUDIT is $audit" >&2
+    exit 4
+fi
 make -s -C "$kigzelt/recorder"
 mkdir -p "$out"
 rm -f "$out/verdict" "$out/report.html" "$out/suite.said"
@@ -129,7 +133,7 @@ set -- --steps "$steps" --capture "$capture"
 status=0
 "$audit" judge "$@" > "$out/verdict" || status=$?
 cat "$out/verdict"
-if [ "$status" -ne 0 ]; then "$audit" report "$@" > "$out/report.html" || true; fi
+case "$status" in 1 | 6 | 7) "$audit" report "$@" > "$out/report.html" || true ;; esac
 if [ "$status" -eq 7 ] && [ -z "$strict" ]; then
     echo "the auditor gave up: this says nothing for the server, and nothing against it" >&2
     status=0
