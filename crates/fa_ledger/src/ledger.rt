@@ -86,6 +86,7 @@ impl<'a> Ledger<'a> {
     ///   open; for a reply `NODE_ID_NOT_ALLOWED` where it gives the root, or 0 where that does not say that there is no node.
     /// - [`LedgerError::Memory`] where memory was refused for one more call, node or key, or for what a listing leaves,
     ///   the names of its nodes and its offsets. The message keeps the rules, and its event may be handed in again.
+    ///   What was made room for it stays: at most what it takes then.
     ///
     /// # Cost
     ///

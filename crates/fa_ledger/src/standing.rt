@@ -62,6 +62,7 @@ impl Standing {
     ///   `FORGOTTEN_TOO_OFTEN` or `CLOSED_HANDLE` for a request, `NODE_ID_NOT_ALLOWED` for a reply.
     /// - [`LedgerError::Memory`] where memory was refused for one more OPEN or OPENDIR that waits, for one more node or key, or
     ///   for the names of the nodes of a listing. The message keeps the rules, and its event may be handed in again.
+    ///   What was made room for it stays: at most what it takes then.
     ///
     /// # Cost
     ///

@@ -1,6 +1,6 @@
 //! How much a search may take.
 
-ghost use Rattle.std.specs.Prelude.{◌≡◌, IfErr};
+ghost use Rattle.std.specs.Prelude.{◌≡◌, ◌+◌, ◌<◌, ◌≤◌, ◌⊎◌, IfErr, OnOk, OnErr};
 ghost use Rattle.fa_search.specs.declared.budget.Halt.TheVariants.{Spent};
 
 use std::alloc::AllocError;
@@ -58,18 +58,26 @@ pub(crate) struct Spending {
 
 impl Spending {
     /// All of it.
-    pub fn new(budget: Budget) -> Self {
+    pub fn new(budget: Budget) -> Self
+        ensures { result.left ≡ budget }
+    {
         Spending { left: budget }
     }
 
     /// How many steps are left.
-    pub fn steps_left(&self) -> u64 {
+    pub fn steps_left(&self) -> u64
+        ensures { result ≡ self.now.left.steps }
+    {
         self.left.steps
     }
 
-    /// Spends so many steps.
+    /// Spends so many steps, if as many are left.
     pub fn spend(&mut self, steps: u64) -> Result<(), Halt>
-        ensures { IfErr result (λ halt. halt ≡ Spent) }
+        ensures halt { IfErr result (λ halt. halt ≡ Spent) }
+        ensures spent { OnOk result (self.new.left.steps + steps ≡ self.old.left.steps) }
+        ensures short { OnErr result (self.old.left.steps < steps) }
+        ensures trees { self.new.left.trees ≡ self.old.left.trees }
+        ensures bytes { self.new.left.bytes ≡ self.old.left.bytes }
     {
         if self.left.steps < steps {
             return Err(Halt::Spent);
@@ -80,7 +88,10 @@ impl Spending {
 
     /// Whether so many trees may be held in two lists, with so many bytes. Holds nothing.
     pub fn hold(&self, work: usize, settled: usize, bytes: u64) -> Result<(), Halt>
-        ensures { IfErr result (λ halt. halt ≡ Spent) }
+        ensures halt { IfErr result (λ halt. halt ≡ Spent) }
+        ensures trees { OnOk result (self.now.left.trees < 18446744073709551615 → work + settled ≤ self.now.left.trees) }
+        ensures bytes { OnOk result (bytes ≤ self.now.left.bytes) }
+        ensures over { OnErr result ((self.now.left.trees < work + settled) ⊎ (self.now.left.bytes < bytes)) }
     {
         if self.left.trees < work.saturating_add(settled) || self.left.bytes < bytes {
             return Err(Halt::Spent);

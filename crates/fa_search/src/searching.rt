@@ -252,6 +252,7 @@ impl<'c> Progress<'c> {
         ensures flight { IfOk result (λ progress. IsFlight calls.now.list progress.flight) }
         ensures some { IfOk result (λ progress. 0 < length progress.held.items) }
         ensures first { IfOk result (λ progress. progress.flight.at ≡ 0) }
+        ensures budget { IfOk result (λ progress. progress.tries.spending.left ≡ budget) }
         ensures searching { IfOk result (λ progress. (c : List Message) → AreMessagesOf calls.now c → IsSearching c tree progress) }
     {
         let seed = tree.seed();

@@ -1,6 +1,6 @@
 //! What a search does where a reply comes: its request is placed, and others before it.
 
-ghost use Rattle.std.specs.Prelude.{◌≡◌, ◌+◌, ◌<◌, ◌≤◌, ◌++◌, ◌∷◌, [], ℕ, List, length, slice_get, Some, None, Contains, IsTrue, IfOk, IfErr, IsErrOf, OnOk};
+ghost use Rattle.std.specs.Prelude.{◌≡◌, ◌+◌, ◌<◌, ◌≤◌, ◌++◌, ◌∷◌, [], ℕ, List, length, slice_get, Some, None, Contains, IsTrue, IfOk, IfErr, IsErrOf, OnOk, if◌then◌else◌};
 ghost use Rattle.std.specs.Map.{values_of};
 ghost use Rattle.fa_capture.specs.Message.{Message};
 ghost use Rattle.fa_tree.specs.Alike.{IsInUse};
@@ -139,7 +139,8 @@ fn settle_one(
 
 /// Spends a step where there is a choice.
 fn spend_at_choice(spending: &mut Spending, choice: bool) -> Result<(), Halt>
-    ensures { IfErr result (λ halt. (halt ≡ Spent) × IsTrue choice) }
+    ensures halt { IfErr result (λ halt. (halt ≡ Spent) × IsTrue choice) }
+    ensures spent { OnOk result (spending.new.left.steps + (if choice then 1 else 0) ≡ spending.old.left.steps) }
 {
     if !choice {
         return Ok(());

@@ -97,7 +97,7 @@ impl<'a> Session<'a> {
     ///   IOCTL, FALLOCATE, COPY_FILE_RANGE or a RENAME2 with flags that are not judged, and `OPEN_WITHOUT_HANDLE` for
     ///   ENOSYS to OPEN or OPENDIR.
     /// - [`SessionError::Memory`] where memory for one more outstanding request was refused. The message is allowed, and
-    ///   may be handed in again.
+    ///   may be handed in again. What was made room for it stays: at most what it takes then.
     ///
     /// # Cost
     ///

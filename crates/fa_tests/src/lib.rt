@@ -12,6 +12,8 @@ mod first;
 #[cfg(test)]
 mod generations;
 #[cfg(test)]
+mod held;
+#[cfg(test)]
 mod ledgers;
 #[cfg(test)]
 mod listings;

@@ -93,7 +93,7 @@ const LARGE: usize = 1 << 20;
 const MARK: usize = 1_000_003;
 
 /// Marks this moment: whether memory was there.
-fn mark(alloc: Global) -> bool {
+pub(crate) fn mark(alloc: Global) -> bool {
     let bytes: Result<Vec<u8>, _> = Vec::with_capacity(alloc, MARK);
     bytes.is_ok()
 }

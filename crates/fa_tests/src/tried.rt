@@ -93,7 +93,7 @@ impl<'a> Tried<'a> {
     }
 
     /// Hands in a message: what the session tells of it.
-    fn hand_in(&mut self, packet: &Packet<'a>) -> Seen
+    pub fn hand_in(&mut self, packet: &Packet<'a>) -> Seen
         requires { ShowsAtMost self.old.taken self.old.session }
         ensures { ShowsAtMost self.new.taken self.new.session }
     {

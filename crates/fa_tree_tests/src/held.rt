@@ -1,4 +1,4 @@
-//! A WRITE and a copy to which memory is refused, between two marks for `bench/held`, which counts the bytes that are held at each.
+//! Calls of a tree to which memory is refused, between two marks for `bench/held`, which counts the bytes that are held at each.
 
 use crate::steps::{MEMORY, step};
 use crate::trees::empty_tree;
@@ -7,9 +7,9 @@ use fa_ledger::Calls;
 use fa_sample::Sample;
 use fa_tests::messages::begun;
 use fa_tests::paired::calls_in;
-use fa_tests::sent::Sent::{Create, Created};
+use fa_tests::sent::Sent::{self, Create, Created, Directory, Mkdir, Opendir, Opened};
 use fa_tests::sent::{CREAT, with_all};
-use fa_tree::Tree;
+use fa_tree::{FileId, Kind, StepError, Tree};
 use std::alloc::Global;
 use std::process::Abort;
 
@@ -34,14 +34,32 @@ fn created_and_written(alloc: Global, offset: u64, payload: &[u8]) -> Sample {
     created.write(4, 2, 1, offset, payload).written(4, WRITTEN)
 }
 
-/// Whether the CREATE steps, and between two marks the WRITE, which is taken again behind them where memory was refused.
-fn writes_again(alloc: Global, tree: &mut Tree, calls: &Calls<'_>) -> bool {
-    let is_made = step(tree, calls, 2) == 0;
+/// Whether a call steps between two marks, and again behind them where memory was refused.
+fn steps_again(alloc: Global, tree: &mut Tree, calls: &Calls<'_>, at: u32) -> bool {
     let is_begun = mark(alloc);
-    let told = step(tree, calls, 4);
+    let told = step(tree, calls, at);
     let is_ended = mark(alloc);
-    let is_written = told == 0 || told == MEMORY && step(tree, calls, 4) == 0;
-    is_made && is_begun && is_ended && is_written
+    let is_stepped = told == 0 || told == MEMORY && step(tree, calls, at) == 0;
+    is_begun && is_ended && is_stepped
+}
+
+/// Whether the CREATE steps, and between two marks the WRITE.
+fn writes_again(alloc: Global, tree: &mut Tree, calls: &Calls<'_>) -> bool {
+    step(tree, calls, 2) == 0 && steps_again(alloc, tree, calls, 4)
+}
+
+/// Whether a file without bytes is added between two marks, and again behind them where memory was refused.
+fn adds_again(alloc: Global, tree: &mut Tree) -> bool {
+    let is_begun = mark(alloc);
+    let added = tree.add(FileId::Root, b"a", Kind::Regular, 0o644, b"");
+    let is_ended = mark(alloc);
+    let is_added = match added {
+        Err(StepError::Memory) => tree
+            .add(FileId::Root, b"a", Kind::Regular, 0o644, b"")
+            .is_ok(),
+        added => added.is_ok(),
+    };
+    is_begun && is_ended && is_added
 }
 
 /// Whether the CREATE and the WRITE step, and between two marks a copy is made of the tree behind them. It is made again where memory was
@@ -86,6 +104,39 @@ fn is_copied(rt: &impl Abort, alloc: Global) -> bool {
     drop(tree);
     drop(calls);
     is_copied
+}
+
+/// Whether the first of these messages, the message 2, steps on an empty tree between two marks.
+fn is_stepped(rt: &impl Abort, alloc: Global, messages: &[Sent]) -> bool {
+    let bytes = with_all(begun(alloc, (0, 0)), messages)
+        .capture()
+        .expect(rt, "memory");
+    let calls = calls_in(alloc, &bytes).expect(rt, "good calls, and memory");
+    let mut tree = empty_tree(rt, alloc);
+    let is_stepped = steps_again(alloc, &mut tree, &calls, 2);
+    drop(tree);
+    drop(calls);
+    is_stepped
+}
+
+/// A file, a parent, counts of both, a name, its place, and a node.
+#[test]
+fn a_directory_between_two_marks(rt: HostRuntime) {
+    assert!(rt; is_stepped(&rt, rt.alloc(), &[Mkdir(2, ROOT), Directory(2, 2)]));
+}
+
+#[test]
+fn an_opening_between_two_marks(rt: HostRuntime) {
+    assert!(rt; is_stepped(&rt, rt.alloc(), &[Opendir(2, ROOT), Opened(2, 7, 0)]));
+}
+
+#[test]
+fn an_addition_between_two_marks(rt: HostRuntime) {
+    let alloc = rt.alloc();
+    let mut tree = empty_tree(&rt, alloc);
+    let is_added = adds_again(alloc, &mut tree);
+    drop(tree);
+    assert!(rt; is_added);
 }
 
 #[test]

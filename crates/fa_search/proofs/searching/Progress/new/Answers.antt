@@ -13,6 +13,7 @@ returns c =
       flight = c.in_ok-flight.ensures.flight;
       some = omega (arith, long);
       first = c.in_ok-flight.ensures.first;
+      budget = c.new-3.ensures;
       searching = λ m are. record {
         flight = subst (λ (calls : Calls). IsFlight calls.list c.in_ok-flight.flight) (sym c.new-2.ensures) c.in_ok-flight.ensures.flight;
         held = rw (c.new-4.ensures.items, c.in_ok-flight.ensures.first, items, c.first.ensures) (held_by_first m c.args.tree);
