@@ -1,6 +1,6 @@
 //! What is judged of a capture by a search of all its orders.
 
-ghost use Rattle.std.specs.Prelude.{◌≡◌, ◌≢◌, ◌≤◌, ◌↔◌, ◌⊎◌, ℕ, false, true, List, None, Err, length, IfOk, IfErr, IfSome, IsOk, OnOk, IsErrOf, string_bytes};
+ghost use Rattle.std.specs.Prelude.{◌≡◌, ◌≢◌, ◌≤◌, ◌↔◌, ◌⊎◌, ℕ, false, true, List, None, Ok, Err, length, IfOk, IfErr, IfSome, IsOk, OnOk, IsErrOf, string_bytes};
 ghost use Rattle.std.specs.Option.{option_copied};
 ghost use Rattle.std.specs.Io.KnownBytes.{IsAtEnd, Keeps};
 ghost use Rattle.fa_capture.specs.Message.{Message};
@@ -8,9 +8,11 @@ ghost use Rattle.fa_capture.specs.Captures.{IsCaptureOf};
 ghost use Rattle.fa_ledger.specs.Passing.{IsFirstFault};
 ghost use Rattle.fa_order.specs.declared.lines.TheConstants.{MAX_TEXT_BYTES};
 ghost use Rattle.fa_check.specs.Verdicts.{AreMessagesOf};
+ghost use Rattle.fa_search.specs.Searches.{IsEndless};
 ghost use Rattle.fa_audit.specs.Verdict.{IsTreeTextAtFault, ExactlyRefused};
 ghost use Rattle.fa_audit.specs.Line.{IsCoded, IsCodedJudgement, judgement_status};
 ghost use Rattle.fa_audit.specs.Run.{IfHandedIn, IsHandedIn, IsSomeRead, IsReadIfAny, IsUnread, FailedOrInterrupted, IsAtEndOrFault};
+ghost use Rattle.fa_audit.specs.declared.found.Judgement.TheVariants.{GaveUp};
 ghost use Rattle.fa_audit.specs.declared.running.TheConstants.{MAX_TEXT_INPUT_BYTES};
 ghost use Rattle.fa_audit.specs.Proposed.{IsStart, answer_of};
 ghost use Rattle.fa_audit.specs.Status.{status_number};
@@ -38,9 +40,10 @@ use std::alloc::{AllocError, Global};
 /// past which none goes.
 ///
 /// The capture is judged and the tree text is read as [`audit`](crate::audit) does it. All orders are searched, as
-/// [`search`](fa_search::search) does it within the budget, and what is told of one that is found is what [`check`](fa_check::check) tells. It gives up only where
-/// requests overlap and the order of [`proposal`](crate::proposal) is not legal. Where there is no order, the first messages alone are
-/// searched too, as [`search_order`](crate::search_order) does it. The tree text has at most 268,435,456 bytes.
+/// [`search`](fa_search::search) does it within the budget, and what is told of one that is found is what
+/// [`check`](fa_check::check) tells. It gives up only where requests overlap and the order of [`proposal`](crate::proposal) is not legal,
+/// and never with [`Budget::endless`]. Where there is no order, the first messages alone are searched too, as
+/// [`search_order`](crate::search_order) does it. The tree text has at most 268,435,456 bytes.
 ///
 /// # Errors
 ///
@@ -64,6 +67,7 @@ pub fn judge_capture(
     // It is answered exactly where the capture is good and a tree text that is handed in is in its grammar.
     ensures answer { IfOk result (IsJudged capture.now (option_copied tree.entry)) }
     ensures start { IsStart capture.now (option_copied tree.entry) → IsOk result ⊎ IsErrOf result StartError.Memory }
+    ensures decides { (at : ℕ) → IsEndless budget → result ≡ Ok (GaveUp at) → ⊥ }
 
     ensures fault { (at code : ℕ) → ExactlyRefused result StartError.Memory
         (StartError.Fault at code) (IsFirstFault capture.now at code) }
@@ -97,6 +101,7 @@ pub fn judged<L: Listener>(
     requires { IfSome (option_copied tree) (λ text. length text ≤ MAX_TEXT_BYTES) }
     ensures answer { IfOk result (λ judgement. (bytes : List ℕ) → IsCaptureOf bytes capture.now → IsJudged bytes (option_copied tree.entry) judgement) }
     ensures none { IfErr result (λ error. (bytes : List ℕ) → IsCaptureOf bytes capture.now → IsNoStart bytes (option_copied tree.entry) error) }
+    ensures decides { (at : ℕ) → IsEndless budget → result ≡ Ok (GaveUp at) → ⊥ }
 {
     match judged_whole(alloc, capture, tree, budget, listener)? {
         Judgement::NoOrder { at, code, .. } => {
@@ -118,6 +123,7 @@ fn judged_whole<L: Listener>(
     requires { IfSome (option_copied tree) (λ text. length text ≤ MAX_TEXT_BYTES) }
     ensures answer { IfOk result (λ judgement. (bytes : List ℕ) → IsCaptureOf bytes capture.now → IsJudged bytes (option_copied tree.entry) judgement) }
     ensures none { IfErr result (λ error. (bytes : List ℕ) → IsCaptureOf bytes capture.now → IsNoStart bytes (option_copied tree.entry) error) }
+    ensures decides { (at : ℕ) → IsEndless budget → result ≡ Ok (GaveUp at) → ⊥ }
 {
     let (calls, first) = start(alloc, capture, tree)?;
     Ok(decide(alloc, &calls, first, budget, listener)?)
@@ -131,7 +137,8 @@ fn decide<L: Listener>(
     budget: Budget,
     listener: &mut L,
 ) -> Result<Judgement, AllocError>
-    ensures { IfOk result (λ judgement. (c : List Message) → AreMessagesOf calls.now c → IsJudgedIn c first judgement) }
+    ensures judged { IfOk result (λ judgement. (c : List Message) → AreMessagesOf calls.now c → IsJudgedIn c first judgement) }
+    ensures decides { (at : ℕ) → IsEndless budget → result ≡ Ok (GaveUp at) → ⊥ }
 {
     match found_from(alloc, calls, first, budget, listener)? {
         Finding::Found { placed, left, .. } => Ok(Judgement::Legal {

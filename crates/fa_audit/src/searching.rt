@@ -1,6 +1,6 @@
 //! From the inputs of a search to the text of an order that is legal.
 
-ghost use Rattle.std.specs.Prelude.{◌≡◌, ◌≢◌, ◌≤◌, ◌↔◌, ◌⊎◌, ℕ, false, true, List, None, Err, length, IfOk, IfErr, IfSome, IsOk, OnOk, IsErrOf};
+ghost use Rattle.std.specs.Prelude.{◌≡◌, ◌≢◌, ◌≤◌, ◌↔◌, ◌⊎◌, ℕ, false, true, List, None, Ok, Err, length, IfOk, IfErr, IfSome, IsOk, OnOk, IsErrOf};
 ghost use Rattle.std.specs.Option.{option_copied};
 ghost use Rattle.std.specs.Io.KnownBytes.{IsAtEnd, Keeps};
 ghost use Rattle.fa_capture.specs.Message.{Message};
@@ -8,9 +8,12 @@ ghost use Rattle.fa_capture.specs.Captures.{IsCaptureOf};
 ghost use Rattle.fa_ledger.specs.Passing.{IsFirstFault};
 ghost use Rattle.fa_order.specs.declared.lines.TheConstants.{MAX_TEXT_BYTES};
 ghost use Rattle.fa_check.specs.Verdicts.{AreMessagesOf};
+ghost use Rattle.fa_search.specs.Searches.{IsEndless};
+ghost use Rattle.fa_search.specs.declared.finding.Finding.TheVariants as Finding;
 ghost use Rattle.fa_audit.specs.Verdict.{IsTreeTextAtFault, ExactlyRefused};
 ghost use Rattle.fa_audit.specs.Line.{IsCoded, IsCodedSearch};
 ghost use Rattle.fa_audit.specs.Run.{IfHandedIn, IsHandedIn, IsSomeRead, IsReadIfAny, IsUnread, FailedOrInterrupted, IsAtEndOrFault};
+ghost use Rattle.fa_audit.specs.declared.found.Searched.TheVariants.{GaveUp};
 ghost use Rattle.fa_audit.specs.declared.running.TheConstants.{MAX_TEXT_INPUT_BYTES};
 ghost use Rattle.fa_audit.specs.Proposed.{IsStart, answer_of};
 ghost use Rattle.fa_audit.specs.Searched.{IsSearched, IsSearchTold, IsSearchedFrom};
@@ -35,9 +38,9 @@ use std::alloc::{AllocError, Global};
 ///
 /// The capture is judged and the tree text is read as [`audit`](crate::audit) does it. All orders are searched, as
 /// [`search`](fa_search::search) does it within the budget. It gives up only where requests overlap and the order of
-/// [`proposal`](crate::proposal) is not legal. Where there is no order, the first messages alone are searched too: mostly twice, and
-/// 2 + 2 log₂(messages) times at most, each time with a tenth of the steps, at most 4,096 trees and 64 MiB. The tree text has at most
-/// 268,435,456 bytes.
+/// [`proposal`](crate::proposal) is not legal, and never with [`Budget::endless`]. Where there is no order, the first messages alone are
+/// searched too: mostly twice, and 2 + 2 log₂(messages) times at most, each time with a tenth of the steps, at most 4,096 trees and 64 MiB.
+/// The tree text has at most 268,435,456 bytes.
 ///
 /// # Errors
 ///
@@ -61,6 +64,7 @@ pub fn search_order(
     // It is answered exactly where the capture is good and a tree text that is handed in is in its grammar.
     ensures answer { IfOk result (IsSearched capture.now (option_copied tree.entry)) }
     ensures start { IsStart capture.now (option_copied tree.entry) → IsOk result ⊎ IsErrOf result StartError.Memory }
+    ensures decides { (at : ℕ) → IsEndless budget → result ≡ Ok (GaveUp at) → ⊥ }
 
     ensures fault { (at code : ℕ) → ExactlyRefused result StartError.Memory
         (StartError.Fault at code) (IsFirstFault capture.now at code) }
@@ -85,6 +89,7 @@ fn searched<L: Listener>(
     requires { IfSome (option_copied tree) (λ text. length text ≤ MAX_TEXT_BYTES) }
     ensures answer { IfOk result (λ searched. (bytes : List ℕ) → IsCaptureOf bytes capture.now → IsSearched bytes (option_copied tree.entry) searched) }
     ensures none { IfErr result (λ error. (bytes : List ℕ) → IsCaptureOf bytes capture.now → IsNoStart bytes (option_copied tree.entry) error) }
+    ensures decides { (at : ℕ) → IsEndless budget → result ≡ Ok (GaveUp at) → ⊥ }
 {
     match searched_whole(alloc, capture, tree, budget, listener)? {
         Searched::NoOrder { at, code, .. } => {
@@ -106,6 +111,7 @@ fn searched_whole<L: Listener>(
     requires { IfSome (option_copied tree) (λ text. length text ≤ MAX_TEXT_BYTES) }
     ensures answer { IfOk result (λ searched. (bytes : List ℕ) → IsCaptureOf bytes capture.now → IsSearched bytes (option_copied tree.entry) searched) }
     ensures none { IfErr result (λ error. (bytes : List ℕ) → IsCaptureOf bytes capture.now → IsNoStart bytes (option_copied tree.entry) error) }
+    ensures decides { (at : ℕ) → IsEndless budget → result ≡ Ok (GaveUp at) → ⊥ }
 {
     let (calls, first) = start(alloc, capture, tree)?;
     Ok(found_text(alloc, &calls, first, budget, listener)?)
@@ -119,7 +125,8 @@ pub(crate) fn found_from<L: Listener>(
     budget: Budget,
     listener: &mut L,
 ) -> Result<Finding, AllocError>
-    ensures { IfOk result (λ finding. (c : List Message) → AreMessagesOf calls.now c → IsFindingIn c first finding) }
+    ensures found { IfOk result (λ finding. (c : List Message) → AreMessagesOf calls.now c → IsFindingIn c first finding) }
+    ensures decides { (at : ℕ) → IsEndless budget → result ≡ Ok (Finding.GaveUp at) → ⊥ }
 {
     search(alloc, calls, first, budget, listener)
 }
@@ -132,7 +139,8 @@ fn found_text<L: Listener>(
     budget: Budget,
     listener: &mut L,
 ) -> Result<Searched, AllocError>
-    ensures { IfOk result (λ searched. (c : List Message) → AreMessagesOf calls.now c → IsSearchedIn c first searched) }
+    ensures searched { IfOk result (λ searched. (c : List Message) → AreMessagesOf calls.now c → IsSearchedIn c first searched) }
+    ensures decides { (at : ℕ) → IsEndless budget → result ≡ Ok (GaveUp at) → ⊥ }
 {
     match found_from(alloc, calls, first, budget, listener)? {
         Finding::Found { order, .. } => Ok(Searched::Order(write_order(alloc, &order)?)),

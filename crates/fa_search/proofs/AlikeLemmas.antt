@@ -1,24 +1,21 @@
 -- Trees that are alike, but for openings of no use from a message on: what goes on from one goes on from the other, to trees that are alike.
-use Rattle.std.proofs.Common.{◌≡◌, ℕ, ◌+◌, ◌<◌, List, [], ◌∷◌, Option, None, Some, refl, sym, ap, subst, ◌∙◌, inl, inr, arith}
+use Rattle.std.proofs.Common.{◌≡◌, ℕ, ◌+◌, List, [], ◌∷◌, refl, sym, ap, subst, ◌∙◌, inl, arith}
 use Rattle.std.specs.FinMap.{get}
-use Rattle.std.proofs.lemmas.Option.{same_Some}
 use Rattle.fa_capture.specs.Message.{Message}
 use Rattle.fa_bodies.specs.Dirents.{PlainDirent}
-use Rattle.fa_session.specs.Answers.{IsAnsweredBy}
 use Rattle.fa_ledger.specs.declared.name.NodeName.{NodeName}
 use Rattle.fa_ledger.specs.declared.name.NodeName.TheVariants.{Root, Given}
 use Rattle.fa_ledger.specs.Calls.{PlainCall}
-use Rattle.fa_tree.specs.declared.id.FileId.{FileId}
-use Rattle.fa_tree.specs.State.{TreeState, node_cmp, file_of}
+use Rattle.fa_tree.specs.State.{TreeState, file_of}
 use Rattle.fa_tree.specs.Alike.{AreAlike}
-use Rattle.fa_tree.proofs.CallerLemmas.{UsesKept, alike_self, alike_back, fails_alike, step_alike}
+use Rattle.fa_tree.proofs.CallerLemmas.{UsesKept, alike_self, fails_alike, step_alike}
 use Rattle.fa_order.specs.declared.entry.Entry.{Entry}
 use Rattle.fa_check.specs.Runs.{IsCallAt, EntrySteps}
 use Rattle.fa_check.specs.Faults.{StepFails}
 use Rattle.fa_check.specs.Cuts.{IsAnsweredBefore}
 use Rattle.fa_search.specs.Searches.{IsUsedFrom, MayBeNamed}
 use Rattle.fa_search.specs.parts.Going.{MayCome, OrThis, GoesOn}
-use Rattle.fa_search.specs.parts.Configurations.{IsAnsweredTree, IsKnown, KnowsAsMuch, LeavesFrom}
+use Rattle.fa_search.specs.parts.Configurations.{IsAnsweredTree, KnowsAsMuch, LeavesFrom}
 
 -- ---- trees
 

@@ -1,14 +1,12 @@
 -- What is placed in a configuration: behind a request that is placed, and behind one that was answered.
-use Rattle.std.proofs.Common.{◌≡◌, ◌↔◌, ℕ, ◌<◌, Bool, true, false, MatchBool, List, [], ◌∷◌, ◌++◌, length, get_or, refl, sym, ap, subst, ◌∙◌, inl, inr}
+use Rattle.std.proofs.Common.{◌≡◌, ◌↔◌, ℕ, Bool, true, false, List, [], ◌∷◌, ◌++◌, refl, sym, ap, subst, ◌∙◌, inl, inr}
 use Rattle.std.proofs.Common.{Ordering, Less, Equal, Greater}
 use Rattle.std.specs.Prelude.{Contains, IsTrue}
-use Rattle.std.specs.List.{HoldsAt, AllWithin}
 use Rattle.std.specs.Ordering.{is_eq, nat_cmp}
 use Rattle.std.specs.BTreeMap.{is_at}
 use Rattle.std.specs.BTreeSet.{BTreeSet, contains, Updates}
 use Rattle.std.proofs.lemmas.Bool.{cases_eq, true≢false}
 use Rattle.std.proofs.lemmas.Cmp.{nat_cmp_total}
-use Rattle.std.proofs.lemmas.List.Elements.{Contains-get_or}
 use Rattle.std.proofs.lemmas.Map.Lookups.{exact_unsigned}
 use Rattle.std.proofs.lemmas.Map.Views.{btree_set_contains_iff}
 use Rattle.fa_capture.specs.Checks.{FirstFailure}
@@ -25,7 +23,7 @@ use Rattle.fa_check.specs.Runs.{EntrySteps}
 use Rattle.fa_check.specs.Verdicts.{AreMessagesOf}
 use Rattle.fa_check.proofs.CallerLemmas.{call_of_message}
 use Rattle.fa_search.specs.parts.Configurations.{PlainConfiguration, IsOneMore, IsOneLess}
-use Rattle.fa_search.specs.parts.Placed.{MayBePlacedAt, IsPlacedIn, IsRefusedIn, IsSameAs}
+use Rattle.fa_search.specs.parts.Placed.{MayBePlacedAt, IsPlacedIn, IsRefusedIn}
 use Rattle.fa_search.proofs.TriedLemmas.{call_steps}
 
 -- ---- sets of numbers

@@ -1,5 +1,5 @@
 -- What may be tried, by the calls of the messages: which call an entry names, and where its step leads.
-use Rattle.std.proofs.Common.{◌≡◌, ◌⊎◌, ℕ, ◌<◌, List, [], Option, Some, refl, sym, subst, ◌∙◌, inl, inr, None}
+use Rattle.std.proofs.Common.{◌≡◌, ◌⊎◌, ℕ, ◌<◌, List, Option, Some, refl, sym, subst, inl, inr, None}
 use Rattle.std.specs.Prelude.{slice_get, Contains}
 use Rattle.fa_capture.specs.Checks.{FirstFailure}
 use Rattle.fa_capture.specs.Message.{Message}

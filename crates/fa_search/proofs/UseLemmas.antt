@@ -1,11 +1,7 @@
 -- Which openings of directories are of use, as a table tells that has the last answer to what lists on each.
-use Rattle.std.proofs.Common.{◌≡◌, ℕ, ◌+◌, ◌<◌, ◌≤◌, Bool, true, false, cond, List, [], ◌∷◌, Option, None, Some, refl, sym, ap, subst, ◌∙◌, inl, inr, arith}
+use Rattle.std.proofs.Common.{◌≡◌, ℕ, List, Option, None, Some, refl, subst, inl, inr, arith}
 use Rattle.std.specs.Prelude.{slice_get, option_map}
-use Rattle.std.specs.BTreeMap.{BTreeMap, is_at, Updates}
-use Rattle.std.specs.Cmp.{Equal-is}
-use Rattle.std.specs.FinMap.{nat_cmp-IsAntisymmetric}
-use Rattle.std.specs.Map.{lookup}
-use Rattle.std.specs.Ordering.{nat_cmp}
+use Rattle.std.specs.BTreeMap.{BTreeMap}
 use Rattle.std.proofs.lemmas.Bool.{cases_lt}
 use Rattle.std.proofs.lemmas.Option.{same_Some}
 use Rattle.fa_capture.specs.Message.{Message}
@@ -22,12 +18,9 @@ use Rattle.fa_ledger.specs.Choices.{AllowsBy}
 use Rattle.fa_ledger.specs.Kinds.{OnlyReads}
 use Rattle.fa_ledger.specs.Listings.{offset_asked, IsListingIfAny}
 use Rattle.fa_ledger.specs.Operations.{PlainOperation, dirents_in, came_to, operation_of}
-use Rattle.fa_ledger.specs.Operations.PlainAction.{Write}
-use Rattle.fa_ledger.specs.Operations.PlainOperation.{Lists, Acts}
+use Rattle.fa_ledger.specs.Operations.PlainOperation.{Lists}
 use Rattle.fa_ledger.proofs.CallerLemmas.{call_at, operation_made}
-use Rattle.fa_check.specs.Replays.{IsAnswerAt}
 use Rattle.fa_check.proofs.CallerLemmas.{tree_is_call, call_one, call_of_message, choice_allowed}
-use Rattle.fa_search.specs.Searches.{IsUsedFrom}
 use Rattle.fa_tree.specs.Alike.{IsLastFrom}
 use Rattle.fa_search.specs.parts.Flight.{IsUseNoted, AreLastUses, AreLater, CoversFrom}
 use Rattle.fa_search.proofs.FlightLemmas.{no_choice, answer_answers}

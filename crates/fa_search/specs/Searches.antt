@@ -1,5 +1,5 @@
 -- What a search of all orders finds: the message past which none goes where none is legal, and why; how far it came; and an order.
-use Rattle.std.specs.Prelude.{◌≡◌, ℕ, ◌+◌, ◌<◌, ◌≤◌, List, length, take, Contains, All, Option, None, Some}
+use Rattle.std.specs.Prelude.{◌≡◌, ℕ, ◌+◌, ◌-◌, ◌^◌, ◌<◌, ◌≤◌, List, length, take, Contains, All, Option, None, Some}
 use Rattle.std.specs.List.Sorted.{IsStrictlyIncreasing}
 use Rattle.fa_capture.specs.Message.{Message}
 use Rattle.fa_bodies.specs.Dirents.{PlainDirent}
@@ -15,6 +15,7 @@ use Rattle.fa_check.specs.Runs.{IsCallAt, HasOrder}
 use Rattle.fa_check.specs.Faults.{StepFails}
 use Rattle.fa_check.specs.Cuts.{IsAnsweredBefore, Explains}
 use Rattle.fa_check.specs.Verdicts.{IsLegalWith}
+use Rattle.fa_search.specs.declared.budget.Budget.{Budget}
 use Rattle.fa_search.specs.declared.coming.Alternatives.{Alternatives}
 use Rattle.fa_search.specs.declared.finding.Finding.{Finding}
 use Rattle.fa_search.specs.declared.finding.Finding.TheVariants.{Found}
@@ -122,6 +123,14 @@ pub record IsExplainedUpTo (c : List Message) (first : TreeState) (at : ℕ) : T
 -- one is sent.
 abbrev pub AreSerialBefore : List Message → (at : ℕ) → Type 0
 AreSerialBefore c at = (p later : ℕ) → MayBeNamed c p → MayBeNamed c later → p < later → later < at → (q : ℕ) × IsAnsweredBy c p q × (q < later)
+
+-- ---- how much it may take
+
+-- A budget without an end: as many steps, trees and bytes as can be counted. A search with it never gives up.
+pub record IsEndless (budget : Budget) : Type 0 where
+  pub steps : budget.steps ≡ 2 ^ 64 - 1
+  pub trees : budget.trees ≡ 2 ^ 64 - 1
+  pub bytes : budget.bytes ≡ 2 ^ 64 - 1
 
 -- ---- an order
 

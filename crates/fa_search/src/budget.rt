@@ -1,6 +1,7 @@
 //! How much a search may take.
 
-ghost use Rattle.std.specs.Prelude.{◌≡◌, ◌+◌, ◌<◌, ◌≤◌, ◌⊎◌, IfErr, OnOk, OnErr};
+ghost use Rattle.std.specs.Prelude.{◌≡◌, ◌+◌, ◌-◌, ◌<◌, ◌≤◌, ◌^◌, ◌⊎◌, min, IfErr, OnOk, OnErr};
+ghost use Rattle.fa_search.specs.Searches.{IsEndless};
 ghost use Rattle.fa_search.specs.declared.budget.Halt.TheVariants.{Spent};
 
 use std::alloc::AllocError;
@@ -17,6 +18,20 @@ pub struct Budget {
     /// How many bytes these may hold, as [`Tree::weight`](fa_tree::Tree::weight) reckons, with the orders that led to them. Where one request
     /// alone is in flight that is looked at behind some of the replies.
     pub bytes: u64,
+}
+
+impl Budget {
+    /// A budget without an end: a search that has it never gives up. It ends with an order, or with the message past which none goes, or for
+    /// want of memory.
+    pub fn endless() -> Self
+        ensures { IsEndless result }
+    {
+        Budget {
+            steps: u64::MAX,
+            trees: usize::MAX,
+            bytes: u64::MAX,
+        }
+    }
 }
 
 impl Default for Budget {
@@ -50,50 +65,56 @@ impl From<AllocError> for Halt {
     }
 }
 
-/// What is left of a budget.
+/// A budget, and what is spent of it.
 #[derive(Clone, Copy, Debug)]
 pub(crate) struct Spending {
-    left: Budget,
+    budget: Budget,
+    /// How many steps are spent; as many as a `u64` counts where there were more.
+    steps: u64,
 }
 
 impl Spending {
-    /// All of it.
+    /// Nothing is spent.
     pub fn new(budget: Budget) -> Self
-        ensures { result.left ≡ budget }
+        ensures budget { result.budget ≡ budget }
+        ensures steps { result.steps ≡ 0 }
     {
-        Spending { left: budget }
+        Spending { budget, steps: 0 }
     }
 
     /// How many steps are left.
     pub fn steps_left(&self) -> u64
-        ensures { result ≡ self.now.left.steps }
+        ensures { result ≡ self.now.budget.steps - self.now.steps }
     {
-        self.left.steps
+        self.budget.steps.saturating_sub(self.steps)
     }
 
-    /// Spends so many steps, if as many are left.
+    /// Spends so many steps, if as many are left: of as many as a `u64` counts there always are.
     pub fn spend(&mut self, steps: u64) -> Result<(), Halt>
         ensures halt { IfErr result (λ halt. halt ≡ Spent) }
-        ensures spent { OnOk result (self.new.left.steps + steps ≡ self.old.left.steps) }
-        ensures short { OnErr result (self.old.left.steps < steps) }
-        ensures trees { self.new.left.trees ≡ self.old.left.trees }
-        ensures bytes { self.new.left.bytes ≡ self.old.left.bytes }
+        ensures spent { OnOk result (self.new.steps ≡ min (self.old.steps + steps) (2 ^ 64 - 1)) }
+        ensures within { OnOk result (self.new.steps ≤ self.old.budget.steps) }
+        ensures short { OnErr result (self.old.budget.steps < min (self.old.steps + steps) (2 ^ 64 - 1)) }
+        ensures budget { self.new.budget ≡ self.old.budget }
+        ensures endless { OnErr result (IsEndless self.old.budget → ⊥) }
     {
-        if self.left.steps < steps {
+        let spent = self.steps.saturating_add(steps);
+        if self.budget.steps < spent {
             return Err(Halt::Spent);
         }
-        self.left.steps -= steps;
+        self.steps = spent;
         Ok(())
     }
 
     /// Whether so many trees may be held in two lists, with so many bytes. Holds nothing.
     pub fn hold(&self, work: usize, settled: usize, bytes: u64) -> Result<(), Halt>
         ensures halt { IfErr result (λ halt. halt ≡ Spent) }
-        ensures trees { OnOk result (self.now.left.trees < 18446744073709551615 → work + settled ≤ self.now.left.trees) }
-        ensures bytes { OnOk result (bytes ≤ self.now.left.bytes) }
-        ensures over { OnErr result ((self.now.left.trees < work + settled) ⊎ (self.now.left.bytes < bytes)) }
+        ensures trees { OnOk result (min (work + settled) (2 ^ 64 - 1) ≤ self.now.budget.trees) }
+        ensures bytes { OnOk result (bytes ≤ self.now.budget.bytes) }
+        ensures over { OnErr result ((self.now.budget.trees < min (work + settled) (2 ^ 64 - 1)) ⊎ (self.now.budget.bytes < bytes)) }
+        ensures endless { OnErr result (IsEndless self.now.budget → ⊥) }
     {
-        if self.left.trees < work.saturating_add(settled) || self.left.bytes < bytes {
+        if self.budget.trees < work.saturating_add(settled) || self.budget.bytes < bytes {
             return Err(Halt::Spent);
         }
         Ok(())

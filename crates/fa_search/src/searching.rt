@@ -1,6 +1,6 @@
 //! The search.
 
-ghost use Rattle.std.specs.Prelude.{◌≡◌, ◌+◌, ◌<◌, ◌≤◌, ◌++◌, ℕ, List, length, Contains, Ok, IfOk, IfSome, IsSomeAnd, IsNone, IsErrOf, OnOk};
+ghost use Rattle.std.specs.Prelude.{◌≡◌, ◌+◌, ◌<◌, ◌≤◌, ◌++◌, ℕ, List, length, Contains, Ok, Some, IfOk, IfSome, IsSomeAnd, IsNone, IsErrOf, OnOk};
 ghost use Rattle.fa_capture.specs.Message.{Message};
 ghost use Rattle.fa_tree.specs.Alike.{IsInUse};
 ghost use Rattle.fa_tree.specs.State.{TreeState};
@@ -9,7 +9,7 @@ ghost use Rattle.fa_check.specs.Runs.{IsLegalRun};
 ghost use Rattle.fa_check.specs.Replays.{IsAnswerAt};
 ghost use Rattle.fa_check.specs.Verdicts.{AreMessagesOf};
 ghost use Rattle.fa_propose.specs.Proposals.{IsProposal};
-ghost use Rattle.fa_search.specs.Searches.{IsStop, IsLeastCode, IsExplainedUpTo, AreSerialBefore, IfLegal, IsFound};
+ghost use Rattle.fa_search.specs.Searches.{IsStop, IsLeastCode, IsExplainedUpTo, AreSerialBefore, IfLegal, IsFound, IsEndless};
 ghost use Rattle.fa_search.specs.declared.budget.Halt.TheVariants.{Spent};
 ghost use Rattle.fa_search.specs.declared.finding.Finding.TheVariants.{NoOrder, GaveUp};
 ghost use Rattle.fa_search.specs.declared.searching.Ended.TheVariants.{Stop};
@@ -57,8 +57,8 @@ const STEPS_BETWEEN: u64 = 100_000;
 /// count of an unanswered WRITE tells, or what a directory had when it was opened, as long as a listing of it is to come. Errors are no such choice,
 /// nor is a request that only reads, opens no directory, and gives no node but such as are known: they are placed at once. For each tree it
 /// looks through the requests in flight, and through them once more for each that gives a node alone which no reply gave before, copies the
-/// tree where one of them steps, and looks through the tree once more. The budget ends it. The listener is told of it between two messages
-/// alone.
+/// tree where one of them steps, and looks through the tree once more. The budget ends it, but for [`Budget::endless`], which is never
+/// spent. The listener is told of it between two messages alone.
 pub fn search<L: Listener>(
     alloc: Global,
     calls: &Calls<'_>,
@@ -72,6 +72,7 @@ pub fn search<L: Listener>(
     ensures gave_up { (c : List Message) (at : ℕ) → AreMessagesOf calls.now c → result ≡ Ok (GaveUp at) → IsExplainedUpTo c tree at }
     ensures proposed { (c : List Message) (es : List TheEntry) → AreMessagesOf calls.now c → IsProposal c tree es → IsLegalRun c tree es → IfOk result (IsFound es) }
     ensures serial { (c : List Message) (at : ℕ) → AreMessagesOf calls.now c → AreSerialBefore c at → result ≡ Ok (GaveUp at) → ⊥ }
+    ensures decides { (at : ℕ) → IsEndless budget → result ≡ Ok (GaveUp at) → ⊥ }
 {
     let finding = search_from(alloc, calls, &tree, budget, listener);
     // It has many tables: they are proved to go in one place.
@@ -93,6 +94,7 @@ fn search_from<L: Listener>(
     ensures gave_up { (c : List Message) (at : ℕ) → AreMessagesOf calls.now c → result ≡ Ok (GaveUp at) → IsExplainedUpTo c tree.now at }
     ensures proposed { (c : List Message) (es : List TheEntry) → AreMessagesOf calls.now c → IsProposal c tree.now es → IsLegalRun c tree.now es → IfOk result (IsFound es) }
     ensures serial { (c : List Message) (at : ℕ) → AreMessagesOf calls.now c → AreSerialBefore c at → result ≡ Ok (GaveUp at) → ⊥ }
+    ensures decides { (at : ℕ) → IsEndless budget → result ≡ Ok (GaveUp at) → ⊥ }
 {
     match legal_proposal(alloc, calls, tree)? {
         Some(found) => Ok(found),
@@ -113,6 +115,7 @@ fn search_orders<L: Listener>(
     ensures code { (c : List Message) (at code : ℕ) → AreMessagesOf calls.now c → result ≡ Ok (NoOrder at code) → IsLeastCode c tree.now at code }
     ensures gave_up { (c : List Message) (at : ℕ) → AreMessagesOf calls.now c → result ≡ Ok (GaveUp at) → IsExplainedUpTo c tree.now at }
     ensures serial { (c : List Message) (at : ℕ) → AreMessagesOf calls.now c → AreSerialBefore c at → result ≡ Ok (GaveUp at) → ⊥ }
+    ensures decides { (at : ℕ) → IsEndless budget → result ≡ Ok (GaveUp at) → ⊥ }
 {
     match search_all(alloc, calls, tree.copy()?, budget, listener)? {
         Ended::Order(order) => legal(alloc, calls, tree.copy()?, order),
@@ -196,6 +199,7 @@ fn search_all<L: Listener>(
     ensures found { IfOk result (λ ended. (c : List Message) → AreMessagesOf calls.now c → IfOrder ended (IsLegalRun c tree)) }
     ensures none { (c : List Message) (at code : ℕ) → AreMessagesOf calls.now c → result ≡ Ok (Stop at code) → IsStop c tree at × IsLeastCode c tree at code }
     ensures gave_up { (c : List Message) (at : ℕ) → AreMessagesOf calls.now c → result ≡ Ok (Ended.Spent at) → IsExplainedUpTo c tree at × (AreSerialBefore c at → ⊥) }
+    ensures decides { (at : ℕ) → IsEndless budget → result ≡ Ok (Ended.Spent at) → ⊥ }
 {
     let mut progress = Progress::new(alloc, calls, tree, budget)?;
     let ended = progress.run(alloc, listener);
@@ -252,7 +256,7 @@ impl<'c> Progress<'c> {
         ensures flight { IfOk result (λ progress. IsFlight calls.now.list progress.flight) }
         ensures some { IfOk result (λ progress. 0 < length progress.held.items) }
         ensures first { IfOk result (λ progress. progress.flight.at ≡ 0) }
-        ensures budget { IfOk result (λ progress. progress.tries.spending.left ≡ budget) }
+        ensures budget { IfOk result (λ progress. progress.tries.spending.budget ≡ budget) }
         ensures searching { IfOk result (λ progress. (c : List Message) → AreMessagesOf calls.now c → IsSearching c tree progress) }
     {
         let seed = tree.seed();
@@ -282,6 +286,7 @@ impl<'c> Progress<'c> {
             IsStop c first at × IsLeastCode c first at code }
         ensures gave_up { (c : List Message) (first : TreeState) (at : ℕ) → AreMessagesOf self.old.tries.replay c → IsSearching c first self.old → result ≡ Ok (Ended.Spent at) →
             IsExplainedUpTo c first at × (AreSerialBefore c at → ⊥) }
+        ensures endless { (at : ℕ) → IsEndless self.old.tries.spending.budget → result ≡ Ok (Ended.Spent at) → ⊥ }
     {
         let messages = self.tries.replay.calls().messages;
         match self.pass_until(alloc, messages, listener)? {
@@ -309,6 +314,7 @@ impl<'c> Progress<'c> {
         ensures on { IfOk result (λ ended. IsNone ended → (c : List Message) (first : TreeState) → AreMessagesOf self.old.tries.replay c → IsSearching c first self.old →
             IsSearching c first self.new) }
         ensures same { IfOk result (λ ended. IsNone ended → self.new.tries.replay ≡ self.old.tries.replay) }
+        ensures endless { (at : ℕ) → IsEndless self.old.tries.spending.budget → result ≡ Ok (Some (Ended.Spent at)) → ⊥ }
     {
         let mut told = self.tries.spending.steps_left();
         while self.flight.at < until {
@@ -356,6 +362,8 @@ impl<'c> Progress<'c> {
         ensures spent { IsErrOf result Spent → (c : List Message) (first : TreeState) → AreMessagesOf self.old.tries.replay c → IsSearching c first self.old →
             IsExplainedUpTo c first self.old.flight.at × (AreSerialBefore c self.old.flight.at → ⊥) }
         ensures same { IfOk result (λ code. IsNone code → self.new.tries.replay ≡ self.old.tries.replay) }
+        ensures budget { IfOk result (λ code. IsNone code → self.new.tries.spending.budget ≡ self.old.tries.spending.budget) }
+        ensures endless { IsErrOf result Spent → IsEndless self.old.tries.spending.budget → ⊥ }
     {
         match self.flight.answered() {
             Some(asked) => self.pass_answer(alloc, asked),
@@ -385,6 +393,8 @@ impl<'c> Progress<'c> {
         ensures spent { IsErrOf result Spent → (c : List Message) (first : TreeState) → AreMessagesOf self.old.tries.replay c → IsSearching c first self.old →
             IsExplainedUpTo c first self.old.flight.at × (AreSerialBefore c self.old.flight.at → ⊥) }
         ensures same { IfOk result (λ code. IsNone code → self.new.tries.replay ≡ self.old.tries.replay) }
+        ensures budget { IfOk result (λ code. IsNone code → self.new.tries.spending.budget ≡ self.old.tries.spending.budget) }
+        ensures endless { IsErrOf result Spent → IsEndless self.old.tries.spending.budget → ⊥ }
     {
         let due = self.lull.goes_on(&asked, self.flight.is_alone(&asked));
         let held = mem::replace(&mut self.held, Vec::new(alloc));
@@ -442,6 +452,8 @@ pub(crate) fn merged_if_due(
     ensures merged { IfOk result (λ different. AreMerged (IsInUse in_use.now) held.items different.items) }
     ensures fewer { IfOk result (λ different. length different.items ≤ length held.items) }
     ensures spent { IsErrOf result Spent → 1 < length held.items }
+    ensures budget { spending.new.budget ≡ spending.old.budget }
+    ensures endless { IsErrOf result Spent → IsEndless spending.old.budget → ⊥ }
 {
     if !due || held.len() < 2 {
         return Ok(held);
@@ -458,6 +470,8 @@ fn merged(
 ) -> Result<Vec<Configuration>, Halt>
     ensures merged { IfOk result (λ different. AreMerged (IsInUse in_use.now) held.items different.items) }
     ensures fewer { IfOk result (λ different. length different.items ≤ length held.items) }
+    ensures budget { spending.new.budget ≡ spending.old.budget }
+    ensures endless { IsErrOf result Spent → IsEndless spending.old.budget → ⊥ }
 {
     let mut different = Vec::new(alloc);
     let mut known = Known::new(alloc);

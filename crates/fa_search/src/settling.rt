@@ -1,6 +1,6 @@
 //! What a search does where a reply comes: its request is placed, and others before it.
 
-ghost use Rattle.std.specs.Prelude.{◌≡◌, ◌+◌, ◌<◌, ◌≤◌, ◌++◌, ◌∷◌, [], ℕ, List, length, slice_get, Some, None, Contains, IsTrue, IfOk, IfErr, IsErrOf, OnOk, if◌then◌else◌};
+ghost use Rattle.std.specs.Prelude.{◌≡◌, ◌+◌, ◌-◌, ◌<◌, ◌≤◌, ◌^◌, min, ◌++◌, ◌∷◌, [], ℕ, List, length, slice_get, Some, None, Contains, IsTrue, IfOk, IfErr, IsErrOf, OnOk};
 ghost use Rattle.std.specs.Map.{values_of};
 ghost use Rattle.fa_capture.specs.Message.{Message};
 ghost use Rattle.fa_tree.specs.Alike.{IsInUse};
@@ -9,8 +9,8 @@ ghost use Rattle.fa_order.specs.declared.entry.Entry.{Entry as TheEntry};
 ghost use Rattle.fa_check.specs.Runs.{EntrySteps};
 ghost use Rattle.fa_check.specs.Verdicts.{AreMessagesOf};
 ghost use Rattle.fa_check.specs.Replays.{IsAnswerAt};
-ghost use Rattle.fa_search.specs.Searches.{IsRefusedFrom};
-ghost use Rattle.fa_search.specs.declared.budget.Halt.TheVariants.{Spent};
+ghost use Rattle.fa_search.specs.Searches.{IsRefusedFrom, IsEndless};
+ghost use Rattle.fa_search.specs.declared.budget.Halt.TheVariants.{Spent, Memory};
 ghost use Rattle.fa_search.specs.declared.flight.Pending.{Pending as ThePending};
 ghost use Rattle.fa_search.specs.parts.Configurations.{PlainConfiguration, IsCountUpTo, LeavesIfKnown, IsFollowed, IsSpent};
 ghost use Rattle.fa_search.specs.parts.Flight.{IsInFlight, IsFlight, IsAlone, IsGivenByPlaced, IsToldIdle};
@@ -75,6 +75,8 @@ pub(crate) fn settle(
     ensures fewer { IfOk result (λ settling. IsAlone flight.now asked.place → length settling.settled.items ≤ length held.items) }
     ensures spent { IsErrOf result Spent → IsAlone flight.now asked.place → 1 < length held.items }
     ensures same { tries.new.replay ≡ tries.old.replay }
+    ensures budget { tries.new.spending.budget ≡ tries.old.spending.budget }
+    ensures endless { IsErrOf result Spent → IsEndless tries.old.spending.budget → ⊥ }
 {
     if flight.is_alone(&asked) {
         return settle_alone(alloc, tries, held, asked);
@@ -95,6 +97,8 @@ fn settle_alone(
     ensures fewer { IfOk result (λ settling. length settling.settled.items ≤ length held.items) }
     ensures spent { IsErrOf result Spent → 1 < length held.items }
     ensures same { tries.new.replay ≡ tries.old.replay }
+    ensures budget { tries.new.spending.budget ≡ tries.old.spending.budget }
+    ensures endless { IsErrOf result Spent → IsEndless tries.old.spending.budget → ⊥ }
 {
     let mut settling = Settling::new(alloc);
     let choice = held.len() > 1;
@@ -118,6 +122,8 @@ fn settle_one(
     ensures fewer { OnOk result (length settling.new.settled.items ≤ length settling.old.settled.items + 1) }
     ensures spent { IsErrOf result Spent → IsTrue choice }
     ensures same { tries.new.replay ≡ tries.old.replay }
+    ensures budget { tries.new.spending.budget ≡ tries.old.spending.budget }
+    ensures endless { IsErrOf result Spent → IsEndless tries.old.spending.budget → ⊥ }
 {
     let mut one = one;
     if one.has(asked.asked) {
@@ -140,7 +146,10 @@ fn settle_one(
 /// Spends a step where there is a choice.
 fn spend_at_choice(spending: &mut Spending, choice: bool) -> Result<(), Halt>
     ensures halt { IfErr result (λ halt. (halt ≡ Spent) × IsTrue choice) }
-    ensures spent { OnOk result (spending.new.left.steps + (if choice then 1 else 0) ≡ spending.old.left.steps) }
+    ensures spent { OnOk result (IsTrue choice → spending.new.steps ≡ min (spending.old.steps + 1) (2 ^ 64 - 1)) }
+    ensures free { (IsTrue choice → ⊥) → spending.new ≡ spending.old }
+    ensures budget { spending.new.budget ≡ spending.old.budget }
+    ensures endless { IsErrOf result Spent → IsEndless spending.old.budget → ⊥ }
 {
     if !choice {
         return Ok(());
@@ -162,6 +171,8 @@ fn settle_among(
     ensures settled { IfOk result (λ settling. (c : List Message) (first : TreeState) (common : List TheEntry) → AreMessagesOf tries.old.replay c →
         AreHeldBy c first common flight.now.at held.items → IsSettled c first common flight.now.at asked.asked settling.work.items settling.settled.items) }
     ensures same { tries.new.replay ≡ tries.old.replay }
+    ensures budget { tries.new.spending.budget ≡ tries.old.spending.budget }
+    ensures endless { IsErrOf result Spent → IsEndless tries.old.spending.budget → ⊥ }
 {
     let mut settling = Settling::new(alloc);
     for one in held {
@@ -206,6 +217,8 @@ impl Settling {
             IsTraced c first common flight.now.at one → AreSettlingBy c first common flight.now.at asked held self.old.work.items self.old.settled.items →
             AreSettlingBy c first common flight.now.at asked held self.new.work.items self.new.settled.items) }
         ensures same { tries.new.replay ≡ tries.old.replay }
+        ensures budget { tries.new.spending.budget ≡ tries.old.spending.budget }
+        ensures endless { IsErrOf result Spent → IsEndless tries.old.spending.budget → ⊥ }
     {
         let mut one = one;
         place_keeping(tries, &mut one, flight, asked)?;
@@ -255,6 +268,8 @@ impl Settling {
         ensures spent { OnOk result ((c : List Message) (x : PlainConfiguration) → AreMessagesOf tries.old.replay c → slice_get self.old.work.items place ≡ Some x →
             IsSpent c flight.now.at x self.new.work.items self.new.settled.items) }
         ensures same { tries.new.replay ≡ tries.old.replay }
+        ensures budget { tries.new.spending.budget ≡ tries.old.spending.budget }
+        ensures endless { IsErrOf result Spent → IsEndless tries.old.spending.budget → ⊥ }
     {
         let mut origin = Origin {
             place,
@@ -277,6 +292,8 @@ impl Settling {
         ensures settling { OnOk result (AreSettlingStill tries.old.replay flight.now.at asked self.old.work.items self.old.settled.items self.new.work.items self.new.settled.items) }
         ensures spent { OnOk result ((c : List Message) → AreMessagesOf tries.old.replay c → IsSpent c flight.now.at origin.old.copy self.new.work.items self.new.settled.items) }
         ensures same { tries.new.replay ≡ tries.old.replay }
+        ensures budget { tries.new.spending.budget ≡ tries.old.spending.budget }
+        ensures endless { IsErrOf result Spent → IsEndless tries.old.spending.budget → ⊥ }
     {
         tries.spending.spend(flight.requests.len() as u64)?;
         for pending in flight.requests.values() {
@@ -303,6 +320,8 @@ impl Settling {
             (Contains origin.old.copy.placed e.at → ⊥) → EntrySteps origin.old.copy.tree new c e → IsFollowed c flight.now.at origin.old.copy e new self.new.work.items self.new.settled.items) }
         ensures origin { OnOk result (origin.new ≡ origin.old) }
         ensures same { tries.new.replay ≡ tries.old.replay }
+        ensures budget { tries.new.spending.budget ≡ tries.old.spending.budget }
+        ensures endless { IsErrOf result Spent → IsEndless tries.old.spending.budget → ⊥ }
     {
         if origin.copy.has(pending.asked) {
             return Ok(());
@@ -335,6 +354,8 @@ impl Settling {
             IsFollowed c flight.now.at origin.old.copy (record { at = pending.asked; wrote = Some count }) new self.new.work.items self.new.settled.items) }
         ensures origin { OnOk result (origin.new ≡ origin.old) }
         ensures same { tries.new.replay ≡ tries.old.replay }
+        ensures budget { tries.new.spending.budget ≡ tries.old.spending.budget }
+        ensures endless { IsErrOf result Spent → IsEndless tries.old.spending.budget → ⊥ }
     {
         for count in 0..=most {
             self.try_entry(tries, origin, pending, Some(count), flight, asked)?;
@@ -364,6 +385,8 @@ impl Settling {
             IsFollowed c flight.now.at origin.old.copy (record { at = pending.asked; wrote = wrote }) new self.new.work.items self.new.settled.items) }
         ensures origin { OnOk result (origin.new ≡ origin.old) }
         ensures same { tries.new.replay ≡ tries.old.replay }
+        ensures budget { tries.new.spending.budget ≡ tries.old.spending.budget }
+        ensures endless { IsErrOf result Spent → IsEndless tries.old.spending.budget → ⊥ }
     {
         tries.spending.spend(1)?;
         let entry = Entry {
@@ -402,7 +425,9 @@ fn push_new(
 
 /// The same configuration once more, for the steps that it costs.
 fn copied(spending: &mut Spending, one: &Configuration) -> Result<Configuration, Halt>
-    ensures { IfOk result (λ copy. copy ≡ one.now) }
+    ensures copy { IfOk result (λ copy. copy ≡ one.now) }
+    ensures budget { spending.new.budget ≡ spending.old.budget }
+    ensures endless { IsErrOf result Spent → IsEndless spending.old.budget → ⊥ }
 {
     spending.spend(one.copy_steps())?;
     Ok(one.copy()?)
@@ -421,6 +446,8 @@ fn place_keeping(
     requires { IsFlight tries.old.replay.list flight.now }
     ensures further { OnOk result ((c : List Message) → AreMessagesOf tries.old.replay c → IsFurther c flight.now.at one.old one.new) }
     ensures same { tries.new.replay ≡ tries.old.replay }
+    ensures budget { tries.new.spending.budget ≡ tries.old.spending.budget }
+    ensures endless { IsErrOf result Spent → IsEndless tries.old.spending.budget → ⊥ }
 {
     let looked_at = flight.requests.len() as u64;
     tries
@@ -446,6 +473,8 @@ fn place_if_keeping(
     requires flight { IsFlight tries.old.replay.list flight.now }
     ensures further { OnOk result ((c : List Message) → AreMessagesOf tries.old.replay c → IsFurther c flight.now.at one.old one.new) }
     ensures same { tries.new.replay ≡ tries.old.replay }
+    ensures budget { tries.new.spending.budget ≡ tries.old.spending.budget }
+    ensures endless { IsErrOf result Spent → IsEndless tries.old.spending.budget → ⊥ }
 {
     if one.has(pending.asked) {
         return Ok(());
@@ -466,7 +495,9 @@ fn is_idle(
     pending: &Pending,
     flight: &InFlight,
 ) -> Result<bool, Halt>
-    ensures { IfOk result (λ idle. IsTrue idle → IsToldIdle flight.now one.now pending.now) }
+    ensures idle { IfOk result (λ idle. IsTrue idle → IsToldIdle flight.now one.now pending.now) }
+    ensures budget { spending.new.budget ≡ spending.old.budget }
+    ensures endless { IsErrOf result Spent → IsEndless spending.old.budget → ⊥ }
 {
     if pending.keeps_trees {
         return Ok(true);
@@ -523,6 +554,7 @@ fn place_if_it_steps(
     ensures further { OnOk result ((c : List Message) (at : ℕ) → AreMessagesOf replay.old c → IsInFlight replay.old.list at pending → IsCountUpTo pending.most None →
         LeavesIfKnown c at one.old pending.asked → IsFurther c at one.old one.new) }
     ensures same { replay.new ≡ replay.old }
+    ensures memory { IfErr result (λ halt. halt ≡ Memory) }
 {
     let entry = Entry {
         at: pending.asked,

@@ -219,19 +219,23 @@ fn orders_that_are_proposed(rt: HostRuntime) {
 
 #[test]
 fn an_order_that_is_not_proposed(rt: HostRuntime) {
-    let finding = found(&rt, rt.alloc(), ONE_BYTE, Budget::default());
-    assert!(rt; is_order(&finding, &[entry(2), entry(5), entry(4), entry(8)]));
+    for budget in [Budget::default(), Budget::endless()] {
+        let finding = found(&rt, rt.alloc(), ONE_BYTE, budget);
+        assert!(rt; is_order(&finding, &[entry(2), entry(5), entry(4), entry(8)]));
+    }
 }
 
 #[test]
 fn no_order(rt: HostRuntime) {
-    for (messages, at, code) in [
-        (ANOTHER_BYTE, 9, BYTES_READ),
-        (UNDONE, 8, BYTES_READ),
-        (SERIAL_BYTES, 5, BYTES_READ),
-        (SERIAL_SIZE, 7, ATTRIBUTES),
+    let ample = Budget::default();
+    for (messages, budget, at, code) in [
+        (ANOTHER_BYTE, ample, 9, BYTES_READ),
+        (ANOTHER_BYTE, Budget::endless(), 9, BYTES_READ),
+        (UNDONE, ample, 8, BYTES_READ),
+        (SERIAL_BYTES, ample, 5, BYTES_READ),
+        (SERIAL_SIZE, ample, 7, ATTRIBUTES),
     ] {
-        let finding = found(&rt, rt.alloc(), messages, Budget::default());
+        let finding = found(&rt, rt.alloc(), messages, budget);
         assert!(rt; is_none(&finding, at, code), "stop at {at}");
     }
 }

@@ -6,5 +6,5 @@ use Rattle.fa_audit.proofs.shortest.known_of_calls.Goals as goal
 
 pub returns : goal.returns
 returns g c = λ m are.
-    let known = known_is m c.in_ok-copy.field-0 c.in_ok-finding.finding (c.in_ok-finding.ensures m are) in
+    let known = known_is m c.in_ok-copy.field-0 c.in_ok-finding.finding (c.in_ok-finding.ensures.found m are) in
     rw c.known_by.ensures (subst (λ (t : TreeState). IsKnownOf m t (known_by c.in_ok-finding.finding)) c.in_ok-copy.ensures known)

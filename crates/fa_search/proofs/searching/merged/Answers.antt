@@ -1,4 +1,4 @@
-use Rattle.std.proofs.Common.{ℕ, length, subst, arith}
+use Rattle.std.proofs.Common.{◌∙◌, ℕ, length, refl, subst, arith}
 use Rattle.std.proofs.lemmas.List.{length_push}
 use Rattle.fa_tree.specs.Alike.{IsInUse}
 use Rattle.fa_search.specs.parts.Configurations.{PlainConfiguration}
@@ -10,6 +10,7 @@ pub loop-one-init : goal.loop-one-init
 loop-one-init c = record {
   merged = rw c.new-different.ensures.items (merged_none (IsInUse c.args.in_use.now));
   fewer = rw c.new-different.ensures.items (omega arith);
+  budget = refl;
 }
 
 pub loop-one-preserved : goal.loop-one-preserved
@@ -21,4 +22,5 @@ loop-one-preserved c =
     record {
       merged = merged_more Counts c.loop-one.yielded c.loop-one.different.items c.in-Some.one _ pushed before.merged;
       fewer = (let more = length_push c.loop-one.yielded c.in-Some.one in let few = pushed_length Counts c.loop-one.different.items _ c.in-Some.one (length c.loop-one.yielded) pushed before.fewer in omega (arith, more, few));
+      budget = c.spend.ensures.budget ∙ before.budget;
     }

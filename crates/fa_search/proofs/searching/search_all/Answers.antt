@@ -2,6 +2,7 @@ use Rattle.std.proofs.Common.{sym, subst, arith}
 use Rattle.std.proofs.lemmas.Result.{IfOk-weaker}
 use Rattle.fa_ledger.specs.declared.calls.Calls.{Calls}
 use Rattle.fa_check.specs.Verdicts.{AreMessagesOf}
+use Rattle.fa_search.specs.Searches.{IsEndless}
 use Rattle.fa_search.specs.parts.Flight.{IsFlight}
 use Rattle.fa_search.proofs.searching.search_all.Goals as goal
 
@@ -23,4 +24,5 @@ returns g c = record {
   gave_up = λ m at are same.
       c.run-ended.ensures.gave_up m c.args.tree at (subst (λ (calls : Calls). AreMessagesOf calls m) (sym c.in_ok-progress.ensures.along) are)
       (c.in_ok-progress.ensures.searching m are) same;
+  decides = λ at endless same. c.run-ended.ensures.endless at (subst IsEndless (sym c.in_ok-progress.ensures.budget) endless) same;
 }

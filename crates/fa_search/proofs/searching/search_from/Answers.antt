@@ -13,6 +13,7 @@ returns-in-Some g c =
       gave_up = λ m at are same. absurd (found_is_not_given_up (Ok found) order.0 at order.1 same);
       proposed = λ m es are is run. (let told = c.in_ok-found.ensures.proposed m es are is run in rw c.in-Some.is at told);
       serial = λ m at are serial same. absurd (found_is_not_given_up (Ok found) order.0 at order.1 same);
+      decides = λ at endless same. absurd (found_is_not_given_up (Ok found) order.0 at order.1 same);
     }
 
 pub returns-in-None : goal.returns-in-None
@@ -23,4 +24,5 @@ returns-in-None g c = record {
   gave_up = c.search_orders.ensures.gave_up;
   proposed = λ m es are is run. absurd (let told = c.in_ok-found.ensures.proposed m es are is run in rw c.in-None.is at told);
   serial = c.search_orders.ensures.serial;
+  decides = c.search_orders.ensures.decides;
 }

@@ -19,6 +19,7 @@ returns-in_ok-copy-in-Order g c = record {
   code = λ m at code are same. absurd (found_is_no_stop c.legal.result _ at code c.legal.ensures.order same);
   gave_up = λ m at are same. absurd (found_is_not_given_up c.legal.result _ at c.legal.ensures.order same);
   serial = λ m at are serial same. absurd (found_is_not_given_up c.legal.result _ at c.legal.ensures.order same);
+  decides = λ at endless same. absurd (found_is_not_given_up c.legal.result _ at c.legal.ensures.order same);
 }
 
 pub returns-in-Stop : goal.returns-in-Stop
@@ -38,6 +39,7 @@ returns-in-Stop g c =
           (subst (IsLeastCode m tree stop.at) coded (subst (λ (t : TreeState). IsLeastCode m t stop.at stop.code) c.in_ok-copy.ensures (told m are).1));
       gave_up = λ m at are same. absurd cc;
       serial = λ m at are serial same. absurd cc;
+      decides = λ at endless same. absurd cc;
     }
 
 pub returns-in-Spent : goal.returns-in-Spent
@@ -55,4 +57,5 @@ returns-in-Spent g c =
       serial = λ m at are serial same.
           let here : spent.at ≡ at = cc in
           (told m are).1 (subst (AreSerialBefore m) (sym here) serial);
+      decides = λ at endless same. c.search_all.ensures.decides spent.at endless (c.in_ok-order.was ∙ ap Ok spent.is);
     }

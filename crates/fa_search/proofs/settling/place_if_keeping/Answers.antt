@@ -6,14 +6,14 @@ pub place_if_it_steps-requires-clause-allowed : goal.place_if_it_steps-requires-
 place_if_it_steps-requires-clause-allowed c =
     let calls = c.args.tries.now.replay in
     let flight = c.args.flight.now in
-    told_placed calls.list calls.messages flight.at calls.good c.args.pending c.requires.in_flight flight c.args.one.now (c.in_ok-idle.ensures c.if-idle.true)
+    told_placed calls.list calls.messages flight.at calls.good c.args.pending c.requires.in_flight flight c.args.one.now (c.in_ok-idle.ensures.idle c.if-idle.true)
 
 pub returns-then-idle-clause-further : goal.returns-then-idle-clause-further
 returns-then-idle-clause-further c =
     let calls = c.args.tries.now.replay in
     let flight = c.args.flight.now in
     let pending = c.args.pending in
-    let told = c.in_ok-idle.ensures c.if-idle.true in
+    let told = c.in_ok-idle.ensures.idle c.if-idle.true in
     on_ok_weaker c.place_if_it_steps.result
     (λ further. λ messages are.
     further messages flight.at are c.requires.in_flight (told_without calls.list calls.messages flight.at calls.good pending c.requires.in_flight flight c.args.one.now told)

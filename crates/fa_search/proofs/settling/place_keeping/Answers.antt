@@ -14,6 +14,7 @@ loop-pending-init c =
       refl,
       subst (AreInFlight calls flight.at) (sym begun) (flight_in_flight calls flight c.requires),
       λ messages are. further_same messages flight.at c.args.one.now,
+      c.spend.ensures.budget,
     )
 
 pub place_if_keeping-requires-clause-in_flight : goal.place_if_keeping-requires-clause-in_flight
@@ -38,7 +39,11 @@ loop-pending-preserved c =
       λ messages are.
           further_further messages at c.args.one.now c.loop-pending.one c.place_if_keeping.new.one (old.2 messages are)
           (c.in_ok-place_if_keeping.ensures.further messages (subst (λ (x : Calls). AreMessagesOf x messages) (sym old.0) are)),
+      c.place_if_keeping.ensures.budget ∙ old.3,
     )
+
+pub returns-in_err-place_if_keeping-clause-budget : goal.returns-in_err-place_if_keeping-clause-budget
+returns-in_err-place_if_keeping-clause-budget c = c.place_if_keeping.ensures.budget ∙ c.loop-pending.invariant.3
 
 pub returns-in_err-place_if_keeping-clause-same : goal.returns-in_err-place_if_keeping-clause-same
 returns-in_err-place_if_keeping-clause-same c = c.place_if_keeping.ensures.same ∙ c.loop-pending.invariant.0

@@ -9,3 +9,4 @@ abbrev pub invariant-loop-pending : goal.invariant-loop-pending
 invariant-loop-pending l =
     (l.tries.replay ≡ l.fn.tries.replay) × AreInFlight l.fn.tries.replay.list l.fn.flight.at l.pending-iterator
     × ((c : List Message) → AreMessagesOf l.fn.tries.replay c → IsFurther c l.fn.flight.at l.fn.one l.one)
+    × (l.tries.spending.budget ≡ l.fn.tries.spending.budget)

@@ -18,6 +18,8 @@ returns-then-is_alone c = record {
   fewer = IfOk-weaker c.settle_alone.result _ _ (λ settling less alone. less) c.settle_alone.ensures.fewer;
   spent = λ spent alone. c.settle_alone.ensures.spent spent;
   same = c.settle_alone.ensures.same;
+  budget = c.settle_alone.ensures.budget;
+  endless = c.settle_alone.ensures.endless;
 }
 
 pub returns : goal.returns
@@ -26,4 +28,6 @@ returns c = record {
   fewer = IfOk-weaker c.settle_among.result _ _ (λ settling is alone. absurd (not_true c.is_alone.result c.if-is_alone.false (c.is_alone.ensures.1 alone))) c.settle_among.ensures.settled;
   spent = λ spent alone. absurd (not_true c.is_alone.result c.if-is_alone.false (c.is_alone.ensures.1 alone));
   same = c.settle_among.ensures.same;
+  budget = c.settle_among.ensures.budget;
+  endless = c.settle_among.ensures.endless;
 }

@@ -10,6 +10,7 @@ use Rattle.fa_search.proofs.settling.settle_alone.Goals as goal
 pub loop-one-init : goal.loop-one-init
 loop-one-init c = record {
   same = refl;
+  budget = refl;
   fewer = rw c.new-settling.ensures.settled (omega arith);
   so_far = λ m first common at are only traced.
       rw (c.new-settling.ensures.work, c.new-settling.ensures.settled) (none_so_far m first common at c.args.asked.asked);
@@ -20,6 +21,7 @@ loop-one-preserved c =
     let before = c.loop-one.invariant in
     record {
       same = c.settle_one.ensures.same ∙ before.same;
+      budget = c.settle_one.ensures.budget ∙ before.budget;
       fewer = (let less = c.in_ok-settle_one.ensures.fewer in let more = length_push c.loop-one.yielded c.in-Some.one in omega (arith, less, more));
       so_far = λ m first common at are only traced.
           taken_more m first common at c.args.asked.asked only c.loop-one.yielded c.loop-one.settling.work.items c.loop-one.settling.settled.items c.in-Some.one
@@ -40,4 +42,6 @@ returns c =
       fewer = subst (λ (xs : List PlainConfiguration). length c.loop-one.settling.settled.items ≤ length xs) all before.fewer;
       spent = λ never. absurd cc;
       same = before.same;
+      budget = before.budget;
+      endless = λ never. absurd cc;
     }

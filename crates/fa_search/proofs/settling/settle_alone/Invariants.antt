@@ -12,6 +12,7 @@ use Rattle.fa_search.proofs.settling.settle_alone.Given as goal
 abbrev pub invariant-loop-one : goal.invariant-loop-one
 invariant-loop-one l = record {
   same : l.tries.replay ≡ l.initial.tries.replay;
+  budget : l.tries.spending.budget ≡ l.initial.tries.spending.budget;
   fewer : length l.settling.settled.items ≤ length l.yielded;
   so_far : (c : List Message) (first : TreeState) (common : List Entry) (at : ℕ) → AreMessagesOf l.initial.tries.replay c → IsOnlyPending c at l.asked.asked
       → ((x : PlainConfiguration) → Contains l.fn.held.items x → IsTraced c first common at x)

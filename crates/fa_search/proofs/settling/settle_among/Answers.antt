@@ -10,6 +10,7 @@ use Rattle.fa_search.proofs.settling.settle_among.Goals as goal
 pub loop-one-init : goal.loop-one-init
 loop-one-init c = record {
   same = refl;
+  budget = refl;
   taken = λ m are x has. absurd (omega (arith, has.1));
   settling = λ m first common are traced.
       rw (c.new-settling.ensures.work, c.new-settling.ensures.settled) (none_settling_by m first common c.args.flight.now.at c.args.asked.asked);
@@ -20,6 +21,7 @@ loop-one-preserved c =
     let before = c.loop-one.invariant in
     record {
       same = c.take_in.ensures.same ∙ before.same;
+      budget = c.take_in.ensures.budget ∙ before.budget;
       taken = λ m are.
           taken_in_more m c.args.flight.now.at c.loop-one.yielded c.loop-one.settling.work.items c.loop-one.settling.settled.items c.take_in.new.self.work.items c.take_in.new.self.settled.items c.in-Some.one
           c.in_ok-take_in.ensures.grown (c.in_ok-take_in.ensures.taken m (subst (λ (calls : Calls). AreMessagesOf calls m) (sym before.same) are)) (before.taken m are);
@@ -37,6 +39,7 @@ loop-next-init c =
     record {
       within = omega arith;
       same = before.same;
+      budget = before.budget;
       taken = λ m are. subst (λ (xs : List PlainConfiguration). AreTakenIn m c.args.flight.now.at xs c.loop-one.settling.work.items c.loop-one.settling.settled.items) all (before.taken m are);
       settling = before.settling;
       spent = λ m are x has. absurd (omega (arith, has.1));
@@ -55,6 +58,7 @@ loop-next-preserved c =
     record {
       within = (let is : length more ≡ length work + length grown.behind = ap length grown.work_is ∙ length-append work grown.behind in omega (arith, is, below));
       same = c.try_from.ensures.same ∙ before.same;
+      budget = c.try_from.ensures.budget ∙ before.budget;
       taken = λ m are. taken_still m c.args.flight.now.at c.args.held.items work settled more further grown (before.taken m are);
       settling = λ m first common are traced.
           c.in_ok-try_from.ensures.settling m first common [] (subst (λ (calls : Calls). AreMessagesOf calls m) (sym before.same) are) (before.settling m first common are traced);
@@ -74,4 +78,6 @@ returns c =
           settled_among m first common c.args.flight.now.at c.args.asked.asked c.args.held.items work settled held (before.taken m are) (before.settling m first common are held.traced)
           (subst (λ (those : List PlainConfiguration). AreSpent m c.args.flight.now.at those work settled) whole (before.spent m are));
       same = before.same;
+      budget = before.budget;
+      endless = λ never. absurd cc;
     }

@@ -12,6 +12,7 @@ use Rattle.fa_search.proofs.settling.settle_among.Given as goal
 abbrev pub invariant-loop-one : goal.invariant-loop-one
 invariant-loop-one l = record {
   same : l.tries.replay ≡ l.fn.tries.replay;
+  budget : l.tries.spending.budget ≡ l.fn.tries.spending.budget;
   taken : (c : List Message) → AreMessagesOf l.fn.tries.replay c → AreTakenIn c l.flight.at l.yielded l.settling.work.items l.settling.settled.items;
   settling : (c : List Message) (first : TreeState) (common : List Entry) → AreMessagesOf l.fn.tries.replay c
       → ((x : PlainConfiguration) → Contains l.fn.held.items x → IsTraced c first common l.flight.at x)
@@ -22,6 +23,7 @@ abbrev pub invariant-loop-next : goal.invariant-loop-next
 invariant-loop-next l = record {
   within : l.next ≤ length l.settling.work.items;
   same : l.tries.replay ≡ l.fn.tries.replay;
+  budget : l.tries.spending.budget ≡ l.fn.tries.spending.budget;
   taken : (c : List Message) → AreMessagesOf l.fn.tries.replay c → AreTakenIn c l.flight.at l.fn.held.items l.settling.work.items l.settling.settled.items;
   settling : (c : List Message) (first : TreeState) (common : List Entry) → AreMessagesOf l.fn.tries.replay c
       → ((x : PlainConfiguration) → Contains l.fn.held.items x → IsTraced c first common l.flight.at x)

@@ -6,7 +6,7 @@ use Rattle.fa_check.specs.Replays.{IsAnswerAt}
 use Rattle.fa_check.specs.Verdicts.{AreMessagesOf}
 use Rattle.fa_search.specs.declared.budget.Halt.TheVariants.{Spent}
 use Rattle.fa_tree.specs.Alike.{IsInUse, IsLastFrom}
-use Rattle.fa_search.specs.Searches.{IsUsedFrom, AreSerialBefore}
+use Rattle.fa_search.specs.Searches.{IsUsedFrom, AreSerialBefore, IsEndless}
 use Rattle.fa_search.specs.parts.Configurations.{PlainConfiguration}
 use Rattle.fa_search.specs.parts.Flight.{IsFlight}
 use Rattle.fa_search.specs.parts.Placed.{MayBePlacedAt}
@@ -37,6 +37,22 @@ returns-in_err-settling-clause-spent c = λ spent m first are is.
           let same = c.replace-held.ensures.value in
           omega (arith, many, few, ap (λ v. length v.items) same),
     )
+
+pub returns-in_err-settling-clause-endless : goal.returns-in_err-settling-clause-endless
+returns-in_err-settling-clause-endless c = λ spent.
+    let p = err_from_is_err_and c.from_residual.result c.from_residual.ensures.1 in
+    let result : c.from_residual.result ≡ Err p.0 = p.1 in
+    let given : p.0 ≡ c.in_err-settling.field-0.0 = p.2 in
+    let halt : c.in_err-settling.field-0.0 ≡ Spent = cc in
+    c.settle.ensures.endless (c.in_err-settling.was ∙ ap (λ h. Err h) halt)
+
+pub returns-in_err-self-clause-endless : goal.returns-in_err-self-clause-endless
+returns-in_err-self-clause-endless c = λ spent endless.
+    let p = err_from_is_err_and c.from_residual-in_err-self.result c.from_residual-in_err-self.ensures.1 in
+    let result : c.from_residual-in_err-self.result ≡ Err p.0 = p.1 in
+    let given : p.0 ≡ c.in_err-self.field-0.0 = p.2 in
+    let halt : c.in_err-self.field-0.0 ≡ Spent = cc in
+    c.merged_if_due.ensures.endless (c.in_err-self.was ∙ ap (λ h. Err h) halt) (subst IsEndless (sym c.settle.ensures.budget) endless)
 
 pub returns-in_err-self-clause-spent : goal.returns-in_err-self-clause-spent
 returns-in_err-self-clause-spent c = λ spent m first are is.

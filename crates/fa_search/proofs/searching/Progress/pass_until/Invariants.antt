@@ -9,6 +9,7 @@ use Rattle.fa_search.proofs.searching.Progress.pass_until.Given as goal
 abbrev pub invariant-loop-self : goal.invariant-loop-self
 invariant-loop-self g l = record {
   along : l.self.tries.replay ≡ l.fn.self.tries.replay;
+  budget : l.self.tries.spending.budget ≡ l.fn.self.tries.spending.budget;
   behind : l.self.flight.at ≤ l.until;
   flight : IsFlight l.fn.self.tries.replay.list l.self.flight;
   some : 0 < length l.self.held.items;

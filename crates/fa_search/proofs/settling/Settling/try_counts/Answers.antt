@@ -16,6 +16,7 @@ loop-count-init c = (
   grown_same c.args.self.now.work.items c.args.self.now.settled.items,
   λ messages first common held are settling. settling,
   λ messages count new are less steps. absurd (omega (arith, less)),
+  refl,
 )
 
 pub try_entry-requires-clause-origin : goal.try_entry-requires-clause-origin
@@ -66,6 +67,9 @@ followed_now c =
     counts_more c.args.tries.now.replay c.args.flight.now.at c.args.origin.now.copy old.work.items old.settled.items new.work.items new.settled.items c.in_ok-try_entry.ensures.grown c.args.pending.asked count
     c.loop-count.invariant.4 follows
 
+pub returns-in_err-try_entry-clause-budget : goal.returns-in_err-try_entry-clause-budget
+returns-in_err-try_entry-clause-budget c = c.try_entry.ensures.budget ∙ c.loop-count.invariant.5
+
 pub returns-in_err-try_entry-clause-same : goal.returns-in_err-try_entry-clause-same
 returns-in_err-try_entry-clause-same c = c.try_entry.ensures.same ∙ c.loop-count.invariant.0
 
@@ -77,6 +81,7 @@ loop-count-preserved c =
       grown_now at,
       settling_now at,
       followed_now at,
+      c.try_entry.ensures.budget ∙ c.loop-count.invariant.5,
     )
 
 pub returns-in_ok-try_entry-clause-grown : goal.returns-in_ok-try_entry-clause-grown
@@ -92,6 +97,9 @@ returns-in_ok-try_entry-clause-followed c = λ messages count new are within ste
 
 pub returns-in_ok-try_entry-clause-origin : goal.returns-in_ok-try_entry-clause-origin
 returns-in_ok-try_entry-clause-origin c = c.in_ok-try_entry.ensures.origin ∙ c.loop-count.invariant.1
+
+pub returns-in_ok-try_entry-clause-budget : goal.returns-in_ok-try_entry-clause-budget
+returns-in_ok-try_entry-clause-budget c = c.try_entry.ensures.budget ∙ c.loop-count.invariant.5
 
 pub returns-in_ok-try_entry-clause-same : goal.returns-in_ok-try_entry-clause-same
 returns-in_ok-try_entry-clause-same c = c.try_entry.ensures.same ∙ c.loop-count.invariant.0

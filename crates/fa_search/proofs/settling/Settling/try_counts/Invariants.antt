@@ -8,3 +8,4 @@ invariant-loop-count l =
     (l.tries.replay ≡ l.fn.tries.replay) × (l.origin ≡ l.fn.origin) × AreGrown l.fn.self.work.items l.fn.self.settled.items l.self.work.items l.self.settled.items
     × AreSettlingStill l.fn.tries.replay l.fn.flight.at l.fn.asked l.fn.self.work.items l.fn.self.settled.items l.self.work.items l.self.settled.items
     × FollowsCounts l.fn.tries.replay l.fn.flight.at l.fn.origin.copy l.fn.pending.asked l.count l.self.work.items l.self.settled.items
+    × (l.tries.spending.budget ≡ l.fn.tries.spending.budget)

@@ -20,6 +20,7 @@ loop-pending-init c =
       λ messages first common held are settling. settling,
       subst (AreInFlight calls flight.at) (sym begun) (flight_in_flight calls flight c.requires.flight),
       λ pending has. inl (subst (λ (l : List Pending). Contains l pending) (sym begun) has),
+      c.spend.ensures.budget,
     )
 
 pub try_request-requires-clause-origin : goal.try_request-requires-clause-origin
@@ -68,6 +69,7 @@ loop-pending-preserved c =
       λ messages first common held are settling. still messages first common held are (c.loop-pending.invariant.3 messages first common held are settling),
       rest_in_flight calls.list at left pending rest steps c.loop-pending.invariant.4,
       tried_more calls at x all left rest pending old.work.items old.settled.items new.work.items new.settled.items c.in_ok-try_request.ensures.grown steps follows c.loop-pending.invariant.5,
+      c.try_request.ensures.budget ∙ c.loop-pending.invariant.6,
     )
 
 pub returns-clause-grown : goal.returns-clause-grown
@@ -86,6 +88,12 @@ returns-clause-spent c =
     let none : c.loop-pending.pending-iterator ≡ [] = c.in-None.ensures.steps.0 in
     all_tried_spent calls flight x new.work.items new.settled.items c.requires.flight
     (subst (λ (l : List Pending). AreTriedOrLeft calls flight.at x all l new.work.items new.settled.items) none c.loop-pending.invariant.5)
+
+pub returns-clause-budget : goal.returns-clause-budget
+returns-clause-budget c = c.loop-pending.invariant.6
+
+pub returns-in_err-try_request-clause-budget : goal.returns-in_err-try_request-clause-budget
+returns-in_err-try_request-clause-budget c = c.try_request.ensures.budget ∙ c.loop-pending.invariant.6
 
 pub returns-clause-same : goal.returns-clause-same
 returns-clause-same c = c.loop-pending.invariant.0

@@ -10,3 +10,4 @@ invariant-loop-pending l =
     × AreSettlingStill l.fn.tries.replay l.fn.flight.at l.fn.asked l.fn.self.work.items l.fn.self.settled.items l.self.work.items l.self.settled.items
     × AreInFlight l.fn.tries.replay.list l.fn.flight.at l.pending-iterator
     × AreTriedOrLeft l.fn.tries.replay l.fn.flight.at l.fn.origin.copy (values_of l.fn.flight.requests.entries) l.pending-iterator l.self.work.items l.self.settled.items
+    × (l.tries.spending.budget ≡ l.fn.tries.spending.budget)

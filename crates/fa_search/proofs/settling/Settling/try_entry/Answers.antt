@@ -57,7 +57,7 @@ returns-then-has_same_tree-clause-origin c =
     let place = c.args.origin.now.place in
     let here : c.index-from.result.now ≡ get_or work place c.index-from.result.now = c.index-from.ensures in
     let from : c.index-from.result.now ≡ x = here ∙ get_or_from_slice_get work place x c.index-from.result.now c.requires.origin in
-    let copied : c.replace-one.new.dest ≡ x = c.replace-one.ensures.after ∙ c.in_ok-copied.ensures ∙ from in
+    let copied : c.replace-one.new.dest ≡ x = c.replace-one.ensures.after ∙ c.in_ok-copied.ensures.copy ∙ from in
     ap (λ (y : PlainConfiguration). record { place = place; copy = y }) copied
 
 pub returns-clause-settling : goal.returns-clause-settling
@@ -102,6 +102,6 @@ returns-clause-origin c =
     let place = c.args.origin.now.place in
     let here : c.index-from.result.now ≡ get_or work place c.index-from.result.now = c.index-from.ensures in
     let from : c.index-from.result.now ≡ x = here ∙ get_or_from_slice_get work place x c.index-from.result.now c.requires.origin in
-    let copied : c.replace-one.new.dest ≡ x = c.replace-one.ensures.after ∙ c.in_ok-copied.ensures ∙ from in
+    let copied : c.replace-one.new.dest ≡ x = c.replace-one.ensures.after ∙ c.in_ok-copied.ensures.copy ∙ from in
     on_ok c.take_in.result (◌≡◌ {A = Origin} (record { place = place; copy = c.replace-one.new.dest }) c.args.origin.now)
     (ap (λ (y : PlainConfiguration). record { place = place; copy = y }) copied)

@@ -11,7 +11,7 @@ pub try_each-requires-clause-origin : goal.try_each-requires-clause-origin
 try_each-requires-clause-origin c =
     let work = c.args.self.now.work.items in
     let place = c.args.place in
-    let copied : c.in_ok-copied.field-0 ≡ c.index.result.now = c.in_ok-copied.ensures in
+    let copied : c.in_ok-copied.field-0 ≡ c.index.result.now = c.in_ok-copied.ensures.copy in
     let here : c.index.result.now ≡ get_or work place c.index.result.now = c.index.ensures in
     let there : slice_get work place ≡ Some (get_or work place c.index.result.now) = slice_get-get_or work place c.index.result.now c.requires.there in
     subst (λ (x : PlainConfiguration). slice_get work place ≡ Some x) (sym (copied ∙ here)) there
@@ -30,7 +30,7 @@ returns-clause-spent c =
     let at = c.args.flight.now.at in
     let new = c.try_each.new.self in
     let one = c.in_ok-copied.field-0 in
-    let copied : one ≡ c.index.result.now = c.in_ok-copied.ensures in
+    let copied : one ≡ c.index.result.now = c.in_ok-copied.ensures.copy in
     let here : c.index.result.now ≡ get_or work place c.index.result.now = c.index.ensures in
     on_ok_weaker {P = (messages : List Message) → AreMessagesOf calls messages → IsSpent messages at one new.work.items new.settled.items}
     {Q = (messages : List Message) (x : PlainConfiguration) → AreMessagesOf calls messages → slice_get work place ≡ Some x → IsSpent messages at x new.work.items new.settled.items} c.try_each.result
