@@ -2,7 +2,7 @@
 
 use crate::asked::message_in;
 use crate::pairing::{Fate, Pairing};
-use fa_capture::{Capture, Direction, Packet, Packets, Seed, codes};
+use fa_capture::{Capture, Direction, Packet, Packets, Seed};
 use fa_session::Event;
 use indexmap::IndexMap;
 use std::alloc::{AllocError, Global};
@@ -60,7 +60,7 @@ impl<'a> Notes<'a> {
 
     /// Notes that a message is refused.
     pub fn refuse(&mut self, number: u32, packet: &Packet<'_>, code: u16) {
-        let asked = self.refused_reply_to(packet, code);
+        let asked = self.refused_reply_to(packet);
         self.answer(number, asked, Some(code));
     }
 
@@ -78,26 +78,12 @@ impl<'a> Notes<'a> {
         );
     }
 
-    /// The request whose reply is refused with this code.
-    fn refused_reply_to(&self, packet: &Packet<'_>, code: u16) -> Option<u32> {
-        if packet.direction == Direction::ToServer || !is_of_reply(code) {
+    /// The request whose reply is refused: the one that waits with its unique.
+    fn refused_reply_to(&self, packet: &Packet<'_>) -> Option<u32> {
+        if packet.direction == Direction::ToServer {
             return None;
         }
         let told = message_in(packet)?;
         self.waiting.get(&told.unique).copied()
     }
-}
-
-/// Whether a message of the server that is refused with this code is the reply to a request that waits.
-fn is_of_reply(code: u16) -> bool {
-    matches!(
-        code,
-        codes::REPLY_BODY
-            | codes::INIT_REFUSED
-            | codes::VERSION
-            | codes::NEGOTIATED_FLAGS
-            | codes::LEFT_OUT_SUCCEEDED
-            | codes::OPEN_WITHOUT_HANDLE
-            | codes::NODE_ID_NOT_ALLOWED
-    )
 }
