@@ -24,7 +24,7 @@ TABLES = {
     "A request:": "a request",
     "A message from the server:": "a message of the server",
     "An entry of an order is judged": "an entry of an order",
-    "An order, behind its last entry:": "an order, behind its last entry",
+    "An order, after its last entry:": "an order, after its last entry",
 }
 TEXTS = {60: "a line of an order text", 61: "a line of a tree text"}
 

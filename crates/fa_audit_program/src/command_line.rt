@@ -655,7 +655,7 @@ fn judge_command<'a>(alloc: Global) -> Result<Command<'a>, AllocError> {
         "Tells whether some order explains a capture",
         help_texts::JUDGE,
     )?
-    .arg(flag(alloc, EXPLAIN, "Say why, behind the lines of the answer"))
+    .arg(flag(alloc, EXPLAIN, "Say why, after the lines of the answer"))
 }
 
 /// The command of this name, which searches.
@@ -825,14 +825,14 @@ fn view_options<'a>(alloc: Global, command: Command<'a>) -> Result<Command<'a>, 
             alloc,
             AROUND,
             "N",
-            "The message around which they are; without it, the one at fault, or else the first request that overlaps",
+            "The message around which messages are drawn or listed; without it, the one at fault, or else the first request that came while another one waited",
         )
         .value_parser(value_parser!(u32)))?
         .arg(value_option(
             alloc,
             MESSAGES,
             "N",
-            "How many messages there are; the page adds those that its reasons name",
+            "How many messages the picture has, or the table of the page, which adds those that the reasons name",
         )
         .value_parser(value_parser!(u32)))
 }
@@ -880,7 +880,7 @@ fn progress_option<'a>(alloc: Global) -> Arg<'a> {
         .long(PROGRESS)
         .action(ArgAction::SetTrue)
         .help(
-            "Say on standard error how far the search has come, behind messages, each 100,000 steps or more",
+            "Say on standard error how far the search has come, after messages, each 100,000 steps or more",
         )
 }
 

@@ -91,7 +91,7 @@ What it prints, and its exit status:
 pub const MIGRATE: &str = "\
 What it prints, and its exit status:
   a capture                                     0  the same messages, in the format that has times
-  fault: message N: code C: TEXT                1  the bytes stop being a capture behind N messages
+  fault: message N: code C: TEXT                1  the bytes stop being a capture after N messages
   nothing, and what is wrong on standard error  4  the command line is invalid
   nothing, and why on standard error            5  a file was not read, the output not taken, or memory refused
 
@@ -118,7 +118,7 @@ An answer is shown where its request is. What is printed is printing ASCII; a FI
 
 /// Of `explain`.
 pub const EXPLAIN: &str = "\
-What it prints, and its exit status: the line of `check`, and behind it why
+What it prints, and its exit status: the line of `check`, and after it why
   legal: M messages, P placed, L left out            0  and which requests were never answered
   fault: message N: code C: TEXT                     1  what message N conflicts with
   not shown: entry E: message N: code C: TEXT        2  what the tree holds there, and who made it so
@@ -136,8 +136,10 @@ What it prints, and its exit status:
   nothing, and what is wrong on standard error  4  the command line is invalid
   nothing, and why on standard error            5  a file was not read, the output not taken, or memory refused
 
-A bar goes from a request to its answer. With --order marks say where the order places it, and the entry at fault is red.
-Without --messages there are 48. A FILE may be a pipe; - is standard input.";
+Each message has a column, by its number; sixteen columns are a row of the picture. A bar goes from a request to its answer; the
+legend below says what the looks of bars mean. Requests whose bars share a column were under way at once: either may have taken
+effect first. With --order, dark marks with the numbers of its entries say when each request may have taken effect, and the entry
+at fault is red. Without --messages there are 48 messages. A FILE may be a pipe; - is standard input.";
 
 /// Of `report`.
 pub const REPORT: &str = "\
@@ -147,6 +149,7 @@ What it prints, and its exit status: an HTML page that stands by itself, with th
   not shown: entry E: message N: code C: TEXT        2  with --order: entry E of it is the first at fault
   tree: line L: .. or order: line L: ..              3  the text is not in its format: no page, but the lines of `explain`
   no order: message N: code C: TEXT                  6  without --order: no order explains the reply at message N and all replies before it
+  the first M messages alone have no order           6  on a further line, `shortest`, where that was found
   gave up: message N                                 7  without --order: nothing is known from message N on: allow more steps
   nothing, and what is wrong on standard error       4  the command line is invalid
   nothing, and why on standard error                 5  a file was not read, the output not taken, or memory refused

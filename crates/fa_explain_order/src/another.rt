@@ -85,7 +85,7 @@ pub(crate) fn order_line(
         Overlaps::Serial { answered } => {
             text.field("before message ", u64::from(*answered));
             text.word(
-                " no two tree requests were under way at once: from this tree no order explains this answer",
+                " no two requests that an order may name were under way at once: from the tree at the start no order explains this answer",
             );
         }
         Overlaps::Earlier { first, second } => {

@@ -186,7 +186,7 @@ fn of_bits(scene: &Scene<'_>, expected: &Expected) -> &'static str {
 /// The case of a size: the server may have cut the file at an OPEN that was to leave it.
 fn of_size(scene: &Scene<'_>, told: &Attributes, expected: &Expected) -> &'static str {
     match left_whole_by(scene, told, expected) {
-        Some(_) => "size, behind an OPEN that does not cut",
+        Some(_) => "size, after an OPEN that does not cut",
         None => "size",
     }
 }

@@ -168,12 +168,12 @@ fn of_lengths(scene: &Scene<'_>, reading: &Reading<'_>) -> &'static str {
     };
     if (reading.answered.len() as u64) < reading.expected {
         if left_whole_by(scene, reading).is_some() {
-            "READ, too short behind an OPEN that does not cut"
+            "READ, too short after an OPEN that does not cut"
         } else {
             "READ, too short"
         }
     } else if is_cut {
-        "READ, too long behind a truncation"
+        "READ, too long after a truncation"
     } else {
         "READ, too long"
     }

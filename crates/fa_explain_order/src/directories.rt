@@ -67,6 +67,7 @@ fn listing_line(text: &mut Text, listing: &Listing<'_, '_>) {
     } else {
         text.number(listing.entries as u64);
     }
+    text.word(", `.` and `..` not counted");
     text.end_line();
 }
 

@@ -103,7 +103,7 @@ pub fn no_order_reasons(
     };
     exchange(alloc, &mut text, capture, &case)?;
     let reasons = Reasons::of(alloc, calls, first, coming, case.call.asked)?;
-    reasons.rule_line(&mut text);
+    reasons.rule_lines(&mut text);
     beside_line(&mut text, calls, &case, at);
     trees_line(&mut text, coming, at);
     reasons.tree_lines(&mut text, calls, coming);
@@ -112,7 +112,7 @@ pub fn no_order_reasons(
     Ok(NoOrderReasons { text, order })
 }
 
-/// What is known where a search gave up at a message: the line behind the line of a verdict that says so.
+/// What is known where a search gave up at a message, and what to do: the lines behind the line of a verdict that says so.
 ///
 /// # Errors
 ///
@@ -122,6 +122,10 @@ pub fn gave_up_reasons(alloc: Global, at: u32) -> Result<Text, AllocError> {
     text.field("order    all replies before message ", u64::from(at));
     text.field(" can be explained; from ", u64::from(at));
     text.word(" on nothing is known");
+    text.end_line();
+    text.word(
+        "look at  More steps may find an answer (`--steps`; ten million without it), unless it is the trees that ran out: 65,536 at once, or 1 GiB. Each request that is under way may double them, and a WRITE that is never answered makes one for each number of its bytes. Then record with fewer requests at once, or have the server note its order, for `fa_audit check`.",
+    );
     text.end_line();
     Ok(text)
 }
@@ -314,14 +318,30 @@ impl Reasons {
         self.list.iter().min_by_key(|reason| reason.code)
     }
 
-    /// Writes the rule that the answer breaks.
-    fn rule_line(&self, text: &mut Text) {
-        let Some(least) = self.least() else {
-            return;
-        };
-        if let Some(line) = line_of(least.lines.as_bytes(), b"rule ") {
-            printed(text, line);
-            text.end_line();
+    /// Writes the rules that the answer breaks: one for each code with which trees refuse it.
+    fn rule_lines(&self, text: &mut Text) {
+        for code in codes::SUCCESS_NOT_ALLOWED..=codes::LISTING {
+            if let Some(reason) = self.list.iter().find(|reason| reason.code == code) {
+                if let Some(line) = line_of(reason.lines.as_bytes(), b"rule ") {
+                    text.word("rule     ");
+                    self.begin_code(text, code);
+                    printed(text, behind_label(line));
+                    text.end_line();
+                }
+            }
+        }
+    }
+
+    /// Whether all trees refuse the answer with this code.
+    fn is_only(&self, code: u16) -> bool {
+        self.list.iter().all(|reason| reason.code == code)
+    }
+
+    /// Writes a code in front of what is said of it, where trees refuse the answer with different ones.
+    fn begin_code(&self, text: &mut Text, code: u16) {
+        if !self.is_only(code) {
+            text.field("code ", u64::from(code));
+            text.word(": ");
         }
     }
 
@@ -352,7 +372,7 @@ impl Reasons {
 
     /// Which tree is the first that refuses the answer with this code, in words, where others do with another code.
     fn on_tree(&self, code: u16) -> &'static str {
-        if self.list.iter().all(|reason| reason.code == code) {
+        if self.is_only(code) {
             return "";
         }
         match ON_TREE.get(self.told_below(code)) {
@@ -413,10 +433,7 @@ impl Reasons {
         if let Some(order) = coming.orders.get(reason.order) {
             way(text, calls, order);
         }
-        if self.least().is_some_and(|least| least.code != reason.code) {
-            text.field("code ", u64::from(reason.code));
-            text.word(": ");
-        }
+        self.begin_code(text, reason.code);
         printed(text, reason.telling());
         let same = self
             .list
@@ -450,7 +467,7 @@ fn way(text: &mut Text, calls: &Calls<'_>, order: &[Entry]) {
         text.word("from the start: ");
         return;
     }
-    text.word("behind ");
+    text.word("after ");
     let mut is_first = true;
     for entry in last {
         comma(text, is_first);

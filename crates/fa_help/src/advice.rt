@@ -133,7 +133,7 @@ pub(crate) fn lines_of(code: u16) -> Option<&'static str>
         codes::NO_REQUEST_WAITS => {
             "told of  a message of the server\n\
              fails    where unique is not 0, and no request with it waits for an answer\n\
-             look at  The server answers one request twice: look for an error that is sent behind a success, and for two threads that finish one request.\n\
+             look at  The server answers one request twice: look for an error that is sent after a success, and for two threads that finish one request.\n\
              look at  FORGET and BATCH_FORGET have no answer: look where the server replies to all that it has handled (in libfuse: fuse_reply_none).\n\
              look at  unique was not taken from the request, or its request is missing from the capture.\n"
         }
@@ -156,7 +156,7 @@ pub(crate) fn lines_of(code: u16) -> Option<&'static str>
             "told of  a request\n\
              fails    where it names a node, in the header, as the new directory of RENAME or RENAME2 or as the file of LINK, that is not the root and whose lookup count is 0\n\
              look at  Linux names a node only after an answer gave it: an answer is missing from the capture (a thread or a process that was not recorded), or two mounts stand in one file. A server that has forgotten the node too counts lookups otherwise than the kernel.\n\
-             look at  Or this request was recorded too late, behind a FORGET or BATCH_FORGET that the kernel sent after it: record each request at once behind read(2).\n\
+             look at  Or this request was recorded too late: a FORGET or BATCH_FORGET that the kernel sent later stands before it. Record each request right after read(2).\n\
              look at  An answer was recorded too late: record an answer before it is written.\n"
         }
         codes::FORGOTTEN_TOO_OFTEN => {
@@ -174,7 +174,7 @@ pub(crate) fn lines_of(code: u16) -> Option<&'static str>
              fails    where it uses a file handle that is not open, under the node of its opening and of its kind, a file or a directory\n\
              look at  An answer of OPEN, OPENDIR or CREATE that opened it may be missing from the capture.\n\
              look at  Or the server gave one handle for another: look where it gives handles out and closes them.\n\
-             look at  Or this request was recorded too late, behind a RELEASE, RELEASEDIR or FORGET that the kernel sent after it: record each request at once behind read(2).\n\
+             look at  Or this request was recorded too late: a RELEASE, RELEASEDIR or FORGET that the kernel sent later stands before it. Record each request right after read(2).\n\
              look at  An answer was recorded too late: record an answer before it is written.\n"
         }
         codes::NOT_AN_ORDER_TEXT => {
@@ -203,7 +203,7 @@ pub(crate) fn lines_of(code: u16) -> Option<&'static str>
              look at  Where one request was answered before the next was sent, the order has to keep that. Note the order under the server's lock, at the place where the request takes effect, or have `fa_audit propose` guess one.\n"
         }
         codes::ANSWERED_LEFT_OUT => {
-            "told of  an order, behind its last entry\n\
+            "told of  an order, after its last entry\n\
              fails    where an answered request that acts on the tree is in no entry\n\
              look at  it would fit as the next entry: Each answered request that acts on the tree stands in an order, one that was answered with an error too.\n\
              look at  it would not fit: The code that it has there says more: `fa_audit check` tells it of the order with this request as its next line. `fa_audit judge` says whether another order explains the reply.\n"
@@ -259,7 +259,7 @@ pub(crate) fn lines_of(code: u16) -> Option<&'static str>
              look at  size: What fills `size`: attributes kept from before a WRITE, SETATTR or open with O_TRUNC, or taken before this request took effect.\n\
              look at  attributes that no request changed: What fills the attributes: they are of another file, or made up.\n\
              look at  attributes from before the request: The request was not done, as a SETATTR of which a bit of `valid` is not looked at; or the attributes were taken before it.\n\
-             look at  size, behind an OPEN that does not cut: The server cuts a file at OPEN with O_TRUNC, though INIT did not agree on ATOMIC_O_TRUNC: then the kernel sends a SETATTR that cuts, and OPEN is to leave the bytes.\n\
+             look at  size, after an OPEN that does not cut: The server cuts a file at OPEN with O_TRUNC, though INIT did not agree on ATOMIC_O_TRUNC: then the kernel sends a SETATTR that cuts, and OPEN is to leave the bytes.\n\
              look at  size or links of a new file: What fills `size` and `nlink`: a new file has no bytes and one name; those told may be of a file that is gone, or were never set.\n\
              look at  permission bits of a new file: The mode of the request less its umask: run the server with umask 0, on a folder without default access control lists, and look what fills `mode`.\n\
              look at  permission bits that the mode of a new file lacks: What fills `mode`: a constant, a chmod of the server's own, or the mode of another file. A umask and access control lists only take bits away.\n\
@@ -270,7 +270,7 @@ pub(crate) fn lines_of(code: u16) -> Option<&'static str>
         codes::NODE_ID_OF_ANOTHER => {
             "told of  an entry of an order, or the request of a reply that no order explains\n\
              fails    where the node that the answer gives stands for another file already\n\
-             look at  The server made one node id for two files: an id taken from an inode number that was used again while the kernel still knew it, or from a hash; or LINK and RENAME moved a name and not its id. Give an id again only behind the last FORGET.\n\
+             look at  The server made one node id for two files: an id taken from an inode number that was used again while the kernel still knew it, or from a hash; or LINK and RENAME moved a name and not its id. Give an id again only after the last FORGET.\n\
              look at  a file that has a node of its own: The server answered with the node id of another file: look how it goes from the name to the file, and from where it fills `nodeid`.\n\
              look at  from the start: Whether the tree text says what the server began with (without --tree that is an empty root with mode 755), or files were changed otherwise than through the mount.\n"
         }
@@ -279,9 +279,9 @@ pub(crate) fn lines_of(code: u16) -> Option<&'static str>
              fails    where the bytes of a READ, or the target of a READLINK, are not those of the file\n\
              look at  READLINK: What the server keeps of targets, and whether the node stands for another file there.\n\
              look at  READ, too short: Few bytes: only the end of the file, or FOPEN_DIRECT_IO, allows that. Does the server go on reading after a short pread(2), and is its size the newest?\n\
-             look at  READ, too short behind an OPEN that does not cut: The server cuts a file at OPEN with O_TRUNC, though INIT did not agree on ATOMIC_O_TRUNC: then the kernel sends a SETATTR that cuts, and OPEN is to leave the bytes.\n\
+             look at  READ, too short after an OPEN that does not cut: The server cuts a file at OPEN with O_TRUNC, though INIT did not agree on ATOMIC_O_TRUNC: then the kernel sends a SETATTR that cuts, and OPEN is to leave the bytes.\n\
              look at  READ, too long: Bytes behind the end of the file: does the server send a whole buffer or page, or count bytes that no WRITE has written?\n\
-             look at  READ, too long behind a truncation: Bytes behind the end of the file: the server's size is older than the last truncation, or it sends a whole buffer or page.\n\
+             look at  READ, too long after a truncation: Bytes behind the end of the file: the server's size is older than the last truncation, or it sends a whole buffer or page.\n\
              look at  READ, other bytes: A copy of the bytes that a WRITE or truncation did not change: what is kept by handle or by page, and a WRITE done in two steps without a lock.\n\
              look at  READ, other bytes where zeros are: What lies between an old end of the file and a new one is zeros: a truncation that only lowers the size leaves the old bytes behind it, and so does a block or buffer that is not cleared.\n\
              look at  READ, other bytes that no request set: From which file and which offset the server reads: nothing has changed the first byte that differs.\n\

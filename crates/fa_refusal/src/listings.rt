@@ -49,9 +49,9 @@ pub struct Listing<'a, 't> {
     pub directory: FileId,
     /// The last four requests from whose answers it goes on, the last first.
     pub pieces: Vec<u32>,
-    /// How many entries all of these answers have that count.
+    /// How many entries all of these answers have that count, but for `.` and `..`,
     pub listed: usize,
-    /// How many entries the answer has.
+    /// and how many the answer has.
     pub entries: usize,
     /// Names that stayed and are not listed, where it has come to its end.
     pub missing: Found<&'t [u8]>,
@@ -210,7 +210,7 @@ impl<'a, 't> Listing<'a, 't> {
         self.note_pieces(opened, pieces, so_far)?;
         let is_judged = is_whole(case);
         self.note_entries(tree, opened, case.call.asked, entries, is_judged, so_far)?;
-        if is_judged && self.entries == 0 && list.size as usize >= ROOM_FOR_ANY {
+        if is_judged && entries.take(1).count() == 0 && list.size as usize >= ROOM_FOR_ANY {
             self.note_missing(alloc, so_far, opened)?;
         }
         Ok(())
@@ -253,8 +253,11 @@ impl<'a, 't> Listing<'a, 't> {
 
     /// Notes an answer from which it goes on.
     fn note_piece(&mut self, piece: &Piece<'_>) -> Result<(), AllocError> {
-        let count = piece.entries.take(piece.count as usize).count();
-        self.listed = self.listed.saturating_add(count);
+        for dirent in piece.entries.take(piece.count as usize) {
+            if !is_dots(dirent.name) {
+                self.listed = self.listed.saturating_add(1);
+            }
+        }
         if self.pieces.len() < LAST_PIECES {
             self.pieces.push(piece.asked)?;
         }
@@ -268,11 +271,11 @@ impl<'a, 't> Listing<'a, 't> {
         opened: &OpenedDirectory<'_>,
         dirent: &Dirent<'a>,
     ) -> Result<(), AllocError> {
-        self.entries = self.entries.saturating_add(1);
         let name = dirent.name;
         if is_dots(name) {
             return Ok(());
         }
+        self.entries = self.entries.saturating_add(1);
         if !opened.had(name) {
             self.never.add(name)?;
         }
