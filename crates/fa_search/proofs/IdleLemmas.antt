@@ -3,7 +3,9 @@ use Rattle.std.proofs.Common.{◌≡◌, ℕ, Bool, true, false, cond, List, [],
 use Rattle.std.specs.Prelude.{Contains}
 use Rattle.std.specs.Cmp.{nat_cmp_total}
 use Rattle.std.specs.FinMap.{FinMap, get, insert, get-insert, same_map, nat_cmp-IsAntisymmetric}
-use Rattle.std.specs.Ordering.{nat_cmp, eq_by_cmp}
+use Rattle.std.specs.Ordering.{nat_cmp, eq_by_cmp, is_eq}
+use Rattle.std.specs.declared.cmp.Ordering.{Ordering}
+use Rattle.std.specs.declared.cmp.Ordering.TheVariants.{Less, Equal, Greater}
 use Rattle.std.proofs.lemmas.Bool.{true≢false}
 use Rattle.fa_capture.proofs.CallerLemmas.{contains_cases, contains_first, contains_behind}
 use Rattle.fa_bodies.specs.Dirents.{PlainDirent}
@@ -17,10 +19,18 @@ use Rattle.fa_tree.specs.State.{OpenDirectory, Store, TreeState, node_cmp}
 use Rattle.fa_tree.specs.Operations.{said, count_written}
 use Rattle.fa_tree.specs.Bindings.{bound, nodes_after}
 use Rattle.fa_tree.specs.Steps.{names_given, opens_anew, setting, tree_done, tree_by, Steps}
-use Rattle.fa_tree.proofs.CallerLemmas.{IsPartOf, whole_part, step_read}
-use Rattle.fa_search.proofs.NodeOrderLemmas.{node_total, node_apart, tied_same}
+use Rattle.fa_tree.proofs.CallerLemmas.{IsPartOf, node_total, node_same, whole_part, step_read}
 
 -- ---- names that are given
+
+-- names that tie are one
+tied_same : (x y : NodeName) → eq_by_cmp node_cmp x y ≡ true → x ≡ y
+tied_same x y tie = by (node_cmp x y) refl tie
+  where
+    by : (o : Ordering) → node_cmp x y ≡ o → is_eq o ≡ true → x ≡ y
+    by Less is tied = absurd cc
+    by Equal is tied = node_same x y is
+    by Greater is tied = absurd cc
 
 -- a name that is bound to a file is one of the names
 bound_named : (names : List NodeName) (files : List (Option FileId)) (name : NodeName) (file : FileId) → Contains (bound names files) (name, file) → Contains names name
@@ -79,7 +89,7 @@ step_knowing_stays old new call wrote so_far reads opens success known s =
         (s.after ∙ ap (tree_by old (tree_done old s.files call call.operation (count_written call.operation wrote))) success)
 
     nodes : new.nodes ≡ old.nodes
-    nodes = same_map node_total node_apart new.nodes old.nodes (λ name. by name (get new.nodes name) (get old.nodes name) refl refl)
+    nodes = same_map node_total node_same new.nodes old.nodes (λ name. by name (get new.nodes name) (get old.nodes name) refl refl)
       where
         by : (name : NodeName) (now was : Option FileId) → get new.nodes name ≡ now → get old.nodes name ≡ was → get new.nodes name ≡ get old.nodes name
         by name (Some file) was is before =

@@ -2,7 +2,6 @@ pub mod StopLemmas
 pub mod FirstWithoutLemmas
 pub mod PendingLemmas
 pub mod RefusalLemmas
-pub mod NodeOrderLemmas
 pub mod IdleLemmas
 pub mod GivenLemmas
 pub mod GoingLemmas

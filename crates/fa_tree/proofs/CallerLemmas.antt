@@ -8,6 +8,8 @@ pub use Rattle.fa_tree.proofs.AlikeLemmas.{alike_self, alike_back, alike_on, ali
 pub use Rattle.fa_tree.proofs.UnchangedLemmas.{step_failed_stays, step_read_stays}
 -- a call as it is shown
 pub use Rattle.fa_tree.proofs.StepLemmas.{shown_at}
+-- names of nodes are in a total order and told apart
+pub use Rattle.fa_tree.proofs.NodeLemmas.{node_total, node_same}
 -- places are in a total order and told apart, and what is put at one is found
 pub use Rattle.fa_tree.specs.parts.PlaceLaws.{place_cmp_total, same_place}
 pub use Rattle.fa_tree.proofs.EditedLemmas.{insert_there}
