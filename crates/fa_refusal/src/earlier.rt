@@ -4,6 +4,7 @@ use crate::case::Case;
 use crate::history::History;
 use crate::refused::Refused;
 use crate::replaying::{refused_by, take_step};
+use fa_ledger::{Action, Operation};
 use fa_tree::{Replay, Tree};
 use std::alloc::AllocError;
 
@@ -100,9 +101,10 @@ pub(crate) fn follow(
     })
 }
 
-/// Whether the step of a request may change what a tree answers: it changes files or names, or gives nodes.
+/// Whether the step of a request may change what a tree answers: it changes files or names, opens a directory, or gives nodes.
 fn may_change(case: &Case<'_>) -> bool {
-    if !case.operation.keeps_tree() {
+    let opens_directory = matches!(&case.operation, Operation::Act(Action::Opendir { .. }));
+    if opens_directory || !case.operation.keeps_tree() {
         return true;
     }
     match &case.call.answer {
