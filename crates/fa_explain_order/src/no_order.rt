@@ -4,7 +4,7 @@ use crate::another::answered_by;
 use crate::answers::{exchange, printed};
 use crate::looks::Looks;
 use crate::rules::{is_never, never_look_line};
-use crate::stepping::{because, look_at_answer, look_at_start};
+use crate::stepping::{NEVER_RIGHT, because, look_at_answer, look_at_start};
 use crate::wording::{self, comma};
 use fa_capture::{Capture, codes};
 use fa_ledger::{Calls, Outcome};
@@ -44,17 +44,20 @@ static ON_TREE: [&str; MOST_REASONS] = [
     "On tree 8: ",
 ];
 
-/// The labels of lines that say what differs on a tree. The first that is there tells it.
-static TELLING: [&[u8]; 8] = [
-    b"differs ",
-    b"missing ",
-    b"twice ",
-    b"never ",
-    b"type ",
-    b"gone ",
-    b"here ",
-    b"tree ",
-];
+/// The labels of the lines that say what differs where a success is not allowed.
+static OF_SUCCESSES: [&[u8]; 1] = [b"here "];
+
+/// The same where an error has no cause.
+static OF_ERRORS: [&[u8]; 1] = [b"tree "];
+
+/// The same of a node that is given for another file.
+static OF_NODES: [&[u8]; 2] = [b"given ", b"here "];
+
+/// The same of a listing. There they are written too.
+static OF_LISTINGS: [&[u8]; 5] = [b"missing ", b"twice ", b"never ", b"type ", b"gone "];
+
+/// The same of attributes and of bytes.
+static OF_VALUES: [&[u8]; 1] = [b"differs "];
 
 /// Orders that come to a reply past which no order goes.
 #[derive(Clone, Copy)]
@@ -78,8 +81,9 @@ pub struct NoOrderReasons {
 ///
 /// The calls are those of the capture, and `at` is the number of the reply. They say what its request asks for and what it was answered,
 /// which rule the answer breaks, which requests were not answered yet, and of each tree that is told by an order what differs there, those
-/// on which the same differs in one line, eight lines at most; and what to look at in a server. They are printing ASCII and line feeds
-/// alone, whatever the capture holds. Where the message answers no request that acts on the tree there are none.
+/// on which the same differs as one, eight at most; until when the answer was right, where all orders say the same and there is one for each
+/// tree; and what to look at in a server. They are printing ASCII and line feeds alone, whatever the capture holds. Where the message answers no
+/// request that acts on the tree there are none.
 ///
 /// # Errors
 ///
@@ -87,8 +91,8 @@ pub struct NoOrderReasons {
 ///
 /// # Cost
 ///
-/// For each order that of [`order_reasons`](crate::order_reasons) on it, and for each two of them a look through the lines of both. Memory
-/// for two copies of the tree, and 32 KiB an order.
+/// For each order that of [`order_reasons`](crate::order_reasons) on it, and for each two of them each line of one is compared with all of
+/// the other. Memory for two copies of the tree, and 32 KiB an order.
 pub fn no_order_reasons(
     alloc: Global,
     capture: &Capture<'_>,
@@ -106,7 +110,8 @@ pub fn no_order_reasons(
     reasons.rule_lines(&mut text);
     beside_line(&mut text, calls, &case, at);
     trees_line(&mut text, coming, at);
-    reasons.tree_lines(&mut text, calls, coming);
+    reasons.tree_lines(&mut text, calls, coming, at);
+    reasons.earlier_line(&mut text, coming);
     reasons.look_at(&mut text, &case);
     let order = reasons.least().map(|least| least.order);
     Ok(NoOrderReasons { text, order })
@@ -259,20 +264,56 @@ impl Reason {
         }))
     }
 
-    /// What differs on the tree.
-    fn telling(&self) -> &[u8] {
-        let lines = self.lines.as_bytes();
-        for label in &TELLING {
-            if let Some(line) = line_of(lines, label) {
-                return behind_label(line);
+    /// The labels of the lines that say what differs on the tree.
+    fn telling(&self) -> &'static [&'static [u8]] {
+        match self.code {
+            codes::SUCCESS_NOT_ALLOWED => &OF_SUCCESSES,
+            codes::ERROR_WITHOUT_CAUSE => &OF_ERRORS,
+            codes::NODE_ID_OF_ANOTHER => &OF_NODES,
+            codes::LISTING => &OF_LISTINGS,
+            _ => &OF_VALUES,
+        }
+    }
+
+    /// Whether a line says what differs on the tree.
+    fn is_telling(&self, line: &[u8]) -> bool {
+        self.telling().iter().any(|label| line.starts_with(*label))
+    }
+
+    /// Writes what differs on the tree, all but the first behind a label of its own.
+    fn tell(&self, text: &mut Text, number: usize) {
+        let mut is_first = true;
+        for line in self.lines.as_bytes().split(|byte| *byte == b'\n') {
+            if self.is_telling(line) {
+                if !is_first {
+                    text.end_line();
+                    tree_label(text, number);
+                    text.word("and ");
+                }
+                if self.code == codes::LISTING {
+                    printed(text, label_of(line));
+                }
+                printed(text, behind_label(line));
+                is_first = false;
             }
         }
-        &[]
+    }
+
+    /// Whether one of the lines is this one.
+    fn has_line(&self, line: &[u8]) -> bool {
+        let mut lines = self.lines.as_bytes().split(|byte| *byte == b'\n');
+        lines.any(|other| other == line)
+    }
+
+    /// Whether all that is said to differ on the tree is said of another one too.
+    fn is_told_by(&self, other: &Reason) -> bool {
+        let mut lines = self.lines.as_bytes().split(|byte| *byte == b'\n');
+        lines.all(|line| !self.is_telling(line) || other.has_line(line))
     }
 
     /// Whether the same differs on another tree.
     fn is_same(&self, other: &Reason) -> bool {
-        self.code == other.code && self.telling() == other.telling()
+        self.code == other.code && self.is_told_by(other) && other.is_told_by(self)
     }
 }
 
@@ -281,6 +322,14 @@ fn line_of<'a>(lines: &'a [u8], label: &[u8]) -> Option<&'a [u8]> {
     lines
         .split(|byte| *byte == b'\n')
         .find(|line| line.starts_with(label))
+}
+
+/// The label of a line, up to and with its first blank.
+fn label_of(line: &[u8]) -> &[u8] {
+    match line.split_inclusive(|byte| *byte == b' ').next() {
+        Some(label) => label,
+        None => &[],
+    }
 }
 
 /// What stands behind the label of a line.
@@ -393,7 +442,7 @@ impl Reasons {
     }
 
     /// Writes what differs on each tree, those on which the same does in one line, by their codes.
-    fn tree_lines(&self, text: &mut Text, calls: &Calls<'_>, coming: &Coming<'_>) {
+    fn tree_lines(&self, text: &mut Text, calls: &Calls<'_>, coming: &Coming<'_>, at: u32) {
         let mut told: usize = 0;
         for code in codes::SUCCESS_NOT_ALLOWED..=codes::LISTING {
             for (place, reason) in self.list.iter().enumerate() {
@@ -402,7 +451,7 @@ impl Reasons {
                 }
                 told = told.saturating_add(1);
                 if told <= MOST_REASONS {
-                    self.tree_line(text, calls, coming, reason, told);
+                    self.tree_line(text, calls, coming, at, reason, told);
                 }
             }
         }
@@ -425,16 +474,16 @@ impl Reasons {
         text: &mut Text,
         calls: &Calls<'_>,
         coming: &Coming<'_>,
+        at: u32,
         reason: &Reason,
         number: usize,
     ) {
-        text.field("tree ", number as u64);
-        text.word(if number < 10 { "   " } else { "  " });
+        tree_label(text, number);
         if let Some(order) = coming.orders.get(reason.order) {
-            way(text, calls, order);
+            way(text, calls, order, at);
         }
         self.begin_code(text, reason.code);
-        printed(text, reason.telling());
+        reason.tell(text, number);
         let same = self
             .list
             .iter()
@@ -442,9 +491,32 @@ impl Reasons {
             .count();
         if same > 1 {
             text.field("; and ", (same - 1) as u64);
-            text.word(" more with the same");
+            text.word(if same == 2 {
+                " more tree with the same"
+            } else {
+                " more trees with the same"
+            });
         }
         text.end_line();
+    }
+
+    /// Writes until when the same answer was right on the way of each order, where that is the same and each tree has an order. That it
+    /// never was is not written: by another order to the same tree it may have been.
+    fn earlier_line(&self, text: &mut Text, coming: &Coming<'_>) {
+        let Some((first, others)) = self.list.split_first() else {
+            return;
+        };
+        let Some(line) = line_of(first.lines.as_bytes(), b"earlier ") else {
+            return;
+        };
+        let are_all = self.list.len() == coming.trees;
+        if are_all
+            && line != NEVER_RIGHT.as_bytes()
+            && others.iter().all(|other| other.has_line(line))
+        {
+            printed(text, line);
+            text.end_line();
+        }
     }
 }
 
@@ -460,18 +532,43 @@ fn error_never_answered(case: &Case<'_>) -> Option<i32> {
     }
 }
 
-/// Writes the last entries of an order.
-fn way(text: &mut Text, calls: &Calls<'_>, order: &[Entry]) {
-    let (_, last) = order.split_at(order.len().saturating_sub(LAST));
+/// Writes the label of a line of a tree.
+fn tree_label(text: &mut Text, number: usize) {
+    text.field("tree ", number as u64);
+    text.word(if number < 10 { "   " } else { "  " });
+}
+
+/// Writes the request of an entry, and of a WRITE that was never answered how many bytes it wrote.
+fn entry_words(text: &mut Text, calls: &Calls<'_>, entry: &Entry) {
+    wording::begin_request(text, calls, entry.at);
+    if let Some(wrote) = entry.wrote {
+        text.word(", ");
+        text.count(wrote as usize, " byte", " bytes");
+    }
+    text.word(")");
+}
+
+/// Writes the last entries of an order, and before them others of requests that were not answered yet where a message was sent: by these
+/// the trees differ.
+fn way(text: &mut Text, calls: &Calls<'_>, order: &[Entry], at: u32) {
+    let (before, last) = order.split_at(order.len().saturating_sub(LAST));
     if last.is_empty() {
         text.word("from the start: ");
         return;
     }
-    text.word("after ");
+    let mut told: usize = 0;
+    for entry in before {
+        if told < FEW && Case::of(calls, entry.at).is_some_and(|case| is_in_flight(&case, at)) {
+            text.word(if told == 0 { "with " } else { ", " });
+            entry_words(text, calls, entry);
+            told = told.saturating_add(1);
+        }
+    }
+    text.word(if told > 0 { ", after " } else { "after " });
     let mut is_first = true;
     for entry in last {
         comma(text, is_first);
-        wording::request(text, calls, entry.at);
+        entry_words(text, calls, entry);
         is_first = false;
     }
     text.word(": ");

@@ -213,6 +213,9 @@ fn of_absence(scene: &Scene<'_>) -> &'static str {
     }
 }
 
+/// The line of an answer that was right at no moment of an order.
+pub(crate) const NEVER_RIGHT: &str = "earlier  the same answer was never right before";
+
 /// Writes whether the answer was right before. A node that is given for another file was free before it was given.
 fn earlier_line(text: &mut Text, scene: &Scene<'_>, finding: &Finding<'_, '_>) {
     if let Finding::Given(_) = finding {
@@ -231,7 +234,7 @@ fn earlier_line(text: &mut Text, scene: &Scene<'_>, finding: &Finding<'_, '_>) {
             text.end_line();
         }
         Earlier::Never => {
-            text.word("earlier  the same answer was never right before");
+            text.word(NEVER_RIGHT);
             text.end_line();
         }
         Earlier::Unknown => {}
