@@ -44,11 +44,11 @@ static ON_TREE: [&str; MOST_REASONS] = [
     "On tree 8: ",
 ];
 
-/// The labels of the lines that say what differs where a success is not allowed.
-static OF_SUCCESSES: [&[u8]; 1] = [b"here "];
+/// The label of the line that says which part of what a success needs does not hold.
+static OF_PARTS: [&[u8]; 1] = [b"here "];
 
-/// The same where an error has no cause.
-static OF_ERRORS: [&[u8]; 1] = [b"tree "];
+/// The same of lines that say what the tree holds: where an error has no cause, and where no part was found.
+static OF_TREES: [&[u8]; 1] = [b"tree "];
 
 /// The same of a node that is given for another file.
 static OF_NODES: [&[u8]; 2] = [b"given ", b"here "];
@@ -66,6 +66,8 @@ pub struct Coming<'a> {
     pub orders: &'a [Vec<Entry>],
     /// How many such trees there are, with those that are told by no order.
     pub trees: usize,
+    /// The number of the reply.
+    pub at: u32,
 }
 
 /// Why no order goes past a reply.
@@ -79,11 +81,11 @@ pub struct NoOrderReasons {
 
 /// Why no order goes past a reply: the lines behind the lines of a verdict that says so, and which order leads to the first tree in them.
 ///
-/// The calls are those of the capture, and `at` is the number of the reply. They say what its request asks for and what it was answered,
-/// which rule the answer breaks, which requests were not answered yet, and of each tree that is told by an order what differs there, those
-/// on which the same differs as one, eight at most; until when the answer was right, where all orders say the same and there is one for each
-/// tree; and what to look at in a server. They are printing ASCII and line feeds alone, whatever the capture holds. Where the message answers no
-/// request that acts on the tree there are none.
+/// The calls are those of the capture. The lines say what the request asks for and what it was answered, which rule the answer breaks,
+/// which requests were not answered yet, and of each tree that is told by an order what differs there, those on which the same differs as
+/// one, eight at most; until when the answer was right, where all orders say the same and there is one for each tree; and what to look at
+/// in a server. They are printing ASCII and line feeds alone, whatever the capture holds. Where the message answers no request that acts on
+/// the tree there are none.
 ///
 /// # Errors
 ///
@@ -99,19 +101,18 @@ pub fn no_order_reasons(
     calls: &Calls<'_>,
     first: &Tree,
     coming: &Coming<'_>,
-    at: u32,
 ) -> Result<NoOrderReasons, AllocError> {
     let mut text = Text::new(alloc, ROOM, false)?;
-    let Some(case) = answered_by(calls, at) else {
+    let Some(case) = answered_by(calls, coming.at) else {
         return Ok(NoOrderReasons { text, order: None });
     };
     exchange(alloc, &mut text, capture, &case)?;
     let reasons = Reasons::of(alloc, calls, first, coming, case.call.asked)?;
     reasons.rule_lines(&mut text);
-    beside_line(&mut text, calls, &case, at);
-    trees_line(&mut text, coming, at);
-    reasons.tree_lines(&mut text, calls, coming, at);
-    reasons.earlier_line(&mut text, coming);
+    beside_line(&mut text, calls, &case, coming.at);
+    trees_line(&mut text, coming);
+    reasons.tree_lines(&mut text);
+    reasons.earlier_line(&mut text);
     reasons.look_at(&mut text, &case);
     let order = reasons.least().map(|least| least.order);
     Ok(NoOrderReasons { text, order })
@@ -171,14 +172,15 @@ fn is_in_flight(case: &Case<'_>, at: u32) -> bool {
 }
 
 /// Writes how many trees there were, and of how many it is told what differs.
-fn trees_line(text: &mut Text, coming: &Coming<'_>, at: u32) {
+fn trees_line(text: &mut Text, coming: &Coming<'_>) {
+    let at = u64::from(coming.at);
     text.word("trees    ");
     if coming.trees == 1 {
-        text.field("1 tree explains all replies before message ", u64::from(at));
+        text.field("1 tree explains all replies before message ", at);
         text.word(", and refuses this one");
     } else {
         text.number(coming.trees as u64);
-        text.field(" trees explain all replies before message ", u64::from(at));
+        text.field(" trees explain all replies before message ", at);
         text.word(", and each refuses this one");
     }
     if coming.orders.len() < coming.trees {
@@ -267,12 +269,26 @@ impl Reason {
     /// The labels of the lines that say what differs on the tree.
     fn telling(&self) -> &'static [&'static [u8]] {
         match self.code {
-            codes::SUCCESS_NOT_ALLOWED => &OF_SUCCESSES,
-            codes::ERROR_WITHOUT_CAUSE => &OF_ERRORS,
+            codes::SUCCESS_NOT_ALLOWED => self.telling_of_success(),
+            codes::ERROR_WITHOUT_CAUSE => &OF_TREES,
             codes::NODE_ID_OF_ANOTHER => &OF_NODES,
             codes::LISTING => &OF_LISTINGS,
             _ => &OF_VALUES,
         }
+    }
+
+    /// The same where a success is not allowed.
+    fn telling_of_success(&self) -> &'static [&'static [u8]] {
+        match self.line(b"here ") {
+            Some(_) => &OF_PARTS,
+            None => &OF_TREES,
+        }
+    }
+
+    /// The first line that begins with this label.
+    fn line(&self, label: &[u8]) -> Option<&[u8]> {
+        let mut lines = self.lines.as_bytes().split(|byte| *byte == b'\n');
+        lines.find(|line| line.starts_with(label))
     }
 
     /// Whether a line says what differs on the tree.
@@ -317,13 +333,6 @@ impl Reason {
     }
 }
 
-/// The first line that begins with this label.
-fn line_of<'a>(lines: &'a [u8], label: &[u8]) -> Option<&'a [u8]> {
-    lines
-        .split(|byte| *byte == b'\n')
-        .find(|line| line.starts_with(label))
-}
-
 /// The label of a line, up to and with its first blank.
 fn label_of(line: &[u8]) -> &[u8] {
     match line.split_inclusive(|byte| *byte == b' ').next() {
@@ -340,17 +349,19 @@ fn behind_label(line: &[u8]) -> &[u8] {
 
 /// Why the trees that were alive refuse the answer.
 #[derive(Drop)]
-struct Reasons {
+struct Reasons<'a> {
+    calls: &'a Calls<'a>,
+    coming: &'a Coming<'a>,
     list: Vec<Reason>,
 }
 
-impl Reasons {
+impl<'a> Reasons<'a> {
     /// Why each tree to which an order leads refuses the answer to a request.
     fn of(
         alloc: Global,
-        calls: &Calls<'_>,
+        calls: &'a Calls<'a>,
         first: &Tree,
-        coming: &Coming<'_>,
+        coming: &'a Coming<'a>,
         asked: u32,
     ) -> Result<Self, AllocError> {
         let mut list = Vec::new(alloc);
@@ -359,7 +370,11 @@ impl Reasons {
                 list.push(reason)?;
             }
         }
-        Ok(Reasons { list })
+        Ok(Reasons {
+            calls,
+            coming,
+            list,
+        })
     }
 
     /// The first of those with the least code.
@@ -371,7 +386,7 @@ impl Reasons {
     fn rule_lines(&self, text: &mut Text) {
         for code in codes::SUCCESS_NOT_ALLOWED..=codes::LISTING {
             if let Some(reason) = self.list.iter().find(|reason| reason.code == code) {
-                if let Some(line) = line_of(reason.lines.as_bytes(), b"rule ") {
+                if let Some(line) = reason.line(b"rule ") {
                     text.word("rule     ");
                     self.begin_code(text, code);
                     printed(text, behind_label(line));
@@ -442,7 +457,7 @@ impl Reasons {
     }
 
     /// Writes what differs on each tree, those on which the same does in one line, by their codes.
-    fn tree_lines(&self, text: &mut Text, calls: &Calls<'_>, coming: &Coming<'_>, at: u32) {
+    fn tree_lines(&self, text: &mut Text) {
         let mut told: usize = 0;
         for code in codes::SUCCESS_NOT_ALLOWED..=codes::LISTING {
             for (place, reason) in self.list.iter().enumerate() {
@@ -451,7 +466,7 @@ impl Reasons {
                 }
                 told = told.saturating_add(1);
                 if told <= MOST_REASONS {
-                    self.tree_line(text, calls, coming, at, reason, told);
+                    self.tree_line(text, reason, told);
                 }
             }
         }
@@ -469,18 +484,10 @@ impl Reasons {
     }
 
     /// Writes what differs on a tree.
-    fn tree_line(
-        &self,
-        text: &mut Text,
-        calls: &Calls<'_>,
-        coming: &Coming<'_>,
-        at: u32,
-        reason: &Reason,
-        number: usize,
-    ) {
+    fn tree_line(&self, text: &mut Text, reason: &Reason, number: usize) {
         tree_label(text, number);
-        if let Some(order) = coming.orders.get(reason.order) {
-            way(text, calls, order, at);
+        if let Some(order) = self.coming.orders.get(reason.order) {
+            way(text, self.calls, order, self.coming.at);
         }
         self.begin_code(text, reason.code);
         reason.tell(text, number);
@@ -502,14 +509,14 @@ impl Reasons {
 
     /// Writes until when the same answer was right on the way of each order, where that is the same and each tree has an order. That it
     /// never was is not written: by another order to the same tree it may have been.
-    fn earlier_line(&self, text: &mut Text, coming: &Coming<'_>) {
+    fn earlier_line(&self, text: &mut Text) {
         let Some((first, others)) = self.list.split_first() else {
             return;
         };
-        let Some(line) = line_of(first.lines.as_bytes(), b"earlier ") else {
+        let Some(line) = first.line(b"earlier ") else {
             return;
         };
-        let are_all = self.list.len() == coming.trees;
+        let are_all = self.list.len() == self.coming.trees;
         if are_all
             && line != NEVER_RIGHT.as_bytes()
             && others.iter().all(|other| other.has_line(line))

@@ -232,10 +232,9 @@ fn stop_reasons(
     let coming = Coming {
         orders: &orders,
         trees,
+        at,
     };
-    let NoOrderReasons { text, order } = no_order_reasons(
-        alloc, capture, calls, first, &coming, at,
-    )?;
+    let NoOrderReasons { text, order } = no_order_reasons(alloc, capture, calls, first, &coming)?;
     let entries = match order {
         Some(place) if place < orders.len() => orders.swap_remove(place),
         _ => Vec::new(alloc),
