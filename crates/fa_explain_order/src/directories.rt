@@ -18,7 +18,7 @@ pub(crate) fn explain(
 ) -> Result<Looks, AllocError> {
     rule_line(text, LISTINGS);
     directory_line(text, scene, listing)?;
-    listing_line(text, listing);
+    listing_line(text, scene, listing);
     missing_line(text, scene, listing);
     twice_line(text, listing);
     never_line(text, scene, listing);
@@ -46,10 +46,15 @@ fn directory_line(
 }
 
 /// Writes the line of how far the directory was listed.
-fn listing_line(text: &mut Text, listing: &Listing<'_, '_>) {
+fn listing_line(text: &mut Text, scene: &Scene<'_>, listing: &Listing<'_, '_>) {
+    let is_adrift = scene.case.call.listing.is_some_and(|from| from.adrift);
     text.word("listing  ");
     if listing.pieces.is_empty() {
-        text.word("begins here");
+        text.word(if is_adrift {
+            "begins at an offset that no answer gave"
+        } else {
+            "begins here"
+        });
     } else {
         text.word("goes on from ");
         let mut is_first = true;
@@ -60,6 +65,9 @@ fn listing_line(text: &mut Text, listing: &Listing<'_, '_>) {
         }
         text.word(": ");
         text.count(listing.listed, " entry so far", " entries so far");
+        if is_adrift {
+            text.word(", begun at an offset that no answer gave");
+        }
     }
     text.word("; this answer has ");
     if listing.entries == 0 {
