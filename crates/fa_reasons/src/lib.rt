@@ -20,8 +20,5 @@ pub use pages::ReportView;
 pub use picturing::run_picture;
 pub use reporting::run_report;
 
-/// Which messages are drawn, and how many where nothing else is asked for.
-pub use fa_picture::{DEFAULT_MESSAGES, View};
-
-/// How many messages the table of a report has, where nothing else is asked for.
-pub use fa_report::DEFAULT_ROWS;
+/// Which messages are drawn, and how many are, and how many the table of a report has, where nothing else is asked for.
+pub use fa_picture::{DEFAULT_MESSAGES, DEFAULT_ROWS, View};

@@ -19,8 +19,7 @@ use fa_audit::{
 use fa_capture::{Input, Output, Seed, read_capture};
 use fa_check::Verdict;
 use fa_order::Entry;
-use fa_picture::{Subject, View, picture};
-use fa_report::{Findings, Outcome, report};
+use fa_picture::{Findings, Outcome, Subject, View, picture, report};
 use fa_show::Text;
 use std::alloc::{AllocError, Global};
 

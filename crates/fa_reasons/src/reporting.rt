@@ -22,8 +22,7 @@ use fa_audit::{
 use fa_capture::{Capture, Input, Output, Seed, read_capture};
 use fa_check::Verdict;
 use fa_order::Entry;
-use fa_picture::{Exchanges, Fault, Subject, View};
-use fa_report::{Findings, Outcome, report};
+use fa_picture::{Exchanges, Fault, Findings, Outcome, Subject, View, report};
 use fa_search::{Budget, Listener};
 use fa_show::Text;
 use std::alloc::{AllocError, Global};

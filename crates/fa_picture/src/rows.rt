@@ -1,10 +1,12 @@
 //! The table of messages.
 
+use crate::escape::{write_content, write_markup};
+use crate::exchanges::Exchanges;
+use crate::fault::Fault;
 use crate::reasons::write_link;
 use crate::table::{Row, Table};
 use fa_bodies::split_at_byte;
 use fa_capture::{Direction, Packet};
-use fa_picture::{Exchanges, Fault, write_content, write_markup};
 use fa_show::{Text, message_in};
 
 /// What stands in a line before the number of the request that a message answers.

@@ -1,6 +1,6 @@
 //! What a page says of a server.
 
-use fa_picture::Fault;
+use crate::fault::Fault;
 
 /// What was found of a server, which is seen in the colour of the verdict.
 #[derive(Clone, Copy, Debug, PartialEq, Eq)]

@@ -1,8 +1,10 @@
 //! Which messages the page has.
 
+use crate::exchanges::Exchanges;
+use crate::scene::{Subject, centre};
+use crate::window::View;
 use fa_capture::{Capture, Packet};
 use fa_order::Entry;
-use fa_picture::{Exchanges, Subject, View, centre};
 use std::alloc::{AllocError, Global};
 
 /// A message of the table.

@@ -1,9 +1,9 @@
 //! Why a verdict is as it is, line by line.
 
+use crate::escape::{write_content, write_markup};
 use crate::pieces::{Piece, Pieces};
 use crate::table::Table;
 use fa_bodies::split_at_byte;
-use fa_picture::{write_content, write_markup};
 use fa_show::Text;
 use std::alloc::AllocError;
 

@@ -1,15 +1,17 @@
 //! A page, from a verdict to its text.
 
+use crate::drawing::{Drawing, Heading};
+use crate::escape::{write_content, write_markup};
+use crate::exchanges::Exchanges;
+use crate::fault::Fault;
 use crate::outcome::Outcome;
 use crate::reasons::{mention, write_reasons};
 use crate::rows::write_rows;
+use crate::scene::Subject;
 use crate::script::SCRIPT;
 use crate::style::write_style;
 use crate::table::Table;
-use fa_picture::{
-    DEFAULT_MESSAGES, Drawing, Exchanges, Fault, Heading, Subject, View, write_content,
-    write_markup,
-};
+use crate::window::{DEFAULT_MESSAGES, View};
 use fa_show::Text;
 use std::alloc::{AllocError, Global};
 
@@ -102,7 +104,7 @@ fn write_head(text: &mut Text, verdict: &str) {
 
 /// A verdict as an HTML page that stands by itself.
 ///
-/// The page has the verdict, what was judged, the reasons, the [picture](fa_picture::picture) of the requests around a message, and a table of
+/// The page has the verdict, what was judged, the reasons, the [picture](crate::picture) of the requests around a message, and a table of
 /// as many messages around the same one as the view says, and of those to which the reasons link, each with the one that goes with it. A
 /// script in the page lets those messages be chosen that have some words; without it the table is whole. Nothing is taken from elsewhere,
 /// which the page forbids itself. The text is printing ASCII and line feeds alone, and what comes from the capture or was handed in is

@@ -1,6 +1,6 @@
 //! The style of the page.
 
-use fa_picture::write_markup;
+use crate::escape::write_markup;
 use fa_show::Text;
 
 /// The colours by day and by night.
