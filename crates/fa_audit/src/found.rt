@@ -1,4 +1,9 @@
-//! What a search of all orders answers, and what is judged by it.
+//! What a search of all orders answers, what is decided by it, and what is judged.
+
+ghost use Rattle.std.specs.Prelude.{◌≡◌};
+ghost use Rattle.fa_audit.specs.Searched.{judgement_by};
+
+use fa_order::Entry;
 
 /// What a search answers of a capture that is good and a tree that is given.
 #[derive(Debug, Drop)]
@@ -51,4 +56,58 @@ pub enum Judgement {
         /// The number of the message at which the search ended.
         at: u32,
     },
+}
+
+/// What is judged of a capture that is good and a tree that is given, by a search of all orders, with the order that was found.
+#[derive(Debug, Drop)]
+pub enum Decision {
+    /// This order explains each recorded reply.
+    Legal {
+        /// Its entries.
+        order: Vec<Entry>,
+        /// The messages in the capture.
+        messages: u32,
+        /// How many entries it has.
+        placed: u32,
+        /// The unanswered tree requests that it leaves out.
+        left: u32,
+    },
+    /// No order does, as in [`Searched::NoOrder`].
+    NoOrder {
+        /// The number of the message past which none goes.
+        at: u32,
+        /// The least code with which its request is refused.
+        code: u16,
+        /// How many of the first messages alone have no order, while one fewer have one; where that was found.
+        shortest: Option<u32>,
+    },
+    /// The budget was spent before an answer was found, as in [`Searched::GaveUp`].
+    GaveUp {
+        /// The number of the message at which the search ended.
+        at: u32,
+    },
+}
+
+impl Decision {
+    /// What is judged, without the order.
+    ///
+    /// Takes no memory, in constant time.
+    pub fn judgement(&self) -> Judgement
+        ensures { result ≡ judgement_by self.now }
+    {
+        match *self {
+            Decision::Legal {
+                messages,
+                placed,
+                left,
+                ..
+            } => Judgement::Legal {
+                messages,
+                placed,
+                left,
+            },
+            Decision::NoOrder { at, code, shortest } => Judgement::NoOrder { at, code, shortest },
+            Decision::GaveUp { at } => Judgement::GaveUp { at },
+        }
+    }
 }

@@ -3,13 +3,10 @@
 ghost use Rattle.std.specs.Prelude.{◌≡◌, ◌≢◌, ◌≤◌, ◌↔◌, ◌⊎◌, ℕ, false, true, List, None, Ok, Err, length, IfOk, IfErr, IfSome, IsOk, OnOk, IsErrOf};
 ghost use Rattle.std.specs.Option.{option_copied};
 ghost use Rattle.std.specs.Io.KnownBytes.{IsAtEnd, Keeps};
-ghost use Rattle.fa_capture.specs.Message.{Message};
 ghost use Rattle.fa_capture.specs.Captures.{IsCaptureOf};
 ghost use Rattle.fa_ledger.specs.Passing.{IsFirstFault};
 ghost use Rattle.fa_order.specs.declared.lines.TheConstants.{MAX_TEXT_BYTES};
-ghost use Rattle.fa_check.specs.Verdicts.{AreMessagesOf};
 ghost use Rattle.fa_search.specs.Searches.{IsEndless};
-ghost use Rattle.fa_search.specs.declared.finding.Finding.TheVariants as Finding;
 ghost use Rattle.fa_audit.specs.Verdict.{IsTreeTextAtFault, ExactlyRefused};
 ghost use Rattle.fa_audit.specs.Line.{IsCoded, IsCodedSearch};
 ghost use Rattle.fa_audit.specs.Run.{IfHandedIn, IsHandedIn, IsSomeRead, IsReadIfAny, IsUnread, FailedOrInterrupted, IsAtEndOrFault};
@@ -18,21 +15,16 @@ ghost use Rattle.fa_audit.specs.declared.running.TheConstants.{MAX_TEXT_INPUT_BY
 ghost use Rattle.fa_audit.specs.Proposed.{IsStart, answer_of};
 ghost use Rattle.fa_audit.specs.Searched.{IsSearched, IsSearchTold, IsSearchedFrom};
 ghost use Rattle.fa_audit.specs.Starts.{IsNoStart};
-ghost use Rattle.fa_audit.specs.parts.Searching.{IsFindingIn, IsSearchedIn};
 
-use crate::deciding::tell_judgement;
-use crate::found::{Judgement, Searched};
-use crate::judge::start;
+use crate::deciding::{decided, tell_judgement};
+use crate::found::{Decision, Judgement, Searched};
 use crate::running::{MAX_TEXT_INPUT_BYTES, RunFault, input_bytes, stored_capture};
-use crate::shortest::shortest_without;
 use crate::status::Status;
 use crate::verdict::StartError;
 use fa_capture::{Capture, Input, Output, Seed, read_capture};
-use fa_ledger::Calls;
 use fa_order::write_order;
-use fa_search::{Budget, Finding, Listener, Nobody, search};
-use fa_tree::Tree;
-use std::alloc::{AllocError, Global};
+use fa_search::{Budget, Listener, Nobody};
+use std::alloc::Global;
 
 /// The text of an order that is legal for a capture, from the tree that the server began with; or that there is none.
 ///
@@ -78,7 +70,7 @@ pub fn search_order(
     searched(alloc, &read_capture(capture), tree, budget, &mut Nobody)
 }
 
-/// What a search answers of a capture that was read: where no order is legal, with how many of the first messages alone have none.
+/// What a search answers of a capture that was read.
 fn searched<L: Listener>(
     alloc: Global,
     capture: &Capture<'_>,
@@ -91,65 +83,10 @@ fn searched<L: Listener>(
     ensures none { IfErr result (λ error. (bytes : List ℕ) → IsCaptureOf bytes capture.now → IsNoStart bytes (option_copied tree.entry) error) }
     ensures decides { (at : ℕ) → IsEndless budget → result ≡ Ok (GaveUp at) → ⊥ }
 {
-    match searched_whole(alloc, capture, tree, budget, listener)? {
-        Searched::NoOrder { at, code, .. } => {
-            let shortest = shortest_without(alloc, capture, tree, at, budget, listener)?;
-            Ok(Searched::NoOrder { at, code, shortest })
-        }
-        searched => Ok(searched),
-    }
-}
-
-/// What a search answers of all messages alone.
-fn searched_whole<L: Listener>(
-    alloc: Global,
-    capture: &Capture<'_>,
-    tree: Option<&[u8]>,
-    budget: Budget,
-    listener: &mut L,
-) -> Result<Searched, StartError>
-    requires { IfSome (option_copied tree) (λ text. length text ≤ MAX_TEXT_BYTES) }
-    ensures answer { IfOk result (λ searched. (bytes : List ℕ) → IsCaptureOf bytes capture.now → IsSearched bytes (option_copied tree.entry) searched) }
-    ensures none { IfErr result (λ error. (bytes : List ℕ) → IsCaptureOf bytes capture.now → IsNoStart bytes (option_copied tree.entry) error) }
-    ensures decides { (at : ℕ) → IsEndless budget → result ≡ Ok (GaveUp at) → ⊥ }
-{
-    let (calls, first) = start(alloc, capture, tree)?;
-    Ok(found_text(alloc, &calls, first, budget, listener)?)
-}
-
-/// What a search finds from a tree.
-pub(crate) fn found_from<L: Listener>(
-    alloc: Global,
-    calls: &Calls<'_>,
-    first: Tree,
-    budget: Budget,
-    listener: &mut L,
-) -> Result<Finding, AllocError>
-    ensures found { IfOk result (λ finding. (c : List Message) → AreMessagesOf calls.now c → IsFindingIn c first finding) }
-    ensures decides { (at : ℕ) → IsEndless budget → result ≡ Ok (Finding.GaveUp at) → ⊥ }
-{
-    search(alloc, calls, first, budget, listener)
-}
-
-/// The same, with an order as its text.
-fn found_text<L: Listener>(
-    alloc: Global,
-    calls: &Calls<'_>,
-    first: Tree,
-    budget: Budget,
-    listener: &mut L,
-) -> Result<Searched, AllocError>
-    ensures searched { IfOk result (λ searched. (c : List Message) → AreMessagesOf calls.now c → IsSearchedIn c first searched) }
-    ensures decides { (at : ℕ) → IsEndless budget → result ≡ Ok (GaveUp at) → ⊥ }
-{
-    match found_from(alloc, calls, first, budget, listener)? {
-        Finding::Found { order, .. } => Ok(Searched::Order(write_order(alloc, &order)?)),
-        Finding::NoOrder { at, code } => Ok(Searched::NoOrder {
-            at,
-            code,
-            shortest: None,
-        }),
-        Finding::GaveUp { at } => Ok(Searched::GaveUp { at }),
+    match decided(alloc, capture, tree, budget, listener)? {
+        Decision::Legal { order, .. } => Ok(Searched::Order(write_order(alloc, &order)?)),
+        Decision::NoOrder { at, code, shortest } => Ok(Searched::NoOrder { at, code, shortest }),
+        Decision::GaveUp { at } => Ok(Searched::GaveUp { at }),
     }
 }
 

@@ -14,9 +14,9 @@ ghost use Rattle.fa_audit.specs.parts.Answers.{IsTreeRefused};
 ghost use Rattle.fa_audit.specs.parts.Protocol.{messages_of};
 ghost use Rattle.fa_audit.specs.parts.Searching.{known_by, IsKnownOf};
 
+use crate::deciding::found_from;
 use crate::judge::given_tree;
 use crate::protocol::{Broken, calls_of_front};
-use crate::searching::found_from;
 use crate::verdict::StartError;
 use fa_capture::Capture;
 use fa_ledger::Calls;

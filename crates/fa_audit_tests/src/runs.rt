@@ -5,12 +5,13 @@ ghost use Rattle.fa_capture.specs.Device.{device_failed, device_interrupted};
 
 use crate::answers::{NO_ORDER, NO_TREE, NONE, ROOT, SECOND, not_found};
 use fa_audit::{
-    Budget, Nobody, RunFault, run, run_cut, run_front, run_judge, run_migrate, run_propose,
-    run_search, run_watch,
+    Budget, Nobody, RunFault, run, run_cut, run_front, run_judge, run_judge_and_keep, run_migrate,
+    run_propose, run_search, run_watch,
 };
 use fa_capture::{Device, Output, Seed};
 use fa_reasons::{
-    OrderPage, ReportView, View, run_explain, run_explained_judge, run_order_page, run_report,
+    OrderPage, ReportView, View, run_explain, run_explained_judge, run_explained_judge_and_keep,
+    run_order_page, run_report,
 };
 use std::alloc::Global;
 
@@ -21,12 +22,16 @@ enum Call {
     Propose,
     Search,
     Judge,
+    /// The order that is kept is written behind the lines.
+    JudgeAndKeep,
     Cut(u32),
     Front(u32),
     Watch,
     Explain,
     ExplainProposal,
     ExplainedJudge,
+    /// The order that is kept is written behind the lines.
+    ExplainedJudgeAndKeep,
     OrderPicture,
     Report,
 }
@@ -40,7 +45,7 @@ type Row = (
     &'static [u8],
 );
 
-static ROWS: [Row; 20] = [
+static ROWS: [Row; 24] = [
     (
         Call::Check,
         None,
@@ -86,6 +91,14 @@ static ROWS: [Row; 20] = [
         3,
         b"tree: line 3: code 61: not a tree text\n",
     ),
+    (Call::JudgeAndKeep, None, NONE, 0, LEGAL_AND_ORDER),
+    (
+        Call::JudgeAndKeep,
+        Some(NO_TREE),
+        NONE,
+        3,
+        b"tree: line 3: code 61: not a tree text\n",
+    ),
     (Call::Cut(3), None, SECOND, 0, NONE),
     (Call::Cut(4), None, SECOND, 0, SECOND),
     (Call::Front(0), None, NONE, 0, b"FUSECAP1"),
@@ -107,9 +120,25 @@ static ROWS: [Row; 20] = [
         b"legal: 4 messages, 1 placed, 0 left out\n",
     ),
     (Call::ExplainedJudge, Some(NO_TREE), NONE, 3, SLASH),
+    (
+        Call::ExplainedJudgeAndKeep,
+        Some(ROOT),
+        NONE,
+        0,
+        LEGAL_AND_ORDER,
+    ),
+    (Call::ExplainedJudgeAndKeep, Some(NO_TREE), NONE, 3, SLASH),
     (Call::OrderPicture, None, NO_ORDER, 3, AFTER_THE_END),
     (Call::Report, Some(NO_TREE), NONE, 3, SLASH),
 ];
+
+/// The line that the capture is legal, and behind it the text of its order, which is kept.
+const LEGAL_AND_ORDER: &[u8] = b"\
+legal: 4 messages, 1 placed, 0 left out
+fuse-order 1
+2
+end
+";
 
 /// Why the order of no entry explains nothing.
 const LEFT_OUT: &[u8] = b"\
@@ -188,6 +217,22 @@ fn made<'x, W: Output>(
                 out,
             )
         }
+        Call::JudgeAndKeep => {
+            let budget = Budget::default();
+            let mut kept = Vec::new(alloc);
+            let answer = run_judge_and_keep(
+                alloc,
+                seed,
+                &mut capture,
+                tree.as_mut(),
+                budget,
+                &mut Nobody,
+                &mut Device::new(&mut kept),
+                out,
+            )?;
+            out.put(&kept)?;
+            Ok(answer)
+        }
         Call::Cut(at) => run_cut(alloc, seed, &mut capture, &mut order, at, out),
         Call::Front(at) => run_front(alloc, &mut capture, at, out),
         Call::Watch => run_watch(alloc, seed, &mut capture, out),
@@ -214,6 +259,22 @@ fn made<'x, W: Output>(
                 &mut Nobody,
                 out,
             )
+        }
+        Call::ExplainedJudgeAndKeep => {
+            let budget = Budget::default();
+            let mut kept = Vec::new(alloc);
+            let answer = run_explained_judge_and_keep(
+                alloc,
+                seed,
+                &mut capture,
+                tree.as_mut(),
+                budget,
+                &mut Nobody,
+                &mut Device::new(&mut kept),
+                out,
+            )?;
+            out.put(&kept)?;
+            Ok(answer)
         }
         Call::OrderPicture => {
             let page = OrderPage::Picture(View::new());

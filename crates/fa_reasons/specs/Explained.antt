@@ -4,12 +4,13 @@ use Rattle.fa_check.specs.declared.verdict.Verdict.{Verdict}
 use Rattle.fa_audit.specs.declared.verdict.AuditError.{AuditError}
 use Rattle.fa_audit.specs.declared.verdict.StartError.{StartError}
 use Rattle.fa_audit.specs.declared.found.Judgement.{Judgement}
+use Rattle.fa_audit.specs.declared.found.Decision.{Decision}
 use Rattle.fa_audit.specs.Proposed.{IsStart, IsProposed}
 use Rattle.fa_audit.specs.Verdict.{IsAnswer}
 use Rattle.fa_audit.specs.Line.{answer_line, answer_status}
 use Rattle.fa_audit.specs.declared.running.TheConstants.{MAX_CAPTURE_INPUT_BYTES}
 use Rattle.fa_audit.specs.Run.{line_feed, IsWritten, IsRead}
-use Rattle.fa_audit.specs.Searched.{IsJudgeAnswer, judged_lines, judged_status}
+use Rattle.fa_audit.specs.Searched.{IsJudgeAnswer, IsDecisionAnswer, IsOrderWritten, judgement_of, order_found, judged_lines, judged_status}
 use Rattle.fa_show.specs.Printing.{IsPrinting}
 
 -- ---- of an order
@@ -72,3 +73,15 @@ pub record IsJudgementExplainedFrom (capture : Option (List ℕ)) (Tree : Option
   pub tree_read : Tree tree_bytes
   pub is_answer : IsJudgeAnswer capture_bytes tree_bytes answer
   pub told : IsJudgementExplained answer old new ended
+
+-- These are the bytes of the capture, and of the tree what `Tree` says; this is decided of them, what is judged by it was told with its
+-- reasons, and the text of the order that was found was written to an output of its own.
+pub record IsJudgementExplainedAndKept (capture : Option (List ℕ)) (Tree : Option (List ℕ) → Type 0) (order_old order_new old new : Option (List ℕ)) (ended : ℕ) : Type 0 where
+  pub capture_bytes : List ℕ
+  pub tree_bytes : Option (List ℕ)
+  pub decision : Result Decision StartError
+  pub capture_read : IsRead MAX_CAPTURE_INPUT_BYTES capture capture_bytes
+  pub tree_read : Tree tree_bytes
+  pub is_answer : IsDecisionAnswer capture_bytes tree_bytes decision
+  pub told : IsJudgementExplained (judgement_of decision) old new ended
+  pub kept : IsOrderWritten (order_found decision) order_old order_new

@@ -8,13 +8,13 @@ ghost use Rattle.fa_audit.specs.Line.{IsCoded, IsCodedJudgement};
 ghost use Rattle.fa_audit.specs.Proposed.{answer_of};
 ghost use Rattle.fa_audit.specs.Run.{IfHandedIn, IsHandedIn, IsReadIfAny, IsSomeRead, IsUnread};
 ghost use Rattle.fa_audit.specs.declared.running.TheConstants.{MAX_CAPTURE_INPUT_BYTES, MAX_TEXT_INPUT_BYTES};
-ghost use Rattle.fa_audit.specs.Searched.{IsJudgeAnswer};
-ghost use Rattle.fa_reasons.specs.Explained.{IsJudgementExplained, IsJudgementExplainedFrom, IsNoFurtherLine};
+ghost use Rattle.fa_audit.specs.Searched.{IsDecisionAnswer, IsOrderWritten, judgement_of, order_found};
+ghost use Rattle.fa_reasons.specs.Explained.{IsJudgementExplained, IsJudgementExplainedFrom, IsJudgementExplainedAndKept, IsNoFurtherLine};
 ghost use Rattle.fa_show.specs.Printing.{IsPrinting};
 
 use fa_audit::{
-    Judgement, MAX_CAPTURE_INPUT_BYTES, MAX_TEXT_INPUT_BYTES, RunFault, StartError, input_bytes,
-    judged, judged_lines_and_status, start,
+    Decision, MAX_CAPTURE_INPUT_BYTES, MAX_TEXT_INPUT_BYTES, RunFault, StartError, decided,
+    found_order_text, input_bytes, judged_lines_and_status, judgement_of, keep_order, start,
 };
 use fa_capture::{Capture, Input, Output, Seed, read_capture};
 use fa_check::Verdict;
@@ -25,7 +25,7 @@ use fa_explain_order::{
 };
 use fa_ledger::Calls;
 use fa_order::Entry;
-use fa_search::{Alternatives, Budget, Finding, Listener, Nobody, orders_to, search};
+use fa_search::{Alternatives, Budget, Listener, Nobody, orders_to};
 use fa_show::Text;
 use fa_tree::Tree;
 use std::alloc::{AllocError, Global};
@@ -36,13 +36,23 @@ const MOST_TREES: usize = 64;
 /// What is judged of a capture, and why.
 #[derive(Drop)]
 pub struct ExplainedJudgement {
-    /// What [`judge_capture`](fa_audit::judge_capture) answers.
-    pub answer: Result<Judgement, StartError>,
+    /// What is decided; what [`judge_capture`](fa_audit::judge_capture) answers is the [`judgement_of`] it.
+    pub decision: Result<Decision, StartError>,
     /// The lines behind its lines.
     pub reasons: Text,
-    /// The order that was found, or, where there is none, entries that explain all replies before the one past which none goes: those that
-    /// lead to the first tree in the reasons. Else nothing.
-    pub(crate) entries: Vec<Entry>,
+    /// Where no order is legal, entries that explain all replies before the one past which none goes: those that lead to the first tree in
+    /// the reasons. Else nothing.
+    entries: Vec<Entry>,
+}
+
+impl ExplainedJudgement {
+    /// The entries with which the reasons are shown: the order that was found, or those that come to where none goes further.
+    pub(crate) fn shown_entries(&self) -> &[Entry] {
+        match &self.decision {
+            Ok(Decision::Legal { order, .. }) => order,
+            Ok(_) | Err(_) => &self.entries,
+        }
+    }
 }
 
 /// Judges a capture by a search of all its orders as [`judge_capture`](fa_audit::judge_capture) does, and says why it answers so: for a fault what
@@ -58,7 +68,8 @@ pub struct ExplainedJudgement {
 ///
 /// # Cost
 ///
-/// Twice that of [`judge_capture`](fa_audit::judge_capture); and of [`fault_reasons`], [`order_reasons`] or [`no_order_reasons`].
+/// That of [`judge_capture`](fa_audit::judge_capture); where the capture is good that of [`start`] once more, and where no order is legal
+/// that of a search up to the message past which none goes; and of [`fault_reasons`], [`order_reasons`] or [`no_order_reasons`].
 pub fn explain_judgement<L: Listener>(
     alloc: Global,
     seed: Seed,
@@ -68,17 +79,17 @@ pub fn explain_judgement<L: Listener>(
     listener: &mut L,
 ) -> Result<ExplainedJudgement, AllocError>
     requires { IfSome (option_copied tree) (λ text. length text ≤ MAX_TEXT_BYTES) }
-    ensures answer { IfOk result (λ told. IsJudgeAnswer capture.now (option_copied tree.entry) told.answer) }
+    ensures answer { IfOk result (λ told. IsDecisionAnswer capture.now (option_copied tree.entry) told.decision) }
 
     // A code that is told has a text.
-    ensures codes { IfOk result (λ told. IfOk told.answer IsCodedJudgement) }
-    ensures fault_codes { IfOk result (λ told. IfErr told.answer (λ error. IfOk (answer_of error) IsCoded)) }
+    ensures codes { IfOk result (λ told. IfOk (judgement_of told.decision) IsCodedJudgement) }
+    ensures fault_codes { IfOk result (λ told. IfErr (judgement_of told.decision) (λ error. IfOk (answer_of error) IsCoded)) }
 {
     let parsed = read_capture(capture).with_seed(seed);
-    let answer = judged(alloc, &parsed, tree, budget, listener);
-    let Reasons { text, entries } = reasons_for(alloc, capture, &parsed, tree, budget, &answer)?;
+    let decision = decided(alloc, &parsed, tree, budget, listener);
+    let Reasons { text, entries } = reasons_for(alloc, capture, &parsed, tree, budget, &decision)?;
     Ok(ExplainedJudgement {
-        answer,
+        decision,
         reasons: text,
         entries,
     })
@@ -101,20 +112,20 @@ impl Reasons {
     }
 }
 
-/// The reasons of an answer, which is not that memory was refused.
+/// The reasons of a decision, which is not that memory was refused.
 fn reasons_for(
     alloc: Global,
     bytes: &[u8],
     capture: &Capture<'_>,
     tree: Option<&[u8]>,
     budget: Budget,
-    answer: &Result<Judgement, StartError>,
+    decision: &Result<Decision, StartError>,
 ) -> Result<Reasons, AllocError>
     requires { IfSome (option_copied tree) (λ text. length text ≤ MAX_TEXT_BYTES) }
-    ensures { OnOk result (answer.now ≢ Err StartError.Memory) }
+    ensures { OnOk result (decision.now ≢ Err StartError.Memory) }
 {
-    match answer {
-        Ok(judgement) => judgement_reasons(alloc, capture, tree, budget, judgement),
+    match decision {
+        Ok(decision) => decision_reasons(alloc, capture, tree, budget, decision),
         Err(error) => start_reasons(alloc, bytes, capture, tree, error),
     }
 }
@@ -137,20 +148,20 @@ fn start_reasons(
     Ok(Reasons::without_entries(alloc, text))
 }
 
-/// The reasons of what is judged from a tree.
-fn judgement_reasons(
+/// The reasons of what is decided from a tree.
+fn decision_reasons(
     alloc: Global,
     capture: &Capture<'_>,
     tree: Option<&[u8]>,
     budget: Budget,
-    judgement: &Judgement,
+    decision: &Decision,
 ) -> Result<Reasons, AllocError>
     requires { IfSome (option_copied tree) (λ text. length text ≤ MAX_TEXT_BYTES) }
 {
     let Ok((calls, first)) = start(alloc, capture, tree) else {
         return Err(AllocError);
     };
-    let reasons = reasons_from(alloc, capture, &calls, &first, budget, judgement);
+    let reasons = reasons_from(alloc, capture, &calls, &first, budget, decision);
     // They have many tables: they are proved to go in one place.
     drop(calls);
     drop(first);
@@ -164,13 +175,25 @@ fn reasons_from(
     calls: &Calls<'_>,
     first: &Tree,
     budget: Budget,
-    judgement: &Judgement,
+    decision: &Decision,
 ) -> Result<Reasons, AllocError> {
-    match *judgement {
-        Judgement::Legal { .. } => legal_reasons(alloc, capture, calls, first, budget),
-        Judgement::NoOrder { at, .. } => stop_reasons(alloc, capture, calls, first, budget, at),
-        Judgement::GaveUp { at } => {
-            Ok(Reasons::without_entries(alloc, gave_up_reasons(alloc, at)?))
+    match decision {
+        Decision::Legal {
+            order,
+            messages,
+            placed,
+            left,
+        } => {
+            let verdict = Verdict::Legal {
+                messages: *messages,
+                placed: *placed,
+                left: *left,
+            };
+            legal_reasons(alloc, capture, calls, first, order, &verdict)
+        }
+        Decision::NoOrder { at, .. } => stop_reasons(alloc, capture, calls, first, budget, *at),
+        Decision::GaveUp { at } => {
+            Ok(Reasons::without_entries(alloc, gave_up_reasons(alloc, *at)?))
         }
     }
 }
@@ -181,31 +204,19 @@ fn legal_reasons(
     capture: &Capture<'_>,
     calls: &Calls<'_>,
     first: &Tree,
-    budget: Budget,
+    order: &[Entry],
+    verdict: &Verdict,
 ) -> Result<Reasons, AllocError> {
-    let Finding::Found {
-        order: entries,
-        placed,
-        left,
-    } = search(alloc, calls, first.copy()?, budget, &mut Nobody)?
-    else {
-        return Ok(Reasons::without_entries(alloc, Text::new(alloc, 0, false)?));
-    };
-    let verdict = Verdict::Legal {
-        messages: calls.messages,
-        placed,
-        left,
-    };
     let OrderReasons { text, .. } = order_reasons(
         alloc,
         capture,
         calls,
-        &entries,
+        order,
         first,
-        &verdict,
+        verdict,
         &mut NoSearch,
     )?;
-    Ok(Reasons { text, entries })
+    Ok(Reasons::without_entries(alloc, text))
 }
 
 /// What differs on the trees that were alive at a reply past which no order goes.
@@ -245,27 +256,47 @@ fn stop_reasons(
 /// Writes the lines of what is judged, and its reasons: the status of the answer.
 pub(crate) fn tell_explained<W: Output>(
     alloc: Global,
-    explained: ExplainedJudgement,
+    explained: &ExplainedJudgement,
     out: &mut W,
 ) -> Result<u8, RunFault>
-    requires coded { IfOk explained.answer IsCodedJudgement }
-    requires coded_fault { IfErr explained.answer (λ error. IfOk (answer_of error) IsCoded) }
+    requires coded { IfOk (judgement_of explained.now.decision) IsCodedJudgement }
+    requires coded_fault { IfErr (judgement_of explained.now.decision) (λ error. IfOk (answer_of error) IsCoded) }
     requires unbroken { W.is_broken out.old ≡ false }
-    ensures told { IfOk result (IsJudgementExplained explained.answer (W.written out.old) (W.written out.new)) }
-    ensures answered { OnOk result (explained.answer ≢ Err StartError.Memory) }
+    ensures told { IfOk result (IsJudgementExplained (judgement_of explained.now.decision) (W.written out.old) (W.written out.new)) }
+    ensures answered { OnOk result (judgement_of explained.now.decision ≢ Err StartError.Memory) }
     ensures memory { IsErrOf result RunFault.Memory → Keeps (W.written out.old) (W.written out.new) }
     ensures read { IsErrOf result RunFault.Read → ⊥ }
     ensures write { IsErrOf result RunFault.Write ↔ (W.is_broken out.new ≡ true) }
 {
-    let ExplainedJudgement {
-        answer,
-        reasons,
-        ..
-    } = explained;
-    let (lines, status) = judged_lines_and_status(alloc, answer)?;
+    let (lines, status) = judged_lines_and_status(alloc, judgement_of(&explained.decision))?;
     out.put(lines.as_bytes())?;
-    out.put(apart(reasons.as_bytes()))?;
+    out.put(apart(explained.reasons.as_bytes()))?;
     Ok(status.number())
+}
+
+/// The same, and then writes the order that was found to an output of its own.
+fn tell_and_keep<V: Output, W: Output>(
+    alloc: Global,
+    explained: &ExplainedJudgement,
+    order_out: &mut V,
+    out: &mut W,
+) -> Result<u8, RunFault>
+    requires coded { IfOk (judgement_of explained.now.decision) IsCodedJudgement }
+    requires coded_fault { IfErr (judgement_of explained.now.decision) (λ error. IfOk (answer_of error) IsCoded) }
+    requires order_unbroken { V.is_broken order_out.old ≡ false }
+    requires unbroken { W.is_broken out.old ≡ false }
+    ensures told { IfOk result (IsJudgementExplained (judgement_of explained.now.decision) (W.written out.old) (W.written out.new)) }
+    ensures kept { OnOk result (IsOrderWritten (order_found explained.now.decision) (V.written order_out.old) (V.written order_out.new)) }
+    ensures untouched { result ≢ Ok 0 → V.is_broken order_out.new ≡ false → order_out.new ≡ order_out.old }
+    ensures lines_stand { V.is_broken order_out.new ≡ true → IsJudgementExplained (judgement_of explained.now.decision) (W.written out.old) (W.written out.new) 0 }
+    ensures memory { IsErrOf result RunFault.Memory → Keeps (W.written out.old) (W.written out.new) }
+    ensures read { IsErrOf result RunFault.Read → ⊥ }
+    ensures write { IsErrOf result RunFault.Write ↔ ((W.is_broken out.new ≡ true) ⊎ (V.is_broken order_out.new ≡ true)) }
+{
+    let text = found_order_text(alloc, &explained.decision)?;
+    let status = tell_explained(alloc, explained, out)?;
+    keep_order(text, order_out)?;
+    Ok(status)
 }
 
 /// Reasons that are not taken for a further line of what is judged: those that begin like one are left out.
@@ -304,7 +335,7 @@ fn explained_on_empty_root<R: Input, L: Listener, W: Output>(
 {
     let capture = input_bytes(alloc, capture, MAX_CAPTURE_INPUT_BYTES)?;
     let explained = explain_judgement(alloc, seed, &capture, None, budget, listener)?;
-    tell_explained(alloc, explained, out)
+    tell_explained(alloc, &explained, out)
 }
 
 /// Reads the capture and then the tree, and tells what is judged on that tree, and why.
@@ -337,7 +368,7 @@ fn explained_on_tree<R: Input, L: Listener, W: Output>(
     let capture = input_bytes(alloc, capture, MAX_CAPTURE_INPUT_BYTES)?;
     let tree = input_bytes(alloc, tree, MAX_TEXT_INPUT_BYTES)?;
     let explained = explain_judgement(alloc, seed, &capture, Some(&tree), budget, listener)?;
-    tell_explained(alloc, explained, out)
+    tell_explained(alloc, &explained, out)
 }
 
 /// Judges a capture by a search of all its orders, and says why: reads the capture, and the tree if one is handed in, and writes the lines
@@ -404,5 +435,148 @@ pub fn run_explained_judge<R: Input, L: Listener, W: Output>(
     match tree {
         None => explained_on_empty_root(alloc, seed, capture, budget, listener, out),
         Some(tree) => explained_on_tree(alloc, seed, capture, tree, budget, listener, out),
+    }
+}
+
+/// Reads the capture, tells what is judged on an empty root, and why, and keeps the order.
+fn keep_on_empty_root<R: Input, L: Listener, V: Output, W: Output>(
+    alloc: Global,
+    seed: Seed,
+    capture: &mut R,
+    budget: Budget,
+    listener: &mut L,
+    order_out: &mut V,
+    out: &mut W,
+) -> Result<u8, RunFault>
+    requires capture_unfailed { R.has_failed capture.old ≡ false }
+    requires capture_uninterrupted { R.was_interrupted capture.old ≡ false }
+    requires order_unbroken { V.is_broken order_out.old ≡ false }
+    requires unbroken { W.is_broken out.old ≡ false }
+    ensures told { IfOk result (IsJudgementExplainedAndKept (R.remaining capture.old) (λ read. read ≡ None)
+        (V.written order_out.old) (V.written order_out.new) (W.written out.old) (W.written out.new)) }
+    ensures end { OnOk result (IsAtEnd (R.remaining capture.new)) }
+    ensures read { IsErrOf result RunFault.Read →
+        IsUnread MAX_CAPTURE_INPUT_BYTES (R.remaining capture.old) (R.has_failed capture.new) (R.was_interrupted capture.new) }
+    ensures failed { (R.has_failed capture.new ≡ true) → IsErrOf result RunFault.Read }
+    ensures write { IsErrOf result RunFault.Write ↔ ((W.is_broken out.new ≡ true) ⊎ (V.is_broken order_out.new ≡ true)) }
+    ensures untouched { result ≢ Ok 0 → V.is_broken order_out.new ≡ false → order_out.new ≡ order_out.old }
+    ensures lines_stand { V.is_broken order_out.new ≡ true → IsJudgementExplainedFrom (R.remaining capture.old) (λ read. read ≡ None)
+        (W.written out.old) (W.written out.new) 0 }
+    ensures unread { IsErrOf result RunFault.Read →
+        Keeps (W.written out.old) (W.written out.new) }
+    ensures refused { IsErrOf result RunFault.Memory →
+        Keeps (W.written out.old) (W.written out.new) }
+{
+    let capture = input_bytes(alloc, capture, MAX_CAPTURE_INPUT_BYTES)?;
+    let explained = explain_judgement(alloc, seed, &capture, None, budget, listener)?;
+    tell_and_keep(alloc, &explained, order_out, out)
+}
+
+/// Reads the capture and then the tree, tells what is judged on that tree, and why, and keeps the order.
+fn keep_on_tree<R: Input, L: Listener, V: Output, W: Output>(
+    alloc: Global,
+    seed: Seed,
+    capture: &mut R,
+    tree: &mut R,
+    budget: Budget,
+    listener: &mut L,
+    order_out: &mut V,
+    out: &mut W,
+) -> Result<u8, RunFault>
+    requires capture_unfailed { R.has_failed capture.old ≡ false }
+    requires capture_uninterrupted { R.was_interrupted capture.old ≡ false }
+    requires tree_unfailed { R.has_failed tree.old ≡ false }
+    requires tree_uninterrupted { R.was_interrupted tree.old ≡ false }
+    requires order_unbroken { V.is_broken order_out.old ≡ false }
+    requires unbroken { W.is_broken out.old ≡ false }
+    ensures told { IfOk result (IsJudgementExplainedAndKept (R.remaining capture.old) (IsSomeRead (R.remaining tree.old))
+        (V.written order_out.old) (V.written order_out.new) (W.written out.old) (W.written out.new)) }
+    ensures end { OnOk result (IsAtEnd (R.remaining capture.new) × IsAtEnd (R.remaining tree.new)) }
+    ensures capture_first { R.has_failed capture.new ≡ true → tree.new ≡ tree.old }
+    ensures read { IsErrOf result RunFault.Read →
+        IsUnread MAX_CAPTURE_INPUT_BYTES (R.remaining capture.old) (R.has_failed capture.new) (R.was_interrupted capture.new)
+        ⊎ IsUnread MAX_TEXT_INPUT_BYTES (R.remaining tree.old) (R.has_failed tree.new) (R.was_interrupted tree.new) }
+    ensures failed { (R.has_failed capture.new ≡ true) ⊎ (R.has_failed tree.new ≡ true) → IsErrOf result RunFault.Read }
+    ensures write { IsErrOf result RunFault.Write ↔ ((W.is_broken out.new ≡ true) ⊎ (V.is_broken order_out.new ≡ true)) }
+    ensures untouched { result ≢ Ok 0 → V.is_broken order_out.new ≡ false → order_out.new ≡ order_out.old }
+    ensures lines_stand { V.is_broken order_out.new ≡ true → IsJudgementExplainedFrom (R.remaining capture.old) (IsSomeRead (R.remaining tree.old))
+        (W.written out.old) (W.written out.new) 0 }
+    ensures unread { IsErrOf result RunFault.Read →
+        Keeps (W.written out.old) (W.written out.new) }
+    ensures refused { IsErrOf result RunFault.Memory →
+        Keeps (W.written out.old) (W.written out.new) }
+{
+    let capture = input_bytes(alloc, capture, MAX_CAPTURE_INPUT_BYTES)?;
+    let tree = input_bytes(alloc, tree, MAX_TEXT_INPUT_BYTES)?;
+    let explained = explain_judgement(alloc, seed, &capture, Some(&tree), budget, listener)?;
+    tell_and_keep(alloc, &explained, order_out, out)
+}
+
+/// Judges a capture by a search of all its orders and says why, as [`run_explained_judge`] does, and keeps the order that was found: behind
+/// the lines and the reasons its text is written to an output of its own, by one put, where the answer is `legal`. Else that output is not
+/// touched. No mark of an input or of an output is set at the call.
+///
+/// # Errors
+///
+/// - [`RunFault::Read`] as of [`run_explained_judge`].
+/// - [`RunFault::Write`] where one of the outputs did not take all. The lines are written first.
+/// - [`RunFault::Memory`] where memory was refused.
+///
+/// Nothing was written at `Read` and `Memory`, where the outputs tell their bytes. At `Write` nothing is said of what went out.
+///
+/// # Cost
+///
+/// That of [`run_explained_judge`], and of [`write_order`](fa_order::write_order).
+pub fn run_explained_judge_and_keep<R: Input, L: Listener, V: Output, W: Output>(
+    alloc: Global,
+    seed: Seed,
+    capture: &mut R,
+    tree: Option<&mut R>,
+    budget: Budget,
+    listener: &mut L,
+    order_out: &mut V,
+    out: &mut W,
+) -> Result<u8, RunFault>
+    requires capture_unfailed { R.has_failed capture.old ≡ false }
+    requires capture_uninterrupted { R.was_interrupted capture.old ≡ false }
+    requires tree_unfailed { IfSome tree (λ r. R.has_failed r.now ≡ false) }
+    requires tree_uninterrupted { IfSome tree (λ r. R.was_interrupted r.now ≡ false) }
+    requires order_unbroken { V.is_broken order_out.old ≡ false }
+    requires unbroken { W.is_broken out.old ≡ false }
+
+    // What is told of the bytes that were read, with its reasons, and of which order the text was kept.
+    ensures told { IfOk result (IsJudgementExplainedAndKept (R.remaining capture.old) (IsReadIfAny R.remaining tree.entry)
+        (V.written order_out.old) (V.written order_out.new) (W.written out.old) (W.written out.new)) }
+
+    // Each input is read to its end.
+    ensures end { OnOk result (IsAtEnd (R.remaining capture.new) × IfHandedIn tree.entry tree.exit (λ old new. IsAtEnd (R.remaining new))) }
+
+    // The tree is read after the capture.
+    ensures capture_first { R.has_failed capture.new ≡ true → IfHandedIn tree.entry tree.exit (λ old new. new ≡ old) }
+
+    // When each fault comes.
+    ensures read { IsErrOf result RunFault.Read →
+        IsUnread MAX_CAPTURE_INPUT_BYTES (R.remaining capture.old) (R.has_failed capture.new) (R.was_interrupted capture.new)
+        ⊎ IsHandedIn tree.entry tree.exit (λ old new. IsUnread MAX_TEXT_INPUT_BYTES (R.remaining old) (R.has_failed new) (R.was_interrupted new)) }
+    ensures failed { (R.has_failed capture.new ≡ true) ⊎ IsHandedIn tree.entry tree.exit (λ old new. R.has_failed new ≡ true)
+        → IsErrOf result RunFault.Read }
+    ensures write { IsErrOf result RunFault.Write ↔ ((W.is_broken out.new ≡ true) ⊎ (V.is_broken order_out.new ≡ true)) }
+
+    // The output of the order is touched only where the answer is `legal` and its lines were taken.
+    ensures untouched { result ≢ Ok 0 → V.is_broken order_out.new ≡ false → order_out.new ≡ order_out.old }
+
+    // Where it did not take the order the lines of `legal` stand.
+    ensures lines_stand { V.is_broken order_out.new ≡ true → IsJudgementExplainedFrom (R.remaining capture.old) (IsReadIfAny R.remaining tree.entry)
+        (W.written out.old) (W.written out.new) 0 }
+
+    // Nothing was written.
+    ensures unread { IsErrOf result RunFault.Read →
+        Keeps (W.written out.old) (W.written out.new) }
+    ensures refused { IsErrOf result RunFault.Memory →
+        Keeps (W.written out.old) (W.written out.new) }
+{
+    match tree {
+        None => keep_on_empty_root(alloc, seed, capture, budget, listener, order_out, out),
+        Some(tree) => keep_on_tree(alloc, seed, capture, tree, budget, listener, order_out, out),
     }
 }

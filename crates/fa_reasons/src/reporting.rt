@@ -5,6 +5,7 @@ ghost use Rattle.std.specs.Option.{option_copied};
 ghost use Rattle.std.specs.Io.KnownBytes.{IsAtEnd, Keeps};
 ghost use Rattle.fa_order.specs.declared.lines.TheConstants.{MAX_TEXT_BYTES};
 ghost use Rattle.fa_audit.specs.Line.{IsCoded, IsCodedJudgement, judgement_status};
+ghost use Rattle.fa_audit.specs.Searched.{judgement_of};
 ghost use Rattle.fa_reasons.specs.Pages.{IsReportOf, IsReportTold, IsReportFrom};
 ghost use Rattle.fa_audit.specs.Proposed.{answer_of};
 ghost use Rattle.fa_audit.specs.Showing.{IsPrintingWritten};
@@ -17,7 +18,7 @@ use crate::explaining_judgement::{ExplainedJudgement, explain_judgement, tell_ex
 use crate::pages::{ReportView, fault_of, tell_text, write_lines};
 use fa_audit::{
     Judgement, MAX_CAPTURE_INPUT_BYTES, MAX_TEXT_INPUT_BYTES, RunFault, StartError, Status,
-    input_bytes, judged_line_and_status, shortest_text, verdict_text,
+    input_bytes, judged_line_and_status, judgement_of, shortest_text, verdict_text,
 };
 use fa_capture::{Capture, Input, Output, Seed, read_capture};
 use fa_check::Verdict;
@@ -150,7 +151,7 @@ fn tell_judged<W: Output>(
         reasons: &explained.reasons,
         shown,
     };
-    let text = told.judged(alloc, capture, &explained.entries, judgement)?;
+    let text = told.judged(alloc, capture, explained.shown_entries(), judgement)?;
     tell_text(&text, status, out)
 }
 
@@ -184,12 +185,12 @@ fn tell_faulty<W: Output>(
 fn tell_no_start<W: Output>(
     alloc: Global,
     capture: Capture<'_>,
-    explained: ExplainedJudgement,
+    explained: &ExplainedJudgement,
     error: StartError,
     shown: ReportView<'_>,
     out: &mut W,
 ) -> Result<u8, RunFault>
-    requires is { explained.answer ≡ Err error }
+    requires is { judgement_of explained.now.decision ≡ Err error }
     requires coded { IfOk (answer_of error) IsCoded }
     requires unbroken { W.is_broken out.old ≡ false }
     ensures told { IfOk result (IsReportTold (Err error) (W.written out.old) (W.written out.new)) }
@@ -200,7 +201,7 @@ fn tell_no_start<W: Output>(
     match error {
         StartError::Fault { at, code } => {
             let fault = Verdict::Fault { at, code };
-            tell_faulty(alloc, capture, &explained, fault, shown, out)
+            tell_faulty(alloc, capture, explained, fault, shown, out)
         }
         StartError::TreeText { .. } => tell_explained(alloc, explained, out),
         StartError::Memory => Err(RunFault::Memory),
@@ -227,9 +228,9 @@ fn tell_report<L: Listener, W: Output>(
 {
     let explained = explain_judgement(alloc, seed, bytes, tree, budget, listener)?;
     let capture = read_capture(bytes).with_seed(seed);
-    match explained.answer {
+    match judgement_of(&explained.decision) {
         Ok(judgement) => tell_judged(alloc, capture, &explained, judgement, shown, out),
-        Err(error) => tell_no_start(alloc, capture, explained, error, shown, out),
+        Err(error) => tell_no_start(alloc, capture, &explained, error, shown, out),
     }
 }
 

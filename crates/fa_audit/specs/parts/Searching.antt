@@ -1,19 +1,16 @@
--- What a search finds of good messages from a first tree, and what is judged by it.
+-- What a search finds of good messages from a first tree, and what is decided by it.
 use Rattle.std.specs.Prelude.{ℕ, List, length, Option, None, IfSome}
 use Rattle.fa_capture.specs.Message.{Message}
 use Rattle.fa_tree.specs.State.{TreeState}
 use Rattle.fa_order.specs.declared.entry.Entry.{Entry}
-use Rattle.fa_order.specs.Order.{IsOrderText}
 use Rattle.fa_check.specs.Runs.{IsLegalRun, HasOrder}
 use Rattle.fa_check.specs.Verdicts.{IsLegalWith}
 use Rattle.fa_propose.specs.Proposals.{IsProposal}
 use Rattle.fa_search.specs.Searches.{HasNoOrder, IsStop, IsLeastCode, IsExplainedUpTo, AreSerialBefore}
 use Rattle.fa_search.specs.declared.finding.Finding.{Finding}
 use Rattle.fa_search.specs.declared.finding.Finding.TheVariants as finding
-use Rattle.fa_audit.specs.declared.found.Searched.{Searched}
-use Rattle.fa_audit.specs.declared.found.Searched.TheVariants as found
-use Rattle.fa_audit.specs.declared.found.Judgement.{Judgement}
-use Rattle.fa_audit.specs.declared.found.Judgement.TheVariants as judged
+use Rattle.fa_audit.specs.declared.found.Decision.{Decision}
+use Rattle.fa_audit.specs.declared.found.Decision.TheVariants as decided
 use Rattle.fa_audit.specs.declared.shortest.Known.{Known}
 use Rattle.fa_audit.specs.declared.shortest.Known.TheVariants as known
 use Rattle.fa_audit.specs.Searched.{IsShortestWithout}
@@ -38,17 +35,11 @@ IsFindingIn c first (finding.Found order placed left) = IsLegalWith c first orde
 IsFindingIn c first (finding.NoOrder at code) = IsStopWith c first at code None
 IsFindingIn c first (finding.GaveUp at) = IsGivenUpIn c first at
 
--- with an order as its text,
-abbrev pub IsSearchedIn : List Message → TreeState → Searched → Type 0
-IsSearchedIn c first (found.Order text) = (es : List Entry) × IsLegalRun c first es × IsOrderText text.items es
-IsSearchedIn c first (found.NoOrder at code shortest) = IsStopWith c first at code shortest
-IsSearchedIn c first (found.GaveUp at) = IsGivenUpIn c first at
-
--- and with the numbers of the order in its place.
-abbrev pub IsJudgedIn : List Message → TreeState → Judgement → Type 0
-IsJudgedIn c first (judged.Legal messages placed left) = (es : List Entry) × IsLegalWith c first es messages placed left
-IsJudgedIn c first (judged.NoOrder at code shortest) = IsStopWith c first at code shortest
-IsJudgedIn c first (judged.GaveUp at) = IsGivenUpIn c first at
+-- and what is decided by it.
+abbrev pub IsDecisionIn : List Message → TreeState → Decision → Type 0
+IsDecisionIn c first (decided.Legal order messages placed left) = IsLegalWith c first order.items messages placed left
+IsDecisionIn c first (decided.NoOrder at code shortest) = IsStopWith c first at code shortest
+IsDecisionIn c first (decided.GaveUp at) = IsGivenUpIn c first at
 
 -- what is known of messages by what is found of them,
 abbrev pub known_by : Finding → Known

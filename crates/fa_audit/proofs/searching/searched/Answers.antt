@@ -1,24 +1,13 @@
-use Rattle.std.proofs.lemmas.Result.{err_from_is_err_and}
-use Rattle.std.specs.Option.{option_copied}
-use Rattle.fa_audit.proofs.ShortestLemmas.{stop_within, none_given, with_shortest, refused_then}
+use Rattle.fa_audit.proofs.SearchLemmas.{order_is_found}
 use Rattle.fa_audit.proofs.searching.searched.Goals as goal
 
-pub shortest_without-requires-clause-within : goal.shortest_without-requires-clause-within
-shortest_without-requires-clause-within g c =
-    stop_within c.args.capture.now (option_copied c.args.tree) c.in-NoOrder.at c.in-NoOrder.code c.in-NoOrder.shortest (rw c.in-NoOrder.is at c.in_ok-searched.ensures.answer)
+pub returns-in_ok-write_order-in-Legal-clause-answer : goal.returns-in_ok-write_order-in-Legal-clause-answer
+returns-in_ok-write_order-in-Legal-clause-answer g c = λ bytes is.
+    order_is_found bytes _ c.in-Legal.order.items _ c.in-Legal.messages c.in-Legal.placed c.in-Legal.left ((rw c.in-Legal.is at c.in_ok-order.ensures.answer) bytes is)
+    (rw (← c.deref.ensures.value) c.in_ok-write_order-in-Legal.ensures)
 
-pub shortest_without-requires-clause-none : goal.shortest_without-requires-clause-none
-shortest_without-requires-clause-none g c =
-    none_given c.args.capture.now (option_copied c.args.tree) c.in-NoOrder.at c.in-NoOrder.code c.in-NoOrder.shortest (rw c.in-NoOrder.is at c.in_ok-searched.ensures.answer)
+pub returns-in-NoOrder-clause-answer : goal.returns-in-NoOrder-clause-answer
+returns-in-NoOrder-clause-answer g c = rw c.in-NoOrder.is at c.in_ok-order.ensures.answer
 
-pub returns-in_err-shortest-in-NoOrder-clause-none : goal.returns-in_err-shortest-in-NoOrder-clause-none
-returns-in_err-shortest-in-NoOrder-clause-none g c =
-    let p = err_from_is_err_and c.from_residual-in_err-shortest-in-NoOrder.result c.from_residual-in_err-shortest-in-NoOrder.ensures.1 in
-    rw (p.1, p.2)
-    (refused_then c.args.capture.now (option_copied c.args.tree) c.in-NoOrder.at c.in-NoOrder.code c.in-NoOrder.shortest (rw c.in-NoOrder.is at c.in_ok-searched.ensures.answer)
-    c.in_err-shortest-in-NoOrder.field-0.0 c.in_err-shortest-in-NoOrder.ensures.refused)
-
-pub returns-in_ok-shortest-in-NoOrder-clause-answer : goal.returns-in_ok-shortest-in-NoOrder-clause-answer
-returns-in_ok-shortest-in-NoOrder-clause-answer g c =
-    with_shortest c.args.capture.now (option_copied c.args.tree) c.in-NoOrder.at c.in-NoOrder.code c.in-NoOrder.shortest (rw c.in-NoOrder.is at c.in_ok-searched.ensures.answer)
-    c.in_ok-shortest-in-NoOrder.shortest c.in_ok-shortest-in-NoOrder.ensures.found
+pub returns-in-GaveUp-clause-answer : goal.returns-in-GaveUp-clause-answer
+returns-in-GaveUp-clause-answer g c = rw c.in-GaveUp.is at c.in_ok-order.ensures.answer

@@ -1,5 +1,5 @@
 use Rattle.fa_audit.proofs.SearchLemmas.{finding_in}
-use Rattle.fa_audit.proofs.searching.found_from.Goals as goal
+use Rattle.fa_audit.proofs.deciding.found_from.Goals as goal
 
 pub returns : goal.returns
 returns g c = record {
