@@ -106,7 +106,7 @@ class Case:
 
     def files(self):
         """The files that belong to the case."""
-        own = (os.path.join(self.folder, f"{self.base}.{kind}") for kind in ("expect", "args", "stderr", "output"))
+        own = (os.path.join(self.folder, f"{self.base}.{kind}") for kind in ("expect", "args", "stderr", "output", "kept"))
         return {*own, *(os.path.normpath(source) for source in self.sources.values())}
 
     def laid_out(self, room):
@@ -182,6 +182,13 @@ class Call:
         self.variables = {}
         self.expected = None
         self.held_open = False
+
+    def kept(self, folder):
+        """What is in the file for the order that is found, if the call names one and it is there."""
+        if "--order-out" not in self.words[:-1]:
+            return None
+        path = os.path.join(folder, self.words[self.words.index("--order-out") + 1])
+        return messages.bytes_of(path) if os.path.isfile(path) else None
 
     def capture(self, folder):
         """The path of the capture that it judges, if there is one in this folder."""
@@ -287,6 +294,7 @@ def differences(program, case, change):
                 return None
             expected, status = call.expected or (expected, status)
             ran = call.run(program, folder, output and output.strip())
+            kept = call.kept(folder)
     except (OSError, ValueError, subprocess.TimeoutExpired) as failure:
         return [str(failure), *case.shown]
     found = []
@@ -295,6 +303,8 @@ def differences(program, case, change):
         found.append(f"standard output: expected {expected!r}, found {written[:400]!r}")
     if ran.returncode != status:
         found.append(f"status: expected {status}, found {ran.returncode}")
+    if "--order-out" in call.words and kept != case.own("kept"):
+        found.append(f"order that is kept: expected {case.own('kept')!r}, found {kept!r}")
     if error is not None and ran.stderr != error:
         found.append(f"standard error: expected {error!r}, found {ran.stderr[:400]!r}")
     return [*found, *case.shown] if found else []

@@ -5,7 +5,7 @@ _fa_audit()
     local word=${COMP_WORDS[COMP_CWORD]} before=${COMP_WORDS[COMP_CWORD - 1]} command=${COMP_WORDS[1]} words
     COMPREPLY=()
     case $before in
-        --capture | --tree | --order)
+        --capture | --tree | --order | --order-out)
             compopt -o filenames 2> /dev/null
             mapfile -t COMPREPLY < <(compgen -f -- "$word")
             return
@@ -29,7 +29,7 @@ _fa_audit()
             check) words='--capture --tree --order --help' ;;
             propose) words='--capture --tree --help' ;;
             search) words='--capture --tree --steps --progress --help' ;;
-            judge) words='--capture --tree --steps --progress --explain --help' ;;
+            judge) words='--capture --tree --steps --progress --explain --order-out --help' ;;
             cut) words='--capture --order --at --help' ;;
             front) words='--capture --at --help' ;;
             migrate | watch) words='--capture --help' ;;

@@ -58,8 +58,9 @@ pub record IsSearchCallOf (name : List ℕ) (matches : ArgMatches) (paths : Sear
   pub steps_are : IsNumberIfAny 64 (value_of matches (codes "steps")) paths.steps
 
 -- the words call `judge` with these files and so many steps; whether it is to say why is not said here
-abbrev pub IsJudgeOf : ArgMatches → JudgePaths → Type 0
-IsJudgeOf matches call = IsSearchCallOf (codes "judge") matches call.paths
+pub record IsJudgeOf (matches : ArgMatches) (call : JudgePaths) : Type 0 where
+  pub search_is : IsSearchCallOf (codes "judge") matches call.paths
+  pub order_out_is : value_of matches (codes "order-out") ≡ option_copied call.order_out
 
 -- the option of the command that the words call has this number
 abbrev pub IsNumberOf : ArgMatches → (option : List ℕ) → ℕ → Type 0

@@ -63,6 +63,8 @@ const OPERATION: &str = "operation";
 const UNANSWERED: &str = "unanswered";
 /// The option by which nothing is shortened.
 const WHOLE: &str = "whole";
+/// The option that names the file for the order that is found.
+const ORDER_OUT: &str = "order-out";
 /// The option by which operations are counted.
 const SUMMARY: &str = "summary";
 /// The option that gives the message around which is drawn.
@@ -202,13 +204,15 @@ impl<'a> SearchPaths<'a> {
     }
 }
 
-/// A call of `judge`, and whether it is to say why.
+/// A call of `judge`: its files and steps, whether it is to say why, and where the order is to be kept, if it is.
 #[derive(Clone, Copy, Debug)]
 pub struct JudgePaths<'a> {
     /// The files and the steps.
     pub paths: SearchPaths<'a>,
     /// Whether the reasons are to be told too.
     pub explained: bool,
+    /// The file for the order that is found; none where it is not to be kept.
+    pub order_out: Option<&'a str>,
 }
 
 impl<'a> JudgePaths<'a> {
@@ -218,16 +222,14 @@ impl<'a> JudgePaths<'a> {
         ensures none { IsNone result → IsNoSearchCall (codes "judge") matches.now }
     {
         let paths = SearchPaths::new(matches, JUDGE)?;
-        let explained = is_explained(matches);
-        Some(JudgePaths { paths, explained })
-    }
-}
-
-/// Whether the words ask `judge` to say why.
-fn is_explained(matches: &ArgMatches<'_>) -> bool {
-    match matches.subcommand_matches(JUDGE) {
-        Some(options) => options.get_flag(EXPLAIN),
-        None => false,
+        let options = matches.subcommand_matches(JUDGE)?;
+        let explained = options.get_flag(EXPLAIN);
+        let order_out = options.get_str(ORDER_OUT);
+        Some(JudgePaths {
+            paths,
+            explained,
+            order_out,
+        })
     }
 }
 
@@ -583,7 +585,8 @@ impl<'a> Call<'a> {
 }
 
 /// The command line: `fa_audit check --capture FILE [--tree FILE] --order FILE`, `fa_audit propose --capture FILE [--tree FILE]`,
-/// `fa_audit search --capture FILE [--tree FILE] [--steps N] [--progress]`, `fa_audit judge` with the same options and `--explain`,
+/// `fa_audit search --capture FILE [--tree FILE] [--steps N] [--progress]`, `fa_audit judge` with the same options, `--explain` and
+/// `--order-out FILE`,
 /// `fa_audit cut --capture FILE --order FILE --at N`, `fa_audit front --capture FILE --at N`, `fa_audit migrate --capture FILE`,
 /// `fa_audit watch --capture FILE`, `fa_audit show --capture FILE` with options that choose messages,
 /// `fa_audit explain --capture FILE [--tree FILE] [--order FILE]`, `fa_audit picture --capture FILE [--order FILE [--tree FILE]]` and
@@ -655,7 +658,12 @@ fn judge_command<'a>(alloc: Global) -> Result<Command<'a>, AllocError> {
         "Tells whether some order explains a capture",
         help_texts::JUDGE,
     )?
-    .arg(flag(alloc, EXPLAIN, "Say why, after the lines of the answer"))
+    .arg(flag(alloc, EXPLAIN, "Say why, after the lines of the answer"))?
+    .arg(
+        path_option(alloc, ORDER_OUT).required(false).help(
+            "A new file for the order that is found; it is made where the capture is legal",
+        ),
+    )
 }
 
 /// The command of this name, which searches.

@@ -33,7 +33,7 @@ pub enum Failure<'a> {
 #[derive(Clone, Copy, Debug)]
 pub enum Cause<'a> {
     Unknown,
-    /// A file could not be opened or read, with the system's error number.
+    /// A file could not be opened, read, made or written, with the system's error number.
     File { path: &'a str, error: i32 },
     /// A file has more bytes than its limit.
     TooLong { path: &'a str, limit: usize },

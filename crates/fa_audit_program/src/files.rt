@@ -1,4 +1,4 @@
-//! Files as inputs and standard output as an output, which remember what the system said.
+//! Files as inputs, and standard output and a new file as outputs, which remember what the system said.
 
 ghost use Rattle.std.specs.Prelude.{◌≡◌, false, true, IfOk, IfSome};
 ghost use Rattle.std.specs.Io.KnownBytes.{Appends};
@@ -7,8 +7,8 @@ ghost use Rattle.fa_capture.specs.Streams.{is_failed, is_interrupted, IsWithin, 
 use crate::failure::{Cause, Failure};
 use fa_audit::{MAX_CAPTURE_INPUT_BYTES, MAX_TEXT_INPUT_BYTES, RunFault};
 use fa_capture::{Broken, Input, Output, Pull, Seed};
-use std::fs::File;
-use std::io::{Error, ErrorKind, Read, Write};
+use std::fs::{self, File, OpenOptions};
+use std::io::{self, Error, ErrorKind, Read, Write};
 use std::rt::Files;
 
 /// The path that stands for standard input in a call.
@@ -16,6 +16,9 @@ const STANDARD_INPUT: &str = "-";
 
 /// The file that is standard input.
 const STANDARD_INPUT_FILE: &str = "/dev/stdin";
+
+/// The error number of a file that is there already (`EEXIST` of `errno.h`).
+const ALREADY_THERE: i32 = 17;
 
 /// The file of which each read gives random bytes.
 const RANDOM_FILE: &str = "/dev/urandom";
@@ -239,6 +242,84 @@ impl<W: Write> Output for Sink<W> {
         }
         if let Err(error) = self.writer.flush() {
             return Err(self.fail(&error));
+        }
+        Ok(())
+    }
+
+    fn broken(&self) -> bool {
+        self.broken
+    }
+}
+
+/// A file as an output, which is made at the first put, and must not be there before. It remembers what the system said.
+#[derive(Drop)]
+pub struct NewFile<'r, 'a, R> {
+    rt: &'r R,
+    path: &'a str,
+    made: bool,
+    broken: bool,
+    /// The error number with which it could not be made or written.
+    error: Option<i32>,
+}
+
+/// A file that is yet to be made, as an output with no mark set. One that is there already is refused at once.
+pub fn new_file<'r, 'a, R: Files>(
+    rt: &'r R,
+    path: &'a str,
+) -> Result<NewFile<'r, 'a, R>, Failure<'a>>
+    ensures unbroken { IfOk result (λ file. file.broken ≡ false) }
+{
+    if let Ok(true) = fs::exists(rt, path) {
+        let cause = Cause::File {
+            path,
+            error: ALREADY_THERE,
+        };
+        return Err(Failure::Run(RunFault::Write, cause));
+    }
+    Ok(NewFile {
+        rt,
+        path,
+        made: false,
+        broken: false,
+        error: None,
+    })
+}
+
+impl<'a, R> NewFile<'_, 'a, R> {
+    /// What kept it from being made or from taking all, if the system said it.
+    pub fn cause(&self) -> Cause<'a> {
+        match self.error {
+            Some(error) => Cause::File {
+                path: self.path,
+                error,
+            },
+            None => Cause::Unknown,
+        }
+    }
+}
+
+impl<R: Files> NewFile<'_, '_, R> {
+    /// Puts the bytes at the end of the file, which is made if it was not.
+    fn append(&mut self, bytes: &[u8]) -> io::Result<()>
+        ensures same { self.new.broken ≡ self.old.broken }
+    {
+        let mut file = OpenOptions::new()
+            .append(true)
+            .create_new(!self.made)
+            .open(self.rt, self.path)?;
+        self.made = true;
+        file.write_all(bytes)
+    }
+}
+
+impl<R: Files> Output for NewFile<'_, '_, R> {
+    ghost is_broken = { λ s. s.broken };
+
+    fn put(&mut self, bytes: &[u8]) -> Result<(), Broken> {
+        if let Err(error) = self.append(bytes) {
+            self.broken = true;
+            self.error = error.raw_os_error();
+            return Err(Broken);
         }
         Ok(())
     }

@@ -64,7 +64,7 @@ What it prints, and its exit status:
   nothing, and what is wrong on standard error  4  the command line is invalid
   nothing, and why on standard error            5  a file was not read, the output not taken, or memory refused
 
-With --explain further lines say why. `fa_audit help C` tells what code C means. A FILE may be a pipe; - is standard input.";
+With --explain further lines say why. With --order-out the order that is found is kept, as `fa_audit search` prints it, in a new file, which is made where the capture is legal: one that is there already is refused first, with the status 5, and where the new one cannot be written the lines stand with that status. `fa_audit help C` tells what code C means. The other FILEs may be pipes; - is standard input.";
 
 /// Of `cut`.
 pub const CUT: &str = "\

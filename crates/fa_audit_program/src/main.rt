@@ -4,7 +4,8 @@
 //! capture. `fa_audit propose --capture FILE [--tree FILE]` writes the text of an order that may explain it to standard output, or
 //! the line of the fault where the capture has one or the tree text is not in its grammar. `fa_audit search --capture FILE [--tree FILE]
 //! [--steps N] [--progress]` searches all orders and writes the text of one that explains the capture, or the line that there is none
-//! or that it gave up. `fa_audit judge --capture FILE [--tree FILE] [--steps N] [--progress]` tells the verdict of such a search alone.
+//! or that it gave up. `fa_audit judge --capture FILE [--tree FILE] [--steps N] [--progress] [--order-out FILE]` tells the verdict of such
+//! a search alone, and with `--order-out` keeps the order in a new file.
 //! `fa_audit cut --capture FILE --order FILE --at N` writes what is left of the order for the messages before message N, and `fa_audit
 //! front --capture FILE --at N` the capture of these messages. `fa_audit migrate --capture FILE` writes a capture anew in the format
 //! that has times. `fa_audit watch --capture FILE` reads a capture while it is written and tells its first fault as soon as that was
@@ -33,15 +34,17 @@ use crate::command_line::{
     PagePaths, ProposePaths, ReportPaths, SearchPaths, ShowPaths, Topic, WatchPaths,
 };
 use crate::failure::{Cause, Failure, Printing};
-use crate::files::{Sink, Source, open_capture, open_text, open_text_if_any, random_seed};
+use crate::files::{
+    Sink, Source, new_file, open_capture, open_text, open_text_if_any, random_seed,
+};
 use fa_audit::{
-    Budget, Listener, RunFault, SoFar, Status, run, run_cut, run_front, run_judge, run_migrate,
-    run_propose, run_search, run_show, run_watch,
+    Budget, Listener, RunFault, SoFar, Status, run, run_cut, run_front, run_judge,
+    run_judge_and_keep, run_migrate, run_propose, run_search, run_show, run_watch,
 };
 use fa_help::Paragraph;
 use fa_reasons::{
     DEFAULT_MESSAGES, DEFAULT_ROWS, OrderPage, ReportView, View, run_explain, run_explained_judge,
-    run_order_page, run_picture, run_report,
+    run_explained_judge_and_keep, run_order_page, run_picture, run_report,
 };
 use std::alloc::{AllocError, Global};
 use std::env::Env;
@@ -137,16 +140,16 @@ fn parser_help<'a, R: AllocGlobal + Print>(rt: &R, words: &[&str]) -> Result<u8,
     }
 }
 
-/// How a call ends: with the status of its run, or its fault and what one of its files or its output knows of the cause.
-fn ended<'a, W>(
+/// How a call ends: with the status of its run, or its fault and what one of its files or of its outputs knows of the cause.
+fn ended<'a>(
     ran: Result<u8, RunFault>,
     unread: Cause<'a>,
-    out: &Sink<W>,
+    unwritten: Cause<'a>,
 ) -> Result<u8, Failure<'a>> {
     match ran {
         Ok(status) => Ok(status),
         Err(RunFault::Read) => Err(Failure::Run(RunFault::Read, unread)),
-        Err(RunFault::Write) => Err(Failure::Run(RunFault::Write, out.cause())),
+        Err(RunFault::Write) => Err(Failure::Run(RunFault::Write, unwritten)),
         Err(RunFault::Memory) => Err(Failure::Run(RunFault::Memory, Cause::Unknown)),
     }
 }
@@ -169,7 +172,7 @@ fn check<'a, R: AllocGlobal + Files + Print>(
         &mut out,
     );
     let cause = capture.cause().or(text_cause(&tree)).or(order.cause());
-    ended(ran, cause, &out)
+    ended(ran, cause, out.cause())
 }
 
 /// What kept a text from being read, where there is one.
@@ -196,7 +199,7 @@ fn propose<'a, R: AllocGlobal + Files + Print>(
         &mut out,
     );
     let cause = capture.cause().or(text_cause(&tree));
-    ended(ran, cause, &out)
+    ended(ran, cause, out.cause())
 }
 
 /// Runs a call of `search`: its status.
@@ -220,7 +223,7 @@ fn search<'a, R: AllocGlobal + Files + Print + Eprint>(
         &mut out,
     );
     let cause = capture.cause().or(text_cause(&tree));
-    ended(ran, cause, &out)
+    ended(ran, cause, out.cause())
 }
 
 /// Runs a call of `judge`: its status.
@@ -228,10 +231,10 @@ fn judge<'a, R: AllocGlobal + Files + Print + Eprint>(
     rt: &R,
     call: &JudgePaths<'a>,
 ) -> Result<u8, Failure<'a>> {
-    if call.explained {
-        explained_judge(rt, &call.paths)
-    } else {
-        plain_judge(rt, &call.paths)
+    match call.order_out {
+        Some(path) => judge_and_keep(rt, call, path),
+        None if call.explained => explained_judge(rt, &call.paths),
+        None => plain_judge(rt, &call.paths),
     }
 }
 
@@ -256,7 +259,7 @@ fn plain_judge<'a, R: AllocGlobal + Files + Print + Eprint>(
         &mut out,
     );
     let cause = capture.cause().or(text_cause(&tree));
-    ended(ran, cause, &out)
+    ended(ran, cause, out.cause())
 }
 
 /// Runs a call of `judge` that is to say why: its status.
@@ -280,7 +283,48 @@ fn explained_judge<'a, R: AllocGlobal + Files + Print + Eprint>(
         &mut out,
     );
     let cause = capture.cause().or(text_cause(&tree));
-    ended(ran, cause, &out)
+    ended(ran, cause, out.cause())
+}
+
+/// Runs a call of `judge` that is to keep the order in this file: its status.
+fn judge_and_keep<'a, R: AllocGlobal + Files + Print + Eprint>(
+    rt: &R,
+    call: &JudgePaths<'a>,
+    path: &'a str,
+) -> Result<u8, Failure<'a>> {
+    let mut order_out = new_file(rt, path)?;
+    let mut capture = open_capture(rt, call.paths.capture)?;
+    let mut tree = open_text_if_any(rt, call.paths.tree)?;
+    let mut out = Sink::new(io::writer(rt));
+    let mut progress = Progress {
+        rt,
+        shown: call.paths.progress,
+    };
+    let ran = if call.explained {
+        run_explained_judge_and_keep(
+            rt.alloc(),
+            random_seed(rt),
+            &mut capture,
+            tree.as_mut(),
+            budget(call.paths.steps),
+            &mut progress,
+            &mut order_out,
+            &mut out,
+        )
+    } else {
+        run_judge_and_keep(
+            rt.alloc(),
+            random_seed(rt),
+            &mut capture,
+            tree.as_mut(),
+            budget(call.paths.steps),
+            &mut progress,
+            &mut order_out,
+            &mut out,
+        )
+    };
+    let cause = capture.cause().or(text_cause(&tree));
+    ended(ran, cause, out.cause().or(order_out.cause()))
 }
 
 /// Says on standard error how far a search has come, if that is to be shown.
@@ -330,7 +374,7 @@ fn cut<'a, R: AllocGlobal + Files + Print>(
         &mut out,
     );
     let cause = capture.cause().or(order.cause());
-    ended(ran, cause, &out)
+    ended(ran, cause, out.cause())
 }
 
 /// Runs a call of `front`: its status.
@@ -341,7 +385,7 @@ fn front<'a, R: AllocGlobal + Files + Print>(
     let mut capture = open_capture(rt, paths.capture)?;
     let mut out = Sink::new(io::writer(rt));
     let ran = run_front(rt.alloc(), &mut capture, paths.at, &mut out);
-    ended(ran, capture.cause(), &out)
+    ended(ran, capture.cause(), out.cause())
 }
 
 /// Runs a call of `migrate`: its status.
@@ -352,7 +396,7 @@ fn migrate<'a, R: AllocGlobal + Files + Print>(
     let mut capture = open_capture(rt, paths.capture)?;
     let mut out = Sink::new(io::writer(rt));
     let ran = run_migrate(rt.alloc(), &mut capture, &mut out);
-    ended(ran, capture.cause(), &out)
+    ended(ran, capture.cause(), out.cause())
 }
 
 /// Runs a call of `watch`: its status.
@@ -363,7 +407,7 @@ fn watch<'a, R: AllocGlobal + Files + Print>(
     let mut capture = open_capture(rt, paths.capture)?;
     let mut out = Sink::new(io::writer(rt));
     let ran = run_watch(rt.alloc(), random_seed(rt), &mut capture, &mut out);
-    ended(ran, capture.cause(), &out)
+    ended(ran, capture.cause(), out.cause())
 }
 
 /// Runs a call of `show`: its status.
@@ -380,7 +424,7 @@ fn show<'a, R: AllocGlobal + Files + Print>(
         &paths.choice,
         &mut out,
     );
-    ended(ran, capture.cause(), &out)
+    ended(ran, capture.cause(), out.cause())
 }
 
 /// Runs a call of `explain`: its status.
@@ -401,7 +445,7 @@ fn explain<'a, R: AllocGlobal + Files + Print>(
         &mut out,
     );
     let cause = capture.cause().or(text_cause(&tree)).or(text_cause(&order));
-    ended(ran, cause, &out)
+    ended(ran, cause, out.cause())
 }
 
 /// Which messages a call asks for: so many where it does not say it.
@@ -422,7 +466,7 @@ fn picture<'a, R: AllocGlobal + Files + Print>(
         let mut capture = open_capture(rt, paths.capture)?;
         let mut out = Sink::new(io::writer(rt));
         let ran = run_picture(rt.alloc(), random_seed(rt), &mut capture, view, &mut out);
-        return ended(ran, capture.cause(), &out);
+        return ended(ran, capture.cause(), out.cause());
     };
     order_page(rt, paths, order, &OrderPage::Picture(view))
 }
@@ -448,7 +492,7 @@ fn order_page<'a, R: AllocGlobal + Files + Print>(
         &mut out,
     );
     let cause = capture.cause().or(text_cause(&tree)).or(order.cause());
-    ended(ran, cause, &out)
+    ended(ran, cause, out.cause())
 }
 
 /// Runs a call of `report`: its status.
@@ -502,7 +546,7 @@ fn judged_report<'a, R: AllocGlobal + Files + Print + Eprint>(
         &mut out,
     );
     let cause = capture.cause().or(text_cause(&tree));
-    ended(ran, cause, &out)
+    ended(ran, cause, out.cause())
 }
 
 /// The words of the command line, with the program's name first.
