@@ -5,8 +5,8 @@ use Rattle.std.proofs.lemmas.List.FromFn.{length-map-range_with_len, get_or-map-
 use Rattle.std.proofs.lemmas.Bool.{cases_lt, cases_eq}
 use Rattle.std.proofs.lemmas.Bool.Decides.{nat_tests}
 use Rattle.fa_tree.specs.Contents.{IsReadAs, filled, readable, resized, written}
-use Rattle.fa_tree.specs.parts.PageParts.{PagesShown, only_page, page_of, IsPart, with_part, page_at, byte_at, bytes_of, IsZeroFrom, IsZeroNear, SameBytes, IsStored, AreFrom, AreWritten, IsSet, IsGrown}
-use Rattle.fa_tree.proofs.PageLemmas.{page_near, only_here, only_others}
+use Rattle.fa_tree.specs.parts.PageParts.{PagesShown, only_page, page_of, IsPart, with_part, page_at, byte_at, bytes_of, IsZeroFrom, SameBytes, IsStored, AreFrom, AreWritten, IsSet, IsGrown}
+use Rattle.fa_tree.proofs.PageLemmas.{only_here, only_others}
 
 -- ---- the bytes in pages
 
@@ -108,13 +108,6 @@ module _ (now before : ℕ → List ℕ) (k : ℕ) (page : List ℕ) (put : IsSe
 
   byte_other : (i : ℕ) → (i / 4096 ≡ k → ⊥) → byte_at now i ≡ byte_at before i
   byte_other i other = byte_kept now before i (put.others (i / 4096) other)
-
--- pages that have the same bytes as some of which the list near the beginning had so many
-pub zero_near : (now before : PagesShown) (count : ℕ) → count ≡ length before.near → SameBytes (page_of now) (page_of before) → IsZeroNear now count
-zero_near now before count is same place at behind near =
-    sym (ap (λ p. get_or p at 0) (page_near now place near))
-    ∙ (same place at
-    ∙ ap (λ p. get_or p at 0) (page_near before place near ∙ get_or_past before.near place [] (omega arith)))
 
 -- ---- a page that stores more
 
@@ -297,28 +290,31 @@ cut_there now before size put = record {
   others = λ i other. byte_other now before (size / 4096) _ put i other;
 }
 
--- then the far ones behind it were taken away
-module _ (now : PagesShown) (mid before : ℕ → List ℕ) (size : ℕ) (cut : IsCutThere mid before size)
-    (kept : (k : ℕ) → k < size / 4096 + 1 → page_of now k ≡ mid k) where
+-- then the far ones from the next whole page on were taken away
+module _ (now : PagesShown) (mid before : ℕ → List ℕ) (size from : ℕ) (cut : IsCutThere mid before size)
+    (is : from ≡ size / 4096 + min 1 (size % 4096)) (kept : (k : ℕ) → k < from → page_of now k ≡ mid k) where
   pub cut_front : (i : ℕ) → i < size → byte_at (page_of now) i ≡ byte_at before i
-  cut_front i front = byte_kept (page_of now) mid i (kept (i / 4096) (omega arith)) ∙ cut.in_front i front
+  cut_front i front = byte_kept (page_of now) mid i (kept (i / 4096) (omega (arith, is, front))) ∙ cut.in_front i front
 
-  -- what is not in a page near the beginning that is walked behind it is cut
-  pub cut_ready : ((k : ℕ) → k < 4096 → page_of now k ≡ mid k) → ((k : ℕ) → 4096 ≤ k → size / 4096 + 1 ≤ k → page_of now k ≡ [])
+  -- what is not in a page of the list that is walked behind it is cut
+  pub cut_ready : ((k : ℕ) → k < length now.near → page_of now k ≡ mid k) → ((k : ℕ) → length now.near ≤ k → from ≤ k → page_of now k ≡ [])
       → (len count end : ℕ) → IsZeroFrom before len → count ≡ len / 4096 + min 1 (len % 4096) → end ≡ min count (length now.near)
       → (i : ℕ) → size ≤ i → (i / 4096 < size / 4096 + 1) ⊎ (end ≤ i / 4096) → byte_at (page_of now) i ≡ 0
-  cut_ready near far len count end zeros enough few i back out = elim (cases_eq (i / 4096) (size / 4096)) [
-    | inl here ↦ byte_kept (page_of now) mid i (kept (i / 4096) (omega arith)) ∙ cut.there i back here
-    | inr other ↦ elim (cases_lt (i / 4096) 4096) [
-      | inl close ↦ elim (cases_lt i len) [
-        | inl below ↦
-            let past : length now.near ≤ i / 4096 = elim out [ inl last ↦ absurd (other (omega arith)) | inr past ↦ omega arith ] in
-            byte_past (page_of now) i (page_near now (i / 4096) close ∙ get_or_past now.near (i / 4096) [] past)
-        | inr behind ↦ byte_kept (page_of now) mid i (near (i / 4096) close) ∙ (cut.others i other ∙ zeros i behind)
-      ]
-      | inr away ↦
-          let later : size / 4096 + 1 ≤ i / 4096 = omega (arith, other) in
-          byte_past (page_of now) i (far (i / 4096) away later)
+  cut_ready near far len count end zeros enough few i back out = elim (cases_lt (i / 4096) (length now.near)) [
+    | inl close ↦ byte_kept (page_of now) mid i (near (i / 4096) close) ∙ elim (cases_eq (i / 4096) (size / 4096)) [
+      | inl here ↦ cut.there i back here
+      | inr other ↦
+          let behind : len ≤ i = elim (cases_lt i len) [
+            | inl below ↦ absurd (elim out [ inl last ↦ other (omega arith) | inr past ↦ omega arith ])
+            | inr behind ↦ behind
+          ] in
+          cut.others i other ∙ zeros i behind
+    ]
+    | inr away ↦ elim (cases_lt (i / 4096) from) [
+      | inl last ↦
+          let here : i / 4096 ≡ size / 4096 = omega (arith, is, back, last) in
+          byte_kept (page_of now) mid i (kept (i / 4096) last) ∙ cut.there i back here
+      | inr later ↦ byte_past (page_of now) i (far (i / 4096) away later)
     ]
   ]
 

@@ -1,23 +1,29 @@
--- The pages of a file by their places: those near the beginning, and far ones.
-use Rattle.std.proofs.Common.{◌≡◌, ℕ, zero, suc, ◌+◌, ◌<◌, ◌≤◌, true, false, cond, Bor, Option, Some, None, List, [], ◌∷◌, ◌++◌, length, take, drop, set, get_or, inl, inr, refl, sym, ap, ◌∙◌, arith}
-use Rattle.std.proofs.lemmas.List.{length-take, get_or-take, get_or_past, get_or-set_same, get_or-set_other, get_or_append_left, get_or_push, length_push, get_or_default}
+-- The pages of a file by their places: those in the list, and far ones.
+use Rattle.std.proofs.Common.{◌≡◌, ℕ, zero, suc, ◌+◌, ◌-◌, ◌<◌, ◌≤◌, true, false, cond, Bor, Option, Some, None, List, [], ◌∷◌, ◌++◌, length, take, drop, set, get_or, inl, inr, refl, sym, ap, ◌∙◌, arith}
+use Rattle.std.proofs.lemmas.List.{length-take, get_or-take, get_or_past, length-set, get_or-set_same, get_or-set_other, get_or_append_left, get_or_push, length_push, get_or_default}
 use Rattle.std.proofs.lemmas.Bool.{cases_lt, cases_eq, lt-ltb, le-ltb, ltb-true, ltb-false, false≢true}
 use Rattle.std.proofs.lemmas.Bool.Decides.{nat_tests}
 use Rattle.std.specs.BTreeMap.{BTreeMap, is_at, IsUnchanged, Updates, IsUpperBound}
-use Rattle.std.specs.Ordering.{is_lt, nat_cmp}
+use Rattle.std.specs.Ordering.{is_gt, is_lt, nat_cmp}
 use Rattle.std.specs.Slice.{IsItemAt}
 use Rattle.std.specs.Option.{unwrap_or, option_copied, IsSome, IfSome, IfNone}
-use Rattle.fa_tree.specs.parts.PageParts.{PagesShown, only_page, with_part, has_far, far_page, page_of, IsSet, IsGrown, SameBytes, IsZeroNear}
+use Rattle.fa_tree.specs.parts.PageParts.{PagesShown, only_page, with_part, has_far, far_page, page_of, IsSet, IsGrown, SameBytes}
 
 -- ---- which pages there are
 
-pub page_near : (pages : PagesShown) (k : ℕ) → k < 4096 → page_of pages k ≡ get_or pages.near k []
+pub page_near : (pages : PagesShown) (k : ℕ) → k < length pages.near → page_of pages k ≡ get_or pages.near k []
 unfolding page_of
-page_near pages k near = rw (lt-ltb k 4096 near) refl
+page_near pages k near = rw (lt-ltb k (length pages.near) near) refl
 
-pub page_far : (pages : PagesShown) (k : ℕ) → 4096 ≤ k → page_of pages k ≡ far_page pages.far k
+pub page_far : (pages : PagesShown) (k : ℕ) → length pages.near ≤ k → page_of pages k ≡ far_page pages.far k
 unfolding page_of
-page_far pages k far = rw (le-ltb k 4096 far) refl
+page_far pages k far = rw (le-ltb k (length pages.near) far) refl
+
+-- where the list is the same, so are its pages
+pub near_kept : (now before : PagesShown) → now.near ≡ before.near → (k : ℕ) → k < length now.near → page_of now k ≡ page_of before k
+near_kept now before same k near =
+    let long : length now.near ≡ length before.near = ap length same in
+    page_near now k near ∙ (ap (λ l. get_or l k []) same ∙ sym (page_near before k (omega (arith, long, near))))
 
 pub far_none : (k : ℕ) → far_page [] k ≡ []
 unfolding far_page
@@ -32,10 +38,7 @@ pub only_here : (page : List ℕ) → page_of (only_page page) 0 ≡ page
 only_here page = page_near (only_page page) 0 (omega arith)
 
 pub only_others : (page : List ℕ) (k : ℕ) → (k ≡ 0 → ⊥) → page_of (only_page page) k ≡ []
-only_others page k other = elim (cases_lt k 4096) [
-  | inl near ↦ page_near (only_page page) k near ∙ get_or_past (page ∷ []) k [] (omega (arith, other))
-  | inr far ↦ page_far (only_page page) k far ∙ far_none k
-]
+only_others page k other = page_far (only_page page) k (omega (arith, other)) ∙ far_none k
 
 -- ---- the same bytes
 
@@ -55,41 +58,90 @@ grown_same now before place grown k at = elim (cases_eq k place) [
   | inr other ↦ ap (λ p. get_or p at 0) (grown.others k other)
 ]
 
--- pages near the beginning that have the same bytes, with the same far ones
-pub near_same : (now before : PagesShown) → now.far ≡ before.far → SameBytes (λ k. get_or now.near k []) (λ k. get_or before.near k [])
+-- a list as long with the same bytes, and far pages with the same bytes
+pub parts_same : (now before : PagesShown) → length now.near ≡ length before.near
+    → SameBytes (λ k. get_or now.near k []) (λ k. get_or before.near k []) → SameBytes (far_page now.far) (far_page before.far)
     → SameBytes (page_of now) (page_of before)
-near_same now before far same place at = elim (cases_lt place 4096) [
-  | inl near ↦
-      ap (λ p. get_or p at 0) (page_near now place near)
-      ∙ (same place at ∙ sym (ap (λ p. get_or p at 0) (page_near before place near)))
+parts_same now before long near far k at = elim (cases_lt k (length now.near)) [
+  | inl close ↦
+      ap (λ p. get_or p at 0) (page_near now k close)
+      ∙ (near k at ∙ sym (ap (λ p. get_or p at 0) (page_near before k (omega (arith, long, close)))))
   | inr back ↦
-      ap (λ p. get_or p at 0)
-      (page_far now place back ∙ (ap (λ f. far_page f place) far ∙ sym (page_far before place back)))
+      ap (λ p. get_or p at 0) (page_far now k back)
+      ∙ (far k at ∙ sym (ap (λ p. get_or p at 0) (page_far before k (omega (arith, long, back)))))
 ]
 
--- ---- a page near the beginning, or a far one, that is other
+-- a list that goes on over places that have no far page
+pub longer_same : (now before : PagesShown) → now.far ≡ before.far → length before.near ≤ length now.near
+    → SameBytes (λ k. get_or now.near k []) (λ k. get_or before.near k [])
+    → ((k : ℕ) → length before.near ≤ k → k < length now.near → far_page before.far k ≡ [])
+    → SameBytes (page_of now) (page_of before)
+longer_same now before far long near free k at = elim (cases_lt k (length now.near)) [
+  | inl close ↦
+      ap (λ p. get_or p at 0) (page_near now k close)
+      ∙ (near k at
+      ∙ ap (λ p. get_or p at 0) (elim (cases_lt k (length before.near)) [
+        | inl old ↦ sym (page_near before k old)
+        | inr new ↦ get_or_past before.near k [] new ∙ (sym (free k new close) ∙ sym (page_far before k new))
+      ]))
+  | inr back ↦
+      ap (λ p. get_or p at 0)
+      (page_far now k back ∙ (ap (λ f. far_page f k) far ∙ sym (page_far before k (omega (arith, long, back)))))
+]
 
-pub near_set : (now before : PagesShown) (place : ℕ) (page : List ℕ) → place < 4096 → place < length before.near
+-- a list without its last page, which stored nothing, where no far one is at its place
+pub popped_same : (near : List (List ℕ)) (far : List (ℕ × List ℕ)) → 0 < length near → get_or near (length near - 1) [] ≡ [] → far_page far (length near - 1) ≡ []
+    → SameBytes (page_of (record { near = take (length near - 1) near; far = far })) (page_of (record { near = near; far = far }))
+popped_same near far some last free k at = ap (λ p. get_or p at 0) (elim (cases_lt k (length near - 1)) [
+  | inl front ↦
+      page_near now k (omega (arith, short, front))
+      ∙ (get_or-take (length near - 1) near k [] front ∙ sym (page_near before k (omega (arith, front))))
+  | inr behind ↦
+      page_far now k (omega (arith, short, behind))
+      ∙ elim (cases_eq k (length near - 1)) [
+        | inl here ↦ rw here (free ∙ (sym last ∙ sym (page_near before (length near - 1) (omega (arith, some)))))
+        | inr other ↦ sym (page_far before k (omega (arith, some, behind, other)))
+      ]
+]) where
+  now : PagesShown
+  now = record { near = take (length near - 1) near; far = far }
+
+  before : PagesShown
+  before = record { near = near; far = far }
+
+  short : length (take (length near - 1) near) ≡ length near - 1
+  short = simp length-take (omega arith)
+
+-- ---- a page of the list, or a far one, that is other
+
+pub near_set : (now before : PagesShown) (place : ℕ) (page : List ℕ) → place < length before.near
     → now.near ≡ set before.near place page → now.far ≡ before.far → IsSet (page_of now) (page_of before) place page
-near_set now before place page near there is far = record {
-  here = page_near now place near ∙ (ap (λ l. get_or l place []) is ∙ get_or-set_same before.near place page [] there);
-  others = λ k other. elim (cases_lt k 4096) [
+near_set now before place page there is far = record {
+  here =
+      page_near now place (omega (arith, long, there))
+      ∙ (ap (λ l. get_or l place []) is ∙ get_or-set_same before.near place page [] there);
+  others = λ k other. elim (cases_lt k (length before.near)) [
     | inl close ↦
-        page_near now k close
+        page_near now k (omega (arith, long, close))
         ∙ (ap (λ l. get_or l k []) is ∙ (get_or-set_other before.near place k page [] other ∙ sym (page_near before k close)))
-    | inr back ↦ page_far now k back ∙ (ap (λ f. far_page f k) far ∙ sym (page_far before k back))
+    | inr back ↦
+        page_far now k (omega (arith, long, back)) ∙ (ap (λ f. far_page f k) far ∙ sym (page_far before k back))
   ];
-}
+} where
+  long : length now.near ≡ length before.near
+  long = ap length is ∙ length-set before.near place page
 
-pub far_set : (now before : PagesShown) (place : ℕ) (page : List ℕ) → 4096 ≤ place → now.near ≡ before.near
+pub far_set : (now before : PagesShown) (place : ℕ) (page : List ℕ) → length before.near ≤ place → now.near ≡ before.near
     → IsSet (far_page now.far) (far_page before.far) place page → IsSet (page_of now) (page_of before) place page
 far_set now before place page far near is = record {
-  here = page_far now place far ∙ is.here;
-  others = λ k other. elim (cases_lt k 4096) [
-    | inl close ↦ page_near now k close ∙ (ap (λ l. get_or l k []) near ∙ sym (page_near before k close))
-    | inr back ↦ page_far now k back ∙ (is.others k other ∙ sym (page_far before k back))
+  here = page_far now place (omega (arith, long, far)) ∙ is.here;
+  others = λ k other. elim (cases_lt k (length before.near)) [
+    | inl close ↦ near_kept now before near k (omega (arith, long, close))
+    | inr back ↦ page_far now k (omega (arith, long, back)) ∙ (is.others k other ∙ sym (page_far before k back))
   ];
-}
+} where
+  long : length now.near ≡ length before.near
+  long = ap length near
 
 -- a page that is set to what it is: where it is not there, and nothing is put there
 pub set_none : (pages : ℕ → List ℕ) (place : ℕ) (page : List ℕ) → page ≡ pages place → IsSet pages pages place page
@@ -144,7 +196,7 @@ pub part_none : (at : ℕ) (part : List ℕ) → at + length part ≤ 0 → with
 part_none at [] fits = ap (λ l. l ++ ([] ++ drop (at + length {A = ℕ} []) [])) (take_none at) ∙ drop_none (at + length {A = ℕ} [])
 part_none at (first ∷ part) fits = absurd (omega arith)
 
--- ---- the last far page
+-- ---- the last far page, and the first
 
 not_above : (last k : ℕ) → is_lt (nat_cmp last k) ≡ false → k ≤ last
 not_above last k told = grind (arith, nat_tests)
@@ -156,6 +208,18 @@ none_above far last k greatest above = at (has_far far k) refl where
   at None is = far_absent far k is
   at (Some page) is =
       let within : k ≤ last = not_above last k (greatest k (rw is refl)) in
+      absurd (omega arith)
+
+not_below : (first k : ℕ) → is_gt (nat_cmp first k) ≡ false → first ≤ k
+not_below first k told = grind (arith, nat_tests)
+
+-- in front of the first place no page is there
+pub none_below : (far : List (ℕ × List ℕ)) (first k : ℕ) → ((q : ℕ) → IsSome (has_far far q) → is_gt (nat_cmp first q) ≡ false) → k < first → far_page far k ≡ []
+none_below far first k least below = at (has_far far k) refl where
+  at : (o : Option (List ℕ)) → has_far far k ≡ o → far_page far k ≡ []
+  at None is = far_absent far k is
+  at (Some page) is =
+      let within : first ≤ k = not_below first k (least k (rw is refl)) in
       absurd (omega arith)
 
 -- where the last page is taken away, and one is there from a place on, all in front of that place stay
@@ -173,7 +237,7 @@ pub no_entries : (far : List (ℕ × List ℕ)) → (0 < length far → false �
 no_entries [] none = refl
 no_entries (first ∷ far) none = absurd (false≢true (none (omega arith)))
 
--- ---- the list of those near the beginning
+-- ---- the list
 
 -- a page that has the same bytes as the one in whose place it stands
 pub list_alike : (near : List (List ℕ)) (place : ℕ) (page : List ℕ) → place < length near
@@ -196,45 +260,14 @@ list_longer near k = elim (cases_lt k (length near)) [
   ]
 ]
 
--- those in front of a place from which on all are zeros
-pub list_front : (pages : PagesShown) (count : ℕ) → IsZeroNear pages count → (k at : ℕ) → k < 4096
-    → get_or (get_or (take count pages.near) k []) at 0 ≡ get_or (get_or pages.near k []) at 0
-list_front pages count zeros k at near = elim (cases_lt k count) [
-  | inl front ↦ ap (λ p. get_or p at 0) (get_or-take count pages.near k [] front)
-  | inr behind ↦
-      let few : length (take count pages.near) ≤ k = simp length-take (omega arith) in
-      ap (λ p. get_or p at 0) (get_or_past (take count pages.near) k [] few) ∙ sym (zeros k at behind near)
-]
-
--- pages of which the list was cut so, and memory was given back
-pub given_back : (now before : PagesShown) (count : ℕ) → IsZeroNear before count
-    → SameBytes (λ k. get_or now.near k []) (λ k. get_or (take count before.near) k []) → SameBytes (far_page now.far) (far_page before.far)
-    → SameBytes (page_of now) (page_of before)
-given_back now before count zeros near far k at = elim (cases_lt k 4096) [
-  | inl close ↦
-      ap (λ p. get_or p at 0) (page_near now k close)
-      ∙ (near k at ∙ (list_front before count zeros k at close ∙ sym (ap (λ p. get_or p at 0) (page_near before k close))))
-  | inr back ↦
-      ap (λ p. get_or p at 0) (page_far now k back)
-      ∙ (far k at ∙ sym (ap (λ p. get_or p at 0) (page_far before k back)))
-]
-
 -- a far page that has grown
-pub far_grown : (now before : PagesShown) (place : ℕ) → 4096 ≤ place → now.near ≡ before.near
+pub far_grown : (now before : PagesShown) (place : ℕ) → length before.near ≤ place → now.near ≡ before.near
     → IsGrown (far_page now.far) (far_page before.far) place → IsGrown (page_of now) (page_of before) place
 far_grown now before place far near is =
     let put = far_set now before place (far_page now.far place) far near (record { here = refl; others = is.others }) in
     let was = page_far before place far in
     set_grown (page_of now) (page_of before) place (far_page now.far place) put
     (λ i. is.same i ∙ sym (ap (λ p. get_or p i 0) was)) (rw was is.kept)
-
--- a page near the beginning that is not there
-pub near_absent : (pages : PagesShown) (place : ℕ) → place < 4096 → length pages.near ≤ place → page_of pages place ≡ []
-near_absent pages place near past = page_near pages place near ∙ get_or_past pages.near place [] past
-
--- the same list near the beginning
-pub near_kept : (now before : PagesShown) → now.near ≡ before.near → (k : ℕ) → k < 4096 → page_of now k ≡ page_of before k
-near_kept now before same k near = page_near now k near ∙ (ap (λ l. get_or l k []) same ∙ sym (page_near before k near))
 
 -- one page alone that is other
 pub only_set : (before page : List ℕ) → IsSet (page_of (only_page page)) (page_of (only_page before)) 0 page

@@ -211,10 +211,10 @@ one_within page other here place = elim (cases_eq place 0) [
   | inr apart ↦ subst (IsPart (other place) 0) (sym (only_others page place apart)) (none_within (other place))
 ]
 
--- and so are more, of which those near the beginning are and the far ones
+-- and so are more, of which those of the list are and the far ones
 pub many_within : (pages : PagesShown) (other : ℕ → List ℕ) → ((place : ℕ) → IsPart (other place) 0 (get_or pages.near place []))
     → ((place : ℕ) → IsPart (other place) 0 (far_page pages.far place)) → (place : ℕ) → IsPart (other place) 0 (page_of pages place)
-many_within pages other near far place = elim (cases_lt place 4096) [
+many_within pages other near far place = elim (cases_lt place (length pages.near)) [
   | inl less ↦ subst (IsPart (other place) 0) (sym (page_near pages place less)) (near place)
   | inr more ↦ subst (IsPart (other place) 0) (sym (page_far pages place more)) (far place)
 ]

@@ -2,15 +2,20 @@
 
 ghost use Rattle.std.specs.Prelude.{◌≡◌, ◌↔◌, ◌+◌, ◌^◌, ◌<◌, [], length, slice_get, IsTrue, IfOk, OnOk, OnErr};
 ghost use Rattle.fa_tree.specs.Contents.{IsReadAs, readable, resized, written};
-ghost use Rattle.fa_tree.specs.parts.PageParts.{page_of, IsZeroFrom, SameBytes, IsStored, AreNear, AreFrom, AreWritten, AreCut};
+ghost use Rattle.fa_tree.specs.parts.PageParts.{page_of, IsZeroFrom, SameBytes, IsStored, AreFrom, AreWritten, AreCut};
 
 use crate::digest::digest_of;
-use crate::many_pages::NEAR;
 use crate::page::PAGE;
 use crate::pages::Pages;
 use fa_capture::Seed;
 use std::alloc::{AllocError, Global};
 use std::marker::Model;
+
+/// The list of pages has so many at most: 16 MiB of a file.
+const NEAR: usize = 4096;
+
+/// Bytes that begin so many pages behind the list, or more, don't make it go on: 256 KiB.
+const AHEAD: usize = 64;
 
 /// The bytes of a regular file, or the target of a symbolic link.
 #[derive(Drop)]
@@ -136,8 +141,8 @@ impl Contents {
 
     /// Writes bytes at an offset, with zeros between the end and the offset; writing none changes nothing. An error says that
     /// memory was refused, or that the bytes would end at 2^64 or behind it, which no memory holds; nothing is changed. Time in the
-    /// bytes written, a constant for each page near the beginning in front of them that was not there yet, and for each far page that
-    /// is written the logarithm of those that are there: of the zeros only those are stored that are in one page with bytes written,
+    /// bytes written, a constant for each page in front of them that is added to the list, and for each far page that is written the
+    /// logarithm of those that are there, and once more: of the zeros only those are stored that are in one page with bytes written,
     /// less than a page of them.
     pub fn write(&mut self, offset: u64, payload: &[u8]) -> Result<(), AllocError>
         ensures written { OnOk result (self.new ≡ written self.old offset payload.now) }
@@ -157,8 +162,8 @@ impl Contents {
 
     /// Cuts the bytes to this length, or fills them with zeros up to it. No length is refused, since it takes no memory; an error
     /// would leave all as it was. Constant time, and for each page that is cut a constant, or the logarithm of the far pages that are
-    /// there: those near the beginning that were written or grown over, which keep their memory for what is written next, as a `Vec`
-    /// keeps its capacity, and far ones that were written, which give it back.
+    /// there: those in the list, which keep their memory for what is written next, as a `Vec` keeps its capacity, and far ones, which
+    /// give it back.
     pub fn resize(&mut self, size: u64) -> Result<(), AllocError>
         ensures resized { OnOk result (self.new ≡ resized self.old size) }
         ensures unchanged { OnErr result (self.new ≡ self.old) }
@@ -171,7 +176,7 @@ impl Contents {
         Ok(())
     }
 
-    /// Takes all bytes away, in the time of `resize`. The pages near the beginning keep their memory.
+    /// Takes all bytes away, in the time of `resize`. The pages in the list keep their memory.
     pub fn clear(&mut self)
         ensures { self.new ≡ [] }
     {
@@ -199,8 +204,8 @@ fn are_from(pages: &Pages, start: usize, bytes: &[u8]) -> bool
 }
 
 /// Makes pages store the bytes from one place up to another. All are as they were, after an error too, which gives back the memory
-/// that was taken before it. Time in the bytes that were not stored, in the pages near the beginning that are added, and for each far
-/// page in the logarithm of those that are there.
+/// that was taken before it. Time in the bytes that were not stored, in the pages that are added to the list, and for each far page in
+/// the logarithm of those that are there, and once more.
 fn store(alloc: Global, pages: &mut Pages, start: usize, end: usize) -> Result<(), AllocError>
     ensures same { SameBytes (page_of pages.new) (page_of pages.old) }
     ensures stored { OnOk result (IsStored (page_of pages.new) start end) }
@@ -231,13 +236,13 @@ fn store_each(alloc: Global, pages: &mut Pages, start: usize, end: usize) -> Res
     Ok(())
 }
 
-/// Adds the pages near the beginning that the bytes from one place up to another are in, and those in front of them; none where all
-/// of these bytes are far. All bytes are as they were, after an error too. Time in the pages that are added.
+/// Makes the list of pages go on over those that the bytes from one place up to another are in, where these begin near its end. All
+/// bytes are as they were, after an error too. Time in the pages that are added, fewer than `AHEAD` beside those of the bytes, and in the
+/// logarithm of the far pages that are there.
 fn add_near(alloc: Global, pages: &mut Pages, start: usize, end: usize) -> Result<(), AllocError>
-    ensures same { SameBytes (page_of pages.new) (page_of pages.old) }
-    ensures added { OnOk result (AreNear pages.new start end) }
+    ensures { SameBytes (page_of pages.new) (page_of pages.old) }
 {
-    if start / PAGE < NEAR {
+    if (start / PAGE).saturating_sub(pages.near_len()) < AHEAD {
         pages.add(alloc, end.div_ceil(PAGE).min(NEAR))
     } else {
         Ok(())
@@ -261,8 +266,8 @@ fn put(pages: &mut Pages, start: usize, bytes: &[u8])
 }
 
 /// Takes the bytes from this place on away, up to the length before: zeros follow. The page that goes on behind the place is cut
-/// there. Further ones near the beginning store nothing, stay in the list and keep their memory for what is written next; far ones
-/// are taken away. Takes no memory. Constant time, and for each page that is cut a constant, or a logarithm of the far pages that are
+/// there. Further ones in the list store nothing, stay there and keep their memory for what is written next; far ones are taken away.
+/// Takes no memory. Constant time, and for each page that is cut a constant, or a logarithm of the far pages that are
 /// there: those behind the length store zeros alone, and are not walked.
 fn cut(pages: &mut Pages, size: usize, len: usize)
     requires { IsZeroFrom (page_of pages.old) len }
@@ -270,7 +275,7 @@ fn cut(pages: &mut Pages, size: usize, len: usize)
 {
     let last = size / PAGE;
     pages.cut(last, size % PAGE);
-    pages.cut_far(last + 1);
+    pages.cut_far(size.div_ceil(PAGE));
     let end = len.div_ceil(PAGE).min(pages.near_len());
     let mut at = last + 1;
     while at < end {

@@ -63,6 +63,16 @@ impl FarPages {
         self.pages.get(&place)
     }
 
+    /// How many places from the first on have no page, counted up to so many. Time in the logarithm of the pages that are there.
+    pub fn free_before(&self, count: usize) -> usize
+        ensures { (k : ℕ) → k < result → far_page self.now k ≡ [] }
+    {
+        match self.pages.first_key_value() {
+            Some((first, _)) => count.min(*first),
+            None => count,
+        }
+    }
+
     /// Makes the page at a place store so many bytes at least, as `Page::store` does; where it is not there, it is made, and not
     /// before its memory is. An error says that memory was refused, and nothing is changed but, maybe, how the pages that are there
     /// lie in memory.

@@ -1,8 +1,8 @@
 //! The pages of a file of more than one.
 
-ghost use Rattle.std.specs.Prelude.{◌≡◌, ◌+◌, ◌<◌, ◌≤◌, ℕ, [], ◌∷◌, get_or, length, set, take, IfOk, IfNone, IfSome, OnOk};
+ghost use Rattle.std.specs.Prelude.{◌≡◌, ◌+◌, ◌-◌, ◌<◌, ◌≤◌, ℕ, [], ◌∷◌, get_or, length, set, take, max, IfOk, IfNone, IfSome, IsTrue, OnOk};
 ghost use Rattle.std.specs.Option.{option_copied, unwrap_or};
-ghost use Rattle.fa_tree.specs.parts.PageParts.{page_of, with_part, IsSet, IsGrown, SameBytes, IsZeroNear};
+ghost use Rattle.fa_tree.specs.parts.PageParts.{page_of, with_part, IsSet, IsGrown, SameBytes};
 
 use crate::far_pages::FarPages;
 use crate::page::Page;
@@ -10,10 +10,7 @@ use std::alloc::{AllocError, Global};
 use std::marker::Model;
 use std::mem;
 
-/// So many pages are near the beginning of a file: 16 MiB.
-pub(crate) const NEAR: usize = 4096;
-
-/// Pages near the beginning of a file, one after the other, holes too, and those far from it that are there.
+/// The pages at the beginning of a file, one after the other, holes too, and those behind them that are there.
 #[derive(Drop)]
 pub(crate) struct ManyPages {
     near: Vec<Page>,
@@ -29,7 +26,7 @@ impl Model for ManyPages {
 }
 
 impl ManyPages {
-    /// One page, that stores nothing, with room for so many near the beginning.
+    /// One page, that stores nothing, with room for so many in the list.
     pub fn with_capacity(alloc: Global, count: usize) -> Result<Self, AllocError>
         ensures { IfOk result (λ pages. (pages.near ≡ [] ∷ []) × (pages.far ≡ [])) }
     {
@@ -51,14 +48,14 @@ impl ManyPages {
         })
     }
 
-    /// Those near the beginning, one after the other.
+    /// Those in the list, one after the other.
     pub fn near(&self) -> &[Page]
         ensures { result.now ≡ self.now.near }
     {
         self.near.as_slice()
     }
 
-    /// Those far from the beginning that are there.
+    /// Those behind them that are there.
     pub fn far(&self) -> &FarPages
         ensures { result.now ≡ self.now.far }
     {
@@ -75,7 +72,7 @@ impl ManyPages {
         mem::swap(&mut self.near[0], page);
     }
 
-    /// How many near the beginning there are.
+    /// How many pages the list has.
     #[inline(always)]
     pub fn near_len(&self) -> usize
         ensures { result ≡ length self.now.near }
@@ -83,36 +80,34 @@ impl ManyPages {
         self.near.len()
     }
 
-    /// The page at a place, if it is there. Constant time near the beginning, else in the logarithm of the far pages that are there.
+    /// The page at a place, if it is there. Constant time in the list, else in the logarithm of the far pages that are there.
     #[inline(always)]
     pub fn get(&self, place: usize) -> Option<&Page>
         ensures { unwrap_or (option_copied result) [] ≡ page_of self.now place }
     {
-        if place < NEAR {
+        if place < self.near.len() {
             self.near.get(place)
         } else {
             self.far.get(place)
         }
     }
 
-    /// Adds pages near the beginning, up to so many, as `Pages::add` does.
+    /// Makes the list go on up to so many pages, or to the first far one, as `Pages::add` does.
     pub fn add(&mut self, alloc: Global, count: usize) -> Result<(), AllocError>
-        ensures same { SameBytes (page_of self.new) (page_of self.old) }
-        ensures added { OnOk result (count ≤ length self.new.near) }
+        ensures { SameBytes (page_of self.new) (page_of self.old) }
     {
-        add_pages(alloc, &mut self.near, count)
+        let free = self.far.free_before(count);
+        add_pages(alloc, &mut self.near, free)
     }
 
     /// Makes the page at a place store so many bytes at least, as `Pages::store` does.
     #[inline(always)]
     pub fn store(&mut self, alloc: Global, place: usize, size: usize) -> Result<(), AllocError>
-        requires there { place < 4096 → place < length self.old.near }
-        requires fits { size ≤ 4096 }
+        requires { size ≤ 4096 }
         ensures grown { IsGrown (page_of self.new) (page_of self.old) place }
         ensures stored { OnOk result (size ≤ length (page_of self.new place)) }
-        ensures as_many { length self.new.near ≡ length self.old.near }
     {
-        if place < NEAR {
+        if place < self.near.len() {
             let page = &mut self.near[place];
             return page.store(size);
         }
@@ -125,11 +120,11 @@ impl ManyPages {
         requires { at + length part.now ≤ length (page_of self.old place) }
         ensures { IsSet (page_of self.new) (page_of self.old) place (with_part (page_of self.old place) at part.now) }
     {
-        if place >= NEAR {
-            self.far.put(place, at, part);
-        } else if place < self.near.len() {
+        if place < self.near.len() {
             let page = &mut self.near[place];
             page.put(at, part);
+        } else {
+            self.far.put(place, at, part);
         }
     }
 
@@ -138,17 +133,17 @@ impl ManyPages {
     pub fn cut(&mut self, place: usize, size: usize)
         ensures { IsSet (page_of self.new) (page_of self.old) place (take size (page_of self.old place)) }
     {
-        if place >= NEAR {
-            self.far.cut(place, size);
-        } else if place < self.near.len() {
+        if place < self.near.len() {
             let page = &mut self.near[place];
             page.cut(size);
+        } else {
+            self.far.cut(place, size);
         }
     }
 
     /// Takes the far pages at this place and behind it away, as `Pages::cut_far` does.
     pub fn cut_far(&mut self, place: usize)
-        ensures cut { (k : ℕ) → 4096 ≤ k → place ≤ k → page_of self.new k ≡ [] }
+        ensures cut { (k : ℕ) → length self.new.near ≤ k → place ≤ k → page_of self.new k ≡ [] }
         ensures kept { (k : ℕ) → k < place → page_of self.new k ≡ page_of self.old k }
         ensures near { self.new.near ≡ self.old.near }
     {
@@ -157,13 +152,12 @@ impl ManyPages {
 
     /// Gives back memory, as `Pages::give_back` does.
     pub fn give_back(&mut self, count: usize, from: usize, end: usize)
-        requires { IsZeroNear self.old count }
         ensures { SameBytes (page_of self.new) (page_of self.old) }
     {
-        self.near.truncate(count);
-        self.near.shrink_to_fit();
         give_back_from(&mut self.near, from);
-        self.far.give_back(from.max(NEAR), end);
+        shorten(&mut self.near, &self.far, count);
+        self.near.shrink_to_fit();
+        self.far.give_back(from, end);
     }
 
     /// Takes the page out, where there is one alone.
@@ -181,7 +175,8 @@ impl ManyPages {
 
 /// Gives back what the pages from this place on store of zeros at their ends, as `Pages::give_back` does.
 fn give_back_from(pages: &mut Vec<Page>, from: usize)
-    ensures { SameBytes (λ k. get_or pages.new.items k []) (λ k. get_or pages.old.items k []) }
+    ensures as_many { length pages.new.items ≡ length pages.old.items }
+    ensures same { SameBytes (λ k. get_or pages.new.items k []) (λ k. get_or pages.old.items k []) }
 {
     let mut place = from;
     while place < pages.len() {
@@ -191,10 +186,32 @@ fn give_back_from(pages: &mut Vec<Page>, from: usize)
     }
 }
 
+/// Takes pages that store nothing off the end of a list, down to so many. No far page is at a place of the list, and all pages that a
+/// refused write added store nothing: both are asked here, since no invariant says them.
+fn shorten(near: &mut Vec<Page>, far: &FarPages, count: usize)
+    ensures { SameBytes (page_of (record { near = near.new.items; far = far.now })) (page_of (record { near = near.old.items; far = far.now })) }
+{
+    let free = far.free_before(near.len());
+    while count < near.len() && near.len() <= free && is_last_empty(near) {
+        near.truncate(near.len() - 1);
+    }
+}
+
+/// Whether the last page of a list stores nothing.
+fn is_last_empty(near: &Vec<Page>) -> bool
+    ensures { IsTrue result → get_or near.now.items (length near.now.items - 1) [] ≡ [] }
+{
+    match near.last() {
+        Some(page) => page.is_empty(),
+        None => false,
+    }
+}
+
 /// Adds pages up to so many to a list, as `Pages::add` does.
 fn add_pages(alloc: Global, pages: &mut Vec<Page>, count: usize) -> Result<(), AllocError>
     ensures same { SameBytes (λ k. get_or pages.new.items k []) (λ k. get_or pages.old.items k []) }
-    ensures added { OnOk result (count ≤ length pages.new.items) }
+    ensures kept { length pages.old.items ≤ length pages.new.items }
+    ensures few { length pages.new.items ≤ max (length pages.old.items) count }
 {
     if pages.len() < count {
         pages.reserve(count - pages.len())?;

@@ -1,7 +1,7 @@
 //! The pages that the bytes of a file are in.
 
 ghost use Rattle.std.specs.Prelude.{◌≡◌, ◌↔◌, ◌+◌, ◌<◌, ◌≤◌, ℕ, [], ◌∷◌, get_or, length, take, IfOk, IsTrue, OnErr, OnOk};
-ghost use Rattle.fa_tree.specs.parts.PageParts.{page_of, far_page, only_page, with_part, IsPart, IsSet, IsGrown, SameBytes, IsZeroNear};
+ghost use Rattle.fa_tree.specs.parts.PageParts.{page_of, far_page, only_page, with_part, IsPart, IsSet, IsGrown, SameBytes};
 
 use crate::many_pages::ManyPages;
 use crate::page::{Page, are_zeros};
@@ -17,9 +17,8 @@ pub(crate) enum PageList {
     Many(Box<ManyPages>),
 }
 
-/// Pages, each at its place. One that is not there stores nothing: near the beginning of a file they are in a list, which has a
-/// constant for each up to the last of them that was written; those far from it (`NEAR`) are in a map, which has those alone that
-/// were written.
+/// Pages, each at its place. One that is not there stores nothing: those at the beginning of a file are in a list, which has a
+/// constant for each of its places; the far ones, at places behind the list, are in a map, which has those alone that were written.
 #[derive(Drop)]
 pub(crate) struct Pages {
     list: PageList,
@@ -65,16 +64,16 @@ impl Pages {
         Ok(Pages { list })
     }
 
-    /// Whether the bytes are the same, whichever are stored. Takes no memory, and time in the bytes that are stored, for each far
-    /// page in the logarithm of those that are there.
+    /// Whether the bytes are the same, whichever are stored. Takes no memory, and time in the bytes that are stored, for each page
+    /// that is far in either in the logarithm of those that are there.
     pub fn is_same(&self, other: &Pages) -> bool
         ensures { IsTrue result → SameBytes (page_of self.now) (page_of other.now) }
     {
         self.is_within(other) && other.is_within(self)
     }
 
-    /// Whether the bytes that each page stores are those of the other pages at its place. Takes no memory, and time in them, for
-    /// each far page in the logarithm of those that are there.
+    /// Whether the bytes that each page stores are those of the other pages at its place. Takes no memory, and time in them, for each
+    /// page that is far in either in the logarithm of those that are there.
     fn is_within(&self, other: &Pages) -> bool
         ensures { IsTrue result → (place : ℕ) → IsPart (page_of other.now place) 0 (page_of self.now place) }
     {
@@ -121,7 +120,7 @@ impl Pages {
         }
     }
 
-    /// How many near the beginning there are.
+    /// How many pages the list has.
     pub fn near_len(&self) -> usize
         ensures { result ≡ length self.now.near }
     {
@@ -131,11 +130,10 @@ impl Pages {
         }
     }
 
-    /// Adds pages near the beginning, up to so many. They store nothing: all bytes are as they were, after an error too. Time in the
-    /// pages that are added.
+    /// Makes the list go on up to so many pages, or to the first far one. Those that are added store nothing: all bytes are as they
+    /// were, after an error too. Time in the pages that are added, and in the logarithm of the far ones that are there.
     pub fn add(&mut self, alloc: Global, count: usize) -> Result<(), AllocError>
-        ensures same { SameBytes (page_of self.new) (page_of self.old) }
-        ensures added { OnOk result (count ≤ length self.new.near) }
+        ensures { SameBytes (page_of self.new) (page_of self.old) }
     {
         match &mut self.list {
             PageList::One(page) => {
@@ -151,7 +149,7 @@ impl Pages {
         }
     }
 
-    /// Whether these are the bytes from this place on in the page at a place of the list; where there is none, they are zeros.
+    /// Whether these are the bytes from this place on in the page at a place; where there is none, they are zeros.
     /// Takes no memory, and time in their number, for a far page in the logarithm of those that are there too.
     pub fn has(&self, place: usize, at: usize, part: &[u8]) -> bool
         ensures { IsTrue result ↔ IsPart (page_of self.now place) at part.now }
@@ -166,7 +164,7 @@ impl Pages {
         }
     }
 
-    /// The byte at this place of the page at a place of the list; zero where there is none. Takes no memory, in constant time, for a
+    /// The byte at this place of the page at a place; zero where there is none. Takes no memory, in constant time, for a
     /// far page in the logarithm of those that are there.
     pub fn byte(&self, place: usize, at: usize) -> u8
         ensures { result ≡ get_or (page_of self.now place) at 0 }
@@ -184,11 +182,9 @@ impl Pages {
     /// Makes the page at a place store so many bytes at least, as `Page::store` does. A far page is made where it is not there, and
     /// has no place before its memory is.
     pub fn store(&mut self, alloc: Global, place: usize, size: usize) -> Result<(), AllocError>
-        requires there { place < 4096 → place < length self.old.near }
-        requires fits { size ≤ 4096 }
+        requires { size ≤ 4096 }
         ensures grown { IsGrown (page_of self.new) (page_of self.old) place }
         ensures stored { OnOk result (size ≤ length (page_of self.new place)) }
-        ensures as_many { length self.new.near ≡ length self.old.near }
     {
         match &mut self.list {
             PageList::One(page) if place == 0 => page.store(size),
@@ -234,10 +230,9 @@ impl Pages {
     /// Takes the far pages at this place and behind it away, and gives back their memory. Takes none. Time in the pages that are
     /// taken away, and a logarithm of those that are there for each.
     pub fn cut_far(&mut self, place: usize)
-        ensures cut { (k : ℕ) → 4096 ≤ k → place ≤ k → page_of self.new k ≡ [] }
+        ensures cut { (k : ℕ) → length self.new.near ≤ k → place ≤ k → page_of self.new k ≡ [] }
         ensures kept { (k : ℕ) → k < place → page_of self.new k ≡ page_of self.old k }
-        ensures near { (k : ℕ) → k < 4096 → page_of self.new k ≡ page_of self.old k }
-        ensures as_many { length self.new.near ≡ length self.old.near }
+        ensures near { (k : ℕ) → k < length self.new.near → page_of self.new k ≡ page_of self.old k }
     {
         match &mut self.list {
             PageList::One(_) => {}
@@ -245,12 +240,11 @@ impl Pages {
         }
     }
 
-    /// Leaves so many pages near the beginning, where those behind them store zeros alone, and gives back what a page at this place
-    /// or behind it stores of zeros at its end, a far one before the end, and far ones before the end that store nothing else: all
-    /// bytes are as they were. Where one page is left, it takes no memory for a list. Takes no memory but to move what a page stores
-    /// into less of it, and time in the bytes that the pages store and the places before the end.
+    /// Gives back memory; all bytes are as they were. Pages from a place on give back the zeros at their ends, far ones in front of an
+    /// end alone. Far ones there that store nothing else go, and so do pages at the end of the list that store nothing, as long as it
+    /// has more than `count`. Where one page is left, it takes no memory for a list. Takes no memory but to move what a page stores into
+    /// less of it, and time in the bytes that the pages store and the places up to the end.
     pub fn give_back(&mut self, count: usize, from: usize, end: usize)
-        requires { IsZeroNear self.old count }
         ensures { SameBytes (page_of self.new) (page_of self.old) }
     {
         match &mut self.list {
@@ -265,7 +259,8 @@ impl Pages {
     }
 }
 
-/// Whether the bytes that each page near the beginning stores are those of the pages at its place. Takes no memory, and time in them.
+/// Whether the bytes that each page of a list stores are those of the pages at its place. Takes no memory, and time in them, for each
+/// that is far there in the logarithm of those that are.
 fn is_near_within(near: &[Page], pages: &Pages) -> bool
     ensures { IsTrue result → (place : ℕ) → IsPart (page_of pages.now place) 0 (get_or near.now place []) }
 {
@@ -283,8 +278,8 @@ fn is_far_within(far: &BTreeMap<usize, Page>, pages: &Pages) -> bool
         .all(|(place, page)| pages.has(*place, 0, page.as_slice()))
 }
 
-/// More pages, of which a page that is moved there is the first and the only one, with room for so many near the beginning. Where
-/// memory is refused, the page stays.
+/// More pages, of which a page that is moved there is the first and the only one, with room for so many in the list. Where memory is
+/// refused, the page stays.
 fn taken(alloc: Global, page: &mut Page, count: usize) -> Result<Box<ManyPages>, AllocError>
     ensures moved { IfOk result (λ pages. (pages.value.near ≡ page.old ∷ []) × (pages.value.far ≡ [])) }
     ensures kept { OnErr result (page.new ≡ page.old) }

@@ -111,8 +111,8 @@ impl Tree {
 
     /// The byte of a file at an offset; of a symbolic link, that of its target. None where the file is not there or has ended.
     ///
-    /// Takes no memory, in expected constant time, and behind the first 16 MiB in the logarithm of the pages of the file that were
-    /// written there.
+    /// Takes no memory, in expected constant time, and in the logarithm of the pages of the file that were written far behind those
+    /// before them, or behind 16 MiB, where it is in one or behind the first of them.
     pub fn byte(&self, file: FileId, offset: u64) -> Option<u8>
         ensures { result ≡ option_and_then (λ f. slice_get f.bytes offset) (map.get self.now.store.files file) }
     {

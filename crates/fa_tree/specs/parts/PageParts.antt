@@ -8,7 +8,7 @@ use Rattle.std.specs.BTreeMap.{is_at}
 
 -- ---- which pages there are
 
--- those near the beginning of a file, one after the other, and the others that are there, by their places
+-- those at the beginning of a file, one after the other, and those behind them that are there, by their places
 pub record PagesShown : Type 0 where
   pub near : List (List ℕ)
   pub far : List (ℕ × List ℕ)
@@ -25,9 +25,9 @@ has_far far place = lookup (is_at (nat_cmp place)) far
 unfoldable pub far_page : (far : List (ℕ × List ℕ)) → (place : ℕ) → List ℕ
 far_page far place = unwrap_or (has_far far place) []
 
--- what the page at a place stores
+-- what the page at a place stores: one of the list, or behind the list a far one
 unfoldable pub page_of : PagesShown → (place : ℕ) → List ℕ
-page_of pages place = cond (nat_lt place 4096) (get_or pages.near place []) (far_page pages.far place)
+page_of pages place = cond (nat_lt place (length pages.near)) (get_or pages.near place []) (far_page pages.far place)
 
 -- ---- what pages store, by their places
 
@@ -55,10 +55,6 @@ bytes_of pages len = map (λ i. byte_at pages i) (range_with_len 0 len)
 abbrev pub IsZeroFrom : (pages : ℕ → List ℕ) → (len : ℕ) → Type 0
 IsZeroFrom pages len = (i : ℕ) → len ≤ i → byte_at pages i ≡ 0
 
--- no page near the beginning stores other than zeros from this place on
-abbrev pub IsZeroNear : PagesShown → (count : ℕ) → Type 0
-IsZeroNear pages count = (place at : ℕ) → count ≤ place → place < 4096 → get_or (get_or pages.near place []) at 0 ≡ 0
-
 -- the same bytes, whichever are stored
 abbrev pub SameBytes : (now before : ℕ → List ℕ) → Type 0
 SameBytes now before = (place at : ℕ) → get_or (now place) at 0 ≡ get_or (before place) at 0
@@ -66,10 +62,6 @@ SameBytes now before = (place at : ℕ) → get_or (now place) at 0 ≡ get_or (
 -- the bytes from one place up to another are stored
 abbrev pub IsStored : (pages : ℕ → List ℕ) → (start end : ℕ) → Type 0
 IsStored pages start end = (i : ℕ) → start ≤ i → i < end → i % 4096 < length (page_at pages i)
-
--- the pages near the beginning that the bytes from one place up to another are in are in the list
-abbrev pub AreNear : PagesShown → (start end : ℕ) → Type 0
-AreNear pages start end = (i : ℕ) → start ≤ i → i < end → i / 4096 < 4096 → i / 4096 < length pages.near
 
 -- the bytes from this place on are these
 abbrev pub AreFrom : (pages : ℕ → List ℕ) → (start : ℕ) → List ℕ → Type 0

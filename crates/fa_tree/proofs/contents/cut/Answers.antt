@@ -9,10 +9,11 @@ loop-at-init c =
     let cut : IsCutThere (page_of c.cut.new.self) (page_of c.args.pages.now) c.args.size = cut_there _ _ c.args.size c.cut.ensures in
     record {
       from = omega arith;
-      in_front = cut_front c.cut_far.new.self (page_of c.cut.new.self) (page_of c.args.pages.now) c.args.size cut c.cut_far.ensures.kept;
-      behind = cut_ready c.cut_far.new.self (page_of c.cut.new.self) (page_of c.args.pages.now) c.args.size cut c.cut_far.ensures.kept
-          c.cut_far.ensures.near c.cut_far.ensures.cut c.args.len c.div_ceil.result c.min-end.result c.requires c.div_ceil.ensures
-          (rw c.near_len.ensures at c.min-end.ensures);
+      in_front = cut_front c.cut_far.new.self (page_of c.cut.new.self) (page_of c.args.pages.now) c.args.size c.div_ceil.result cut c.div_ceil.ensures
+          c.cut_far.ensures.kept;
+      behind = cut_ready c.cut_far.new.self (page_of c.cut.new.self) (page_of c.args.pages.now) c.args.size c.div_ceil.result cut c.div_ceil.ensures
+          c.cut_far.ensures.kept c.cut_far.ensures.near c.cut_far.ensures.cut c.args.len c.div_ceil-2.result c.min-end.result c.requires
+          c.div_ceil-2.ensures (rw c.near_len.ensures at c.min-end.ensures);
     }
 
 pub loop-at-preserved : goal.loop-at-preserved

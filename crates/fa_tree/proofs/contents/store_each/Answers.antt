@@ -1,11 +1,8 @@
-use Rattle.std.proofs.Common.{◌≡◌, ◌+◌, ◌-◌, ◌%◌, ◌/◌, ◌≤◌, length, ◌∙◌, arith}
+use Rattle.std.proofs.Common.{◌+◌, ◌-◌, ◌%◌, ◌/◌, ◌≤◌, ◌∙◌, arith}
 use Rattle.fa_tree.specs.parts.PageParts.{page_of}
 use Rattle.fa_tree.proofs.PageLemmas.{grown_same}
 use Rattle.fa_tree.proofs.ContentsLemmas.{still_stored, now_stored, stored_more}
 use Rattle.fa_tree.proofs.contents.store_each.Goals as goal
-
-pub store-requires-clause-there : goal.store-requires-clause-there
-store-requires-clause-there c near = c.loop-at.invariant.added c.loop-at.at c.loop-at.invariant.from (omega arith) near
 
 pub returns-in_err-store-clause-same : goal.returns-in_err-store-clause-same
 returns-in_err-store-clause-same c place at =
@@ -14,10 +11,8 @@ returns-in_err-store-clause-same c place at =
 pub loop-at-preserved : goal.loop-at-preserved
 loop-at-preserved c =
     let grown = c.store.ensures.grown in
-    let size : length c.store.new.self.near ≡ length c.loop-at.pages.near = c.store.ensures.as_many in
     let one : c.min-count.result ≤ 4096 - c.loop-at.at % 4096 = omega arith in
     record {
-      added = λ i from below near. rw size (c.loop-at.invariant.added i from below near);
       same = λ place at. grown_same _ _ (c.loop-at.at / 4096) grown place at ∙ c.loop-at.invariant.same place at;
       from = omega (arith, c.loop-at.invariant.from);
       stored = stored_more _ c.args.start c.loop-at.at (c.loop-at.at + c.min-count.result)

@@ -1,10 +1,9 @@
 use Rattle.std.proofs.Common.{◌-◌, ◌≤◌}
-use Rattle.fa_tree.specs.parts.PageParts.{page_of, SameBytes, IsStored, AreNear}
+use Rattle.fa_tree.specs.parts.PageParts.{page_of, SameBytes, IsStored}
 use Rattle.fa_tree.proofs.contents.store_each.Given as goal
 
 abbrev pub invariant-loop-at : goal.invariant-loop-at
 invariant-loop-at l = record {
-  added : AreNear l.pages l.start l.end;
   same : SameBytes (page_of l.pages) (page_of l.fn.pages);
   from : l.start ≤ l.at;
   stored : IsStored (page_of l.pages) l.start l.at;

@@ -1,4 +1,4 @@
-use Rattle.std.proofs.Common.{inl, inr, refl, sym, ◌∙◌}
+use Rattle.std.proofs.Common.{length, inl, inr, refl, sym, ◌∙◌}
 use Rattle.std.proofs.lemmas.Bool.{cases_lt}
 use Rattle.fa_tree.specs.parts.PageParts.{PagesShown}
 use Rattle.fa_tree.proofs.PageLemmas.{page_far, near_kept}
@@ -13,7 +13,7 @@ pub returns-clause-kept : goal.returns-clause-kept
 returns-clause-kept c k front =
     let before : PagesShown = record { near = c.self.inside.near.items; far = c.self.inside.far } in
     let now : PagesShown = record { near = c.self.inside.near.items; far = c.cut_from.new.self } in
-    rw (sym c.self.view_is) (elim (cases_lt k 4096) [
+    rw (sym c.self.view_is) (elim (cases_lt k (length c.self.inside.near.items)) [
       | inl near ↦ near_kept now before refl k near
       | inr far ↦ page_far now k far ∙ (c.cut_from.ensures.kept k front ∙ sym (page_far before k far))
     ])
