@@ -14,7 +14,7 @@ VALUES = {
     "mode": (0, 0o644, 0o755, 0o100644, 0o100600, 0o040755, 0o120777, 0o010600, 0o020600, 0o060600, 0o140600),
     "valid": (0, 1, 8, 9, 64, 72), "flags": (0, 1, 2, 4, 8, 0x42, 0x80, 0xC2, 0x200, 0x242, 1 << 16, 1 << 20, 3 << 19),
     "open_flags": (0, 1), "getattr_flags": (0, 1), "size": (0, 1, 3, 24, 32, 4096, 1 << 31, 1 << 40, (1 << 40) + 1),
-    "offset": (0, 1, 2, 4, 1 << 40, (1 << 40) - 1), "off": (0, 1, 2, 3), "nlink": (0, 1, 2, 3), "type": (0, 1, 2, 4, 6, 8, 10, 12),
+    "offset": (0, 1, 2, 4, 64 << 12, 127 << 12, 1 << 40, (1 << 40) - 1), "off": (0, 1, 2, 3), "nlink": (0, 1, 2, 3), "type": (0, 1, 2, 4, 6, 8, 10, 12),
     "nlookup": (0, 1, 2, 3, 1 << 32), "major": (6, 7, 8), "minor": (30, 31, 32), "namelen": (0, 1, 2, 1024, 1025), "count": (0, 1, 2)}
 # Messages that are put in, each line a message, or a request and its answer. Words in braces are picked.
 with open(os.path.join(os.path.dirname(__file__), "said.txt"), encoding="ascii") as opened:

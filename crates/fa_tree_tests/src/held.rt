@@ -16,6 +16,11 @@ use std::process::Abort;
 /// How many bytes the WRITE has, the most that FUSE sends at a time.
 const WRITTEN: u32 = 1 << 20;
 
+/// Where a WRITE begins that the list of a file's pages goes on to, and the place of a byte that it does not go on to.
+const NEAR: u64 = 10 << 12;
+
+const FAR: u64 = 100 << 12;
+
 /// A mark is a request for so many bytes of memory, which nothing else asks for.
 const MARK: usize = 1_000_003;
 
@@ -25,13 +30,13 @@ fn mark(alloc: Global) -> bool {
     bytes.is_ok()
 }
 
-/// CREATE, the message 2, and WRITE of these bytes at an offset, the message 4, each with its answer.
-fn created_and_written(alloc: Global, offset: u64, payload: &[u8]) -> Sample {
+/// CREATE, the message 2, and WRITE of these bytes, so many, at an offset, the message 4, each with its answer.
+fn created_and_written(alloc: Global, offset: u64, payload: &[u8], count: u32) -> Sample {
     let created = with_all(
         begun(alloc, (0, 0)),
         &[Create(2, ROOT, CREAT), Created(2, 2, 1)],
     );
-    created.write(4, 2, 1, offset, payload).written(4, WRITTEN)
+    created.write(4, 2, 1, offset, payload).written(4, count)
 }
 
 /// Whether a call steps between two marks, and again behind them where memory was refused.
@@ -79,7 +84,7 @@ fn copies_again(alloc: Global, tree: &mut Tree, calls: &Calls<'_>) -> bool {
 /// The capture of a CREATE and of a WRITE at an offset.
 fn captured_at(rt: &impl Abort, alloc: Global, offset: u64) -> Vec<u8> {
     let payload = vec![in alloc; 1u8; WRITTEN as usize].expect(rt, "memory");
-    created_and_written(alloc, offset, &payload)
+    created_and_written(alloc, offset, &payload, WRITTEN)
         .capture()
         .expect(rt, "memory")
 }
@@ -93,6 +98,29 @@ fn is_written_at(rt: &impl Abort, alloc: Global, offset: u64) -> bool {
     drop(tree);
     drop(calls);
     is_written
+}
+
+/// The capture of a CREATE, of a WRITE of a byte far behind the beginning of the file, and of a WRITE that begins in front of that byte and
+/// ends behind it, the message 6.
+fn captured_around_a_byte(rt: &impl Abort, alloc: Global) -> Vec<u8> {
+    let payload = vec![in alloc; 1u8; WRITTEN as usize].expect(rt, "memory");
+    created_and_written(alloc, FAR, b"x", 1)
+        .write(6, 2, 1, NEAR, &payload)
+        .written(6, WRITTEN)
+        .capture()
+        .expect(rt, "memory")
+}
+
+/// Whether a WRITE steps, between two marks, that goes over a byte far behind the beginning of the file.
+fn is_written_over_a_byte(rt: &impl Abort, alloc: Global) -> bool {
+    let bytes = captured_around_a_byte(rt, alloc);
+    let calls = calls_in(alloc, &bytes).expect(rt, "good calls, and memory");
+    let mut tree = empty_tree(rt, alloc);
+    let is_there = step(&mut tree, &calls, 2) == 0 && step(&mut tree, &calls, 4) == 0;
+    let is_written = steps_again(alloc, &mut tree, &calls, 6);
+    drop(tree);
+    drop(calls);
+    is_there && is_written
 }
 
 /// Whether a tree with what a WRITE wrote is copied, between two marks.
@@ -149,6 +177,12 @@ fn a_write_between_two_marks(rt: HostRuntime) {
 fn a_far_write_between_two_marks(rt: HostRuntime) {
     let offset = MAX_FILE_BYTES - u64::from(WRITTEN);
     assert!(rt; is_written_at(&rt, rt.alloc(), offset));
+}
+
+/// The same over a page that the list of pages does not reach: it goes on to that page, and those behind it are in the table.
+#[test]
+fn a_write_over_a_far_byte_between_two_marks(rt: HostRuntime) {
+    assert!(rt; is_written_over_a_byte(&rt, rt.alloc()));
 }
 
 #[test]

@@ -5,10 +5,11 @@ use crate::trees::Added::{self, File};
 use crate::trees::tree_of;
 use fa_bodies::ROOT_ID as ROOT;
 use fa_ledger::Calls;
+use fa_sample::Sample;
 use fa_tests::messages::begun;
 use fa_tests::paired::calls_in;
 use fa_tests::sent::Sent::{self, *};
-use fa_tests::sent::with_all;
+use fa_tests::sent::{CREAT, with_all};
 use fa_tree::{InUse, Kind, Tree};
 use std::alloc::{AllocError, Global};
 use std::collections::BTreeMap;
@@ -125,4 +126,41 @@ fn orders_that_leave_the_same_tree(rt: HostRuntime) {
     let copied = is_copied(&rt, rt.alloc(), &calls);
     drop(calls);
     assert!(rt; copied == (true, false));
+}
+
+// ---- bytes that lie otherwise in memory
+
+/// So far behind the beginning of a file the list of its pages still goes on.
+const AHEAD: u64 = 64 << 12;
+
+/// So far behind the first byte a second one is, and behind the beginning too far.
+const APART: u64 = 63 << 12;
+
+/// The directory is looked up (the message 2), a file is made in it (4), and two bytes are written behind its beginning (6 and 8).
+fn two_bytes(alloc: Global) -> Sample {
+    with_all(
+        begun(alloc, (0, 0)),
+        &[
+            Lookup(2, ROOT),
+            Directory(2, 2),
+            Create(4, 2, CREAT),
+            Created(4, 3, 1),
+        ],
+    )
+    .write(6, 3, 1, AHEAD, b"x")
+    .written(6, 1)
+    .write(8, 3, 1, AHEAD + APART, b"y")
+    .written(8, 1)
+}
+
+/// Where the second byte is written first, its page is in no list, and it stays where it is.
+#[test]
+fn bytes_that_lie_otherwise(rt: HostRuntime) {
+    let bytes = two_bytes(rt.alloc()).capture().expect(&rt, "memory");
+    let calls = calls_in(rt.alloc(), &bytes).expect(&rt, "calls");
+    let there = are_same(&rt, rt.alloc(), &calls, &[2, 4, 6, 8], &[2, 4, 8, 6]);
+    let back = are_same(&rt, rt.alloc(), &calls, &[2, 4, 8, 6], &[2, 4, 6, 8]);
+    drop(calls);
+    assert!(rt; there == (true, [(true, true); 3]));
+    assert!(rt; back == (true, [(true, true); 3]));
 }

@@ -215,7 +215,7 @@ fn size_told(alloc: Global, tree: &mut Tree, size: usize) -> Option<(u16, bool)>
     Some((code, tree.find(root, b"f").is_some()))
 }
 
-/// A file of as many bytes as are near the beginning of one, and one of one byte more. Of more bytes than a file may have no memory
+/// A file of as many bytes as a list of pages holds, and one of one byte more. Of more bytes than a file may have no memory
 /// is at hand.
 #[test]
 fn how_many_bytes_may_be_added(rt: HostRuntime) {
