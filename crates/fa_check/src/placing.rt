@@ -1,9 +1,10 @@
 //! How far an order is placed.
 
-ghost use Rattle.std.specs.Prelude.{◌≡◌, ◌+◌, ◌++◌, ◌∷◌, [], ℕ, List, Some, set, slice_get, true, IfSome, IfNone, IfOk, IfErr, OnOk, OnErr};
+ghost use Rattle.std.specs.Prelude.{◌≡◌, ◌↔◌, ◌+◌, ◌<◌, ◌++◌, ◌∷◌, [], ℕ, List, Some, length, set, slice_get, true, IsTrue, IfSome, IfNone, IfOk, IfErr, OnOk, OnErr};
 ghost use Rattle.fa_capture.specs.Checks.{AllHold, FirstFailure};
 ghost use Rattle.fa_capture.specs.Message.{Message};
 ghost use Rattle.fa_ledger.specs.Calls.{PlainCall};
+ghost use Rattle.fa_ledger.specs.Choices.{Allows};
 ghost use Rattle.fa_ledger.specs.declared.calls.Calls.{Calls as TheCalls};
 ghost use Rattle.fa_tree.specs.State.{TreeState};
 ghost use Rattle.fa_order.specs.declared.entry.Entry.{Entry as TheEntry};
@@ -77,7 +78,7 @@ impl Placing {
         if self.waiting.front < entry.at as usize {
             return Err(codes::EARLIER_NOT_PLACED);
         }
-        if !calls.list.call(place).allows(entry.wrote) {
+        if !allows(calls, place, entry.wrote) {
             return Err(codes::CHOICE_NOT_ALLOWED);
         }
         Ok(place)
@@ -198,5 +199,18 @@ impl Placing {
                 left: calls.list.len() as u32 - self.count,
             },
         }
+    }
+}
+
+/// Whether an order may name the call at this place with this count of bytes written, or without one, as
+/// [`Call::allows`](fa_ledger::Call::allows) says. Of a call with an answer it looks at nothing else.
+#[inline(always)]
+fn allows(calls: &Calls<'_>, place: usize, wrote: Option<u32>) -> bool
+    requires { place < length calls.now.list }
+    ensures { (call : PlainCall) → slice_get calls.now.list place ≡ Some call → IsTrue result ↔ Allows call wrote }
+{
+    match calls.list.call(place).answer {
+        Some(_) => wrote.is_none(),
+        None => calls.list.call(place).allows(wrote),
     }
 }
