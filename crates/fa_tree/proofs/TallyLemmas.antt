@@ -1,6 +1,6 @@
 -- What a tally tells once a name was noted, and once entries were.
 use Rattle.std.proofs.Common.{◌≡◌, ℕ, zero, suc, ◌+◌, ◌<◌, ◌⊎◌, Bool, true, false, cond, List, [], ◌∷◌, ◌++◌, length, Option, None, Some, Result, Ok, Err, refl, sym, ap, subst, ◌∙◌, inl, inr, arith}
-use Rattle.std.specs.Prelude.{slice_get, OnErr}
+use Rattle.std.specs.Prelude.{slice_get, option_map, OnErr}
 use Rattle.std.specs.Bool.{MatchBool}
 use Rattle.std.specs.Cmp.Lexicographic.{bytes_decides}
 use Rattle.std.specs.List.{AllWithin, HoldsAt}
@@ -37,6 +37,21 @@ pub wrote_each : (old new : Tally) (name : List ℕ) (w : Option Bool)
     → ((listed : Listed) → tally_of new listed.name.now ≡ cond (bytes_eq name listed.name.now) w (tally_of old listed.name.now))
     → (other : List ℕ) → tally_of new other ≡ cond (bytes_eq name other) w (tally_of old other)
 wrote_each old new name w wrote other = wrote (record { name = record { ref_ptr = (0, 0); now = other } })
+
+-- a name for which something was written is marked
+pub marked_over : (old between new : Tally) (name : List ℕ)
+    → ((other : List ℕ) → tally_of between other ≡ cond (bytes_eq name other) (Some false) (tally_of old other))
+    → ((other : List ℕ) → tally_of new other ≡ cond (bytes_eq name other) (option_map (λ more. true) (tally_of between name)) (tally_of between other))
+    → (other : List ℕ) → tally_of new other ≡ cond (bytes_eq name other) (Some true) (tally_of old other)
+marked_over old between new name wrote marked other =
+    marked other ∙ ap (λ w. cond (bytes_eq name other) w (tally_of between other)) own ∙ by (bytes_eq name other) (wrote other)
+  where
+    own : option_map {T = Bool} {U = Bool} (λ more. true) (tally_of between name) ≡ Some true
+    own = ap (λ (o : Option Bool). option_map {T = Bool} {U = Bool} (λ more. true) o) (wrote name ∙ ap (λ b. cond b (Some false) (tally_of old name)) ((bytes_decides name name).1 refl))
+
+    by : (b : Bool) → tally_of between other ≡ cond b (Some false) (tally_of old other) → cond b (Some true) (tally_of between other) ≡ cond b (Some true) (tally_of old other)
+    by true is = refl
+    by false is = is
 
 -- what was listed once, and is listed again, was listed more than once
 pub once_again : (n : ℕ) (more : Bool) → tallied n ≡ Some more → 1 < n + 1

@@ -1,6 +1,6 @@
 //! How often names were listed.
 
-ghost use Rattle.std.specs.Prelude.{◌≡◌, ◌↔◌, ◌≤◌, ◌<◌, ◌+◌, ◌^◌, cond, ℕ, true, false, List, length, None, is_some, IsTrue, OnOk, OnErr};
+ghost use Rattle.std.specs.Prelude.{◌≡◌, ◌↔◌, ◌≤◌, ◌<◌, ◌+◌, ◌^◌, cond, ℕ, true, false, List, length, None, is_some, option_map, IsTrue, OnOk, OnErr};
 ghost use Rattle.std.specs.Bool.{MatchBool};
 ghost use Rattle.std.specs.Fn.{FnReturnsAt};
 ghost use Rattle.std.specs.Str.{bytes_eq};
@@ -78,18 +78,26 @@ impl<'a> Tally<'a> {
         ensures noted { OnOk result ((times : List ℕ → ℕ) → Tallies self.old times → Tallies self.new (λ other. times other + cond (bytes_eq name.now other) 1 0)) }
         ensures unchanged { OnErr result ((times : List ℕ → ℕ) → Tallies self.old times → Tallies self.new times) }
     {
-        match self.names.get_mut(&Listed { name }) {
+        match self.names.insert(Listed { name }, false)? {
+            None => Ok(()),
             Some(more) => {
-                if !*more {
+                if !more {
                     self.again.push(Listed { name })?;
-                    *more = true;
                 }
+                self.mark(name);
                 Ok(())
             }
-            None => {
-                self.names.insert(Listed { name }, false)?;
-                Ok(())
-            }
+        }
+    }
+
+    /// Marks a name as listed more than once, if it was listed. Takes no memory, in expected time of the bytes of the name.
+    fn mark(&mut self, name: &'a [u8])
+        ensures marked { (other : List ℕ) → tally_of self.new other ≡ cond (bytes_eq name.now other) (option_map (λ more. true) (tally_of self.old name.now)) (tally_of self.old other) }
+        ensures again { self.new.again.items ≡ self.old.again.items }
+    {
+        match self.names.get_mut(&Listed { name }) {
+            Some(more) => *more = true,
+            None => {}
         }
     }
 
