@@ -1,6 +1,6 @@
 -- What a tree tells of itself: the least place of a file, the bytes of a file, and the rule of a call.
-use Rattle.std.proofs.Common.{◌≡◌, ℕ, ℤ, ◌+◌, ◌<◌, ◌≤◌, ◌/◌, ◌%◌, Bool, true, false, List, length, take, get_or, slice_get, Option, None, Some, inl, inr, refl, sym, ap, subst, ◌∙◌, arith, zero-add}
-use Rattle.std.specs.Prelude.{◌≢◌, ◌↔◌, ◌⊎◌, Vec, is_some, IsTrue, IfSome, IfNone}
+use Rattle.std.proofs.Common.{◌≡◌, ℕ, ℤ, ◌+◌, ◌<◌, ◌≤◌, ◌/◌, ◌%◌, Bool, false, List, length, take, get_or, slice_get, Option, None, Some, inl, inr, refl, sym, ap, subst, ◌∙◌, arith, zero-add}
+use Rattle.std.specs.Prelude.{◌≢◌, ◌↔◌, ◌⊎◌, Vec, IsTrue, IfSome, IfNone}
 use Rattle.std.specs.Borrow.{Bor}
 use Rattle.std.specs.Option.{option_map, option_and_then}
 use Rattle.std.specs.Ordering.{is_gt, ordering_reverse}
@@ -29,7 +29,7 @@ use Rattle.fa_tree.specs.Operations.{rule}
 use Rattle.fa_tree.specs.Telling.{OfRule}
 use Rattle.fa_tree.specs.parts.BirthParts.{NoneStayedBehind}
 use Rattle.fa_tree.specs.parts.MemberParts.{members_of, AreMembers}
-use Rattle.fa_tree.specs.parts.NameViews.{has_stayed, stayed_shown}
+use Rattle.fa_tree.specs.parts.NameViews.{stayed_shown}
 use Rattle.fa_tree.specs.parts.PageParts.{page_at, byte_at, bytes_of}
 use Rattle.fa_tree.specs.parts.PlaceLaws.{place_cmp_total, same_place}
 use Rattle.fa_tree.specs.parts.SlotParts.{place_of, is_at, slot_at, file_in, names_shown, IsBefore}

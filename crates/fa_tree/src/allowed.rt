@@ -9,7 +9,7 @@ ghost use Rattle.fa_tree.specs.Resolved.{resolved};
 ghost use Rattle.fa_tree.specs.Rules.{HasCause};
 ghost use Rattle.fa_tree.specs.Steps.{OfCallAt};
 ghost use Rattle.fa_tree.specs.Telling.{OfRule};
-ghost use Rattle.fa_tree.specs.parts.NamedParts.{named_shown};
+ghost use Rattle.fa_tree.specs.parts.NamedParts.{named_shown, HasItsFile};
 
 use crate::named::Named;
 use crate::tree::Tree;
@@ -18,6 +18,7 @@ use fa_ledger::{Action, Call, Calls, List, Operation};
 impl Tree {
     /// Whether a success of an action has what it needs of the files that it names.
     fn may_be_done(&self, named: &Named, action: &Action<'_>) -> bool
+        requires { HasItsFile self.now.store named.now (action_shown action.now) }
         ensures { IsTrue result ↔ (action_rule self.now.store (named_shown named.now None) (action_shown action.now)).needs }
     {
         self.stored.may_be_done(named, action)
@@ -71,7 +72,7 @@ impl Tree {
         ensures known { IfSome result (λ allowed. OfRule self.now (call_shown call.now) (λ rule. IsTrue allowed ↔ rule.needs)) }
         ensures unknown { IfNone result (resolved self.now (call_shown call.now) ≡ None) }
     {
-        match self.named(call) {
+        match self.named(call, action) {
             Some(named) => Some(self.may_be_done(&named, action)),
             None => None,
         }
@@ -97,7 +98,7 @@ impl Tree {
         ensures known { IfSome result (λ gives. OfRule self.now (call_shown call.now) (λ rule. IsTrue gives ↔ HasCause rule error)) }
         ensures unknown { IfNone result (resolved self.now (call_shown call.now) ≡ None) }
     {
-        match self.named(call) {
+        match self.named(call, action) {
             Some(named) => Some(self.has_cause(&named, action, error)),
             None => None,
         }

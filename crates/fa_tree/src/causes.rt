@@ -1,6 +1,6 @@
 //! Whether an error that a tree determines has its cause.
 
-ghost use Rattle.std.specs.Prelude.{◌↔◌, ◌⊎◌, Option, IsTrue};
+ghost use Rattle.std.specs.Prelude.{◌≡◌, ◌↔◌, ◌⊎◌, Option, IsTrue};
 ghost use Rattle.fa_ledger.specs.Operations.{action_shown};
 ghost use Rattle.fa_tree.specs.State.{OpenDirectory, IsFree, IsDirectory, IsLinked, IsThere};
 ghost use Rattle.fa_tree.specs.Resolved.{OfOther};
@@ -8,7 +8,7 @@ ghost use Rattle.fa_tree.specs.Causes.{IsDirectoryThere, IsFullDirectoryThere, I
 ghost use Rattle.fa_tree.specs.Opening.{directory_rule};
 ghost use Rattle.fa_tree.specs.Operations.{action_rule};
 ghost use Rattle.fa_tree.specs.Rules.{HasCause};
-ghost use Rattle.fa_tree.specs.parts.NamedParts.{named_shown};
+ghost use Rattle.fa_tree.specs.parts.NamedParts.{named_shown, HasItsFile};
 
 use crate::id::FileId;
 use crate::named::Named;
@@ -87,18 +87,16 @@ impl Stored {
         self.is_unlinked(named.node) || self.is_other_unlinked(named.other)
     }
 
-    /// Whether ENOENT has its cause.
+    /// Whether ENOENT has its cause, by the file of the name.
     fn is_missing(&self, named: &Named, action: &Action<'_>) -> bool
+        requires { HasItsFile self.now.store named.now (action_shown action.now) }
         ensures { (handle : Option OpenDirectory) → IsTrue result ↔ (action_rule self.now.store (named_shown named.now handle) (action_shown action.now)).missing }
     {
         let node = named.node;
+        let file = named.file;
         match action {
-            Action::Lookup { name, .. }
-            | Action::Unlink { name, .. }
-            | Action::Rmdir { name, .. } => self.is_absent(node, name),
-            Action::Rename { old_name, .. } => {
-                self.is_absent(node, old_name) || self.is_any_unlinked(named)
-            }
+            Action::Lookup { .. } | Action::Unlink { .. } | Action::Rmdir { .. } => file.is_none(),
+            Action::Rename { .. } => file.is_none() || self.is_any_unlinked(named),
             Action::Rename2 {
                 flags,
                 old_name,
@@ -130,17 +128,18 @@ impl Stored {
         }
     }
 
-    /// Whether EEXIST has its cause.
+    /// Whether EEXIST has its cause, by the file of the name.
     fn is_taken(&self, named: &Named, action: &Action<'_>) -> bool
+        requires { HasItsFile self.now.store named.now (action_shown action.now) }
         ensures { (handle : Option OpenDirectory) → IsTrue result ↔ (action_rule self.now.store (named_shown named.now handle) (action_shown action.now)).taken }
     {
         let node = named.node;
         match action {
-            Action::Symlink { name, .. }
-            | Action::Mknod { name, .. }
-            | Action::Mkdir { name, .. }
-            | Action::Create { name, .. }
-            | Action::Link { new_name: name, .. } => self.is_there(node, name),
+            Action::Symlink { .. }
+            | Action::Mknod { .. }
+            | Action::Mkdir { .. }
+            | Action::Create { .. }
+            | Action::Link { .. } => named.file.is_some(),
             Action::Rmdir { name, .. } => self.is_full_directory_there(node, name),
             Action::Rename { new_name, .. } => { self.is_full_directory_in(named.other, new_name) }
             Action::Rename2 {
@@ -273,8 +272,9 @@ impl Stored {
         }
     }
 
-    /// Whether an error of an action has its cause, or is one that may come at any time.
+    /// Whether an error of an action has its cause, by the file of its name, or is one that may come at any time.
     pub(crate) fn has_cause(&self, named: &Named, action: &Action<'_>, error: i32) -> bool
+        requires { HasItsFile self.now.store named.now (action_shown action.now) }
         ensures { (handle : Option OpenDirectory) → IsTrue result ↔ HasCause (action_rule self.now.store (named_shown named.now handle) (action_shown action.now)) error }
     {
         match error {

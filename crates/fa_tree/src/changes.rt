@@ -15,7 +15,7 @@ ghost use Rattle.fa_tree.specs.Making.{MayBeMade, HasMadeNone, emptied, new_regu
 ghost use Rattle.fa_tree.specs.parts.FileParts.{with_bytes};
 ghost use Rattle.fa_tree.specs.Operations.{action_rule};
 ghost use Rattle.fa_tree.specs.Refusals.{MayGrow};
-ghost use Rattle.fa_tree.specs.parts.NamedParts.{named_shown};
+ghost use Rattle.fa_tree.specs.parts.NamedParts.{named_shown, HasItsFile};
 ghost use Rattle.fa_tree.specs.parts.StoredParts.{mode_set, stored_created, stored_changed, stored_edited, stored_with, stored_opened, stored_noted};
 
 use crate::file::permission_bits;
@@ -136,21 +136,23 @@ impl Stored {
         self.names.open(asked, directory)
     }
 
-    /// Makes a regular file under a name, or opens the file that has it and empties that where it is to be emptied.
+    /// Makes a regular file under a name, or opens the file that was found and empties that where it is to be emptied.
     fn create(
         &mut self,
         asked: u32,
         directory: FileId,
         name: &[u8],
+        found: Option<FileId>,
         mode: Mode,
         umask: u32,
         truncates: bool,
     ) -> Result<(), AllocError>
-        requires { get self.old.store.names (directory, name.now) ≡ None → MayBeMade self.old.store directory name.now × HasMadeNone self.old.store asked }
+        requires found { found ≡ get self.old.store.names (directory, name.now) }
+        requires free { get self.old.store.names (directory, name.now) ≡ None → MayBeMade self.old.store directory name.now × HasMadeNone self.old.store asked }
         ensures created { OnOk result (self.new ≡ stored_created asked directory name.now truncates (new_regular mode umask) self.old) }
         ensures unchanged { OnErr result (self.new ≡ self.old) }
     {
-        match self.find(directory, name) {
+        match found {
             Some(file) => self.empty(file, truncates),
             None => {
                 let file = new_regular(self.alloc, mode, umask);
@@ -160,7 +162,8 @@ impl Stored {
         Ok(())
     }
 
-    /// Makes the change of an action that may be done: whether it empties a file that is there, and how many bytes it wrote.
+    /// Makes the change of an action that may be done, by the file of its name: whether it empties a file that is there, and how many
+    /// bytes it wrote.
     #[tactic(auto, using(crate::proofs::ChangedLemmas::still_changed))]
     pub(crate) fn change(
         &mut self,
@@ -169,7 +172,8 @@ impl Stored {
         truncates: bool,
         count: u32,
     ) -> Result<(), AllocError>
-        requires { (handle : Option OpenDirectory) → (action_rule self.old.store (named_shown named.now handle) (action_shown action.now)).needs }
+        requires asked { HasItsFile self.old.store named.now (action_shown action.now) }
+        requires needs { (handle : Option OpenDirectory) → (action_rule self.old.store (named_shown named.now handle) (action_shown action.now)).needs }
         ensures changed { OnOk result ((handle : Option OpenDirectory) → self.new ≡ stored_changed (named_shown named.now handle) truncates (action_shown action.now) count self.old) }
         ensures memory { OnErr result (MayGrow (action_shown action.now)) }
         ensures unchanged { OnErr result (self.new ≡ self.old) }
@@ -206,7 +210,15 @@ impl Stored {
                 umask,
                 name,
                 ..
-            } => self.create(named.asked, node, name, *mode, *umask, truncates)?,
+            } => self.create(
+                named.asked,
+                node,
+                name,
+                named.file,
+                *mode,
+                *umask,
+                truncates,
+            )?,
             Action::Unlink { name, .. } => self.remove(node, name),
             Action::Rmdir { name, .. } => self.remove_directory(node, name),
             Action::Rename {
@@ -248,7 +260,8 @@ impl Stored {
         Ok(())
     }
 
-    /// Makes the change of an action that may be done, and notes the directory that its success opens, if it opens one anew.
+    /// Makes the change of an action that may be done, by the file of its name, and notes the directory that its success opens, if it
+    /// opens one anew.
     pub(crate) fn leave(
         &mut self,
         named: &Named,
@@ -258,7 +271,8 @@ impl Stored {
         asked: u32,
         opens: bool,
     ) -> Result<(), AllocError>
-        requires { (handle : Option OpenDirectory) → (action_rule self.old.store (named_shown named.now handle) (action_shown action.now)).needs }
+        requires asked { HasItsFile self.old.store named.now (action_shown action.now) }
+        requires needs { (handle : Option OpenDirectory) → (action_rule self.old.store (named_shown named.now handle) (action_shown action.now)).needs }
         ensures left { OnOk result ((handle : Option OpenDirectory) → self.new ≡ stored_noted (named_shown named.now handle) truncates (action_shown action.now) asked opens count self.old) }
         ensures memory { OnErr result (MayGrow (action_shown action.now)) }
         ensures unchanged { OnErr result (self.new ≡ self.old) }

@@ -1,16 +1,17 @@
 //! What an answer says of the files that its action leaves.
 
-ghost use Rattle.std.specs.Prelude.{◌≡◌, ◌↔◌, ℕ, Bool, Option, false, None, IsTrue, IfSome, IfNone};
+ghost use Rattle.std.specs.Prelude.{◌≡◌, ◌↔◌, ℕ, List, Bool, Option, false, None, IsTrue, IfSome, IfNone};
 ghost use Rattle.std.specs.FinMap as map;
 ghost use Rattle.fa_ledger.specs.Operations.{action_shown};
 ghost use Rattle.fa_ledger.specs.Operations.PlainOperation.{Acts};
+ghost use Rattle.fa_tree.specs.declared.id.FileId.{FileId};
 ghost use Rattle.fa_tree.specs.State.{Store, OpenDirectory};
 ghost use Rattle.fa_tree.specs.Contents.{IsReadFrom};
 ghost use Rattle.fa_tree.specs.Lookups.{IsFoundAs, IsTargetOf, bits_set};
 ghost use Rattle.fa_tree.specs.Making.{node_kind, new_bits};
 ghost use Rattle.fa_tree.specs.Operations.{action_rule, action_said, changed};
 ghost use Rattle.fa_tree.specs.parts.FactParts.{size_set, AreOpenedFacts, AreFactsOf, AreFactsIfAny, AreFurtherFacts, AreSetFacts, AreCreatedFacts, IsFoundOrMade, FitIfAny, AreFilesGiven};
-ghost use Rattle.fa_tree.specs.parts.NamedParts.{named_shown};
+ghost use Rattle.fa_tree.specs.parts.NamedParts.{named_shown, file_asked, HasItsFile};
 
 use crate::facts::Facts;
 use crate::file::permission_bits;
@@ -44,6 +45,26 @@ fn size_set(setattr: &SetattrIn, size: usize) -> usize
     }
 }
 
+/// A file that was found, or that which this request makes where none was.
+fn found_or_made(asked: u32, found: Option<FileId>) -> FileId
+    ensures { IsFoundOrMade asked found result }
+{
+    match found {
+        Some(file) => file,
+        None => FileId::Made(asked),
+    }
+}
+
+/// Whether a file was found, or none, as a node id says.
+fn is_found_as(found: Option<FileId>, nodeid: u64) -> bool
+    ensures { (s : Store) (directory : FileId) (name : List ℕ) → found ≡ map.get s.names (directory, name) → IsTrue result ↔ IsFoundAs s directory name nodeid }
+{
+    match found {
+        Some(_) => nodeid != 0,
+        None => nodeid == 0,
+    }
+}
+
 /// Whether attributes fit what they are judged by.
 fn fit(facts: Option<Facts>, attr: &Attributes) -> bool
     ensures { IsTrue result ↔ FitIfAny facts attr.now }
@@ -73,11 +94,33 @@ impl Stored {
         }
     }
 
-    /// What attributes of the file of a name are judged by.
-    fn facts_found(&self, directory: FileId, name: &[u8]) -> Option<Facts>
-        ensures { AreFactsIfAny self.now.store (map.get self.now.store.names (directory, name.now)) result }
+    /// The file of the name that an action gives in the directory of its node, of RENAME and RENAME2 of the old name, if it gives one
+    /// and the name is there. All that is asked of the name is asked of this file.
+    ///
+    /// Takes no memory, in expected constant time but for reading the name.
+    pub(crate) fn file_asked(&self, node: FileId, action: &Action<'_>) -> Option<FileId>
+        ensures { result ≡ file_asked self.now.store node (action_shown action.now) }
     {
-        match self.find(directory, name) {
+        match action {
+            Action::Lookup { name, .. } => self.find(node, name),
+            Action::Symlink { name, .. } => self.find(node, name),
+            Action::Mknod { name, .. } => self.find(node, name),
+            Action::Mkdir { name, .. } => self.find(node, name),
+            Action::Unlink { name, .. } => self.find(node, name),
+            Action::Rmdir { name, .. } => self.find(node, name),
+            Action::Rename { old_name, .. } => self.find(node, old_name),
+            Action::Rename2 { old_name, .. } => self.find(node, old_name),
+            Action::Link { new_name, .. } => self.find(node, new_name),
+            Action::Create { name, .. } => self.find(node, name),
+            _ => None,
+        }
+    }
+
+    /// What attributes of a file that was found are judged by.
+    fn facts_found(&self, found: Option<FileId>) -> Option<Facts>
+        ensures { AreFactsIfAny self.now.store found result }
+    {
+        match found {
             Some(file) => self.facts(file),
             None => None,
         }
@@ -126,43 +169,27 @@ impl Stored {
         }
     }
 
-    /// What attributes of the file are judged by that CREATE makes or finds.
-    fn facts_created(
-        &self,
-        directory: FileId,
-        name: &[u8],
-        bits: u32,
-        truncates: bool,
-    ) -> Option<Facts>
-        ensures { AreCreatedFacts self.now.store truncates (map.get self.now.store.names (directory, name.now)) bits result }
+    /// What attributes of the file are judged by that CREATE makes or found.
+    fn facts_created(&self, found: Option<FileId>, bits: u32, truncates: bool) -> Option<Facts>
+        ensures { AreCreatedFacts self.now.store truncates found bits result }
     {
-        match self.find(directory, name) {
+        match found {
             Some(file) => self.facts_opened(file, truncates),
             None => Some(Facts::new(Kind::Regular, bits, 0)),
         }
     }
 
-    /// The file of a name, or that which this request makes where the name is not there.
-    fn found_or_made(&self, asked: u32, directory: FileId, name: &[u8]) -> FileId
-        ensures { IsFoundOrMade asked (map.get self.now.store.names (directory, name.now)) result }
-    {
-        match self.find(directory, name) {
-            Some(file) => file,
-            None => FileId::Made(asked),
-        }
-    }
-
     /// The file for the node that an answer gives, if it gives one: that of the name of an entry, after the action.
     pub(crate) fn file_given(&self, named: &Named, action: &Action<'_>) -> Option<FileId>
+        requires { HasItsFile self.now.store named.now (action_shown action.now) }
         ensures { (handle : Option OpenDirectory) (truncates direct : Bool) (count : ℕ) → (action_rule self.now.store (named_shown named.now handle) (action_shown action.now)).needs
             → AreFilesGiven (action_said self.now.store (changed self.now.store (named_shown named.now handle) truncates (Acts (action_shown action.now)) count) (named_shown named.now handle) direct (action_shown action.now)).files result }
     {
-        let node = named.node;
         match action {
             Action::Lookup {
-                name,
                 outcome: Outcome::Succeeds(_),
-            } => self.find(node, name),
+                ..
+            } => named.file,
             Action::Symlink {
                 outcome: Outcome::Succeeds(_),
                 ..
@@ -180,39 +207,30 @@ impl Stored {
                 ..
             } => named.other,
             Action::Create {
-                name,
                 outcome: Outcome::Succeeds(_),
                 ..
-            } => Some(self.found_or_made(named.asked, node, name)),
+            } => Some(found_or_made(named.asked, named.file)),
             _ => None,
-        }
-    }
-
-    /// Whether a name is there, or not, as a node id says.
-    fn is_found_as(&self, directory: FileId, name: &[u8], nodeid: u64) -> bool
-        ensures { IsTrue result ↔ IsFoundAs self.now.store directory name.now nodeid }
-    {
-        match self.find(directory, name) {
-            Some(_) => nodeid != 0,
-            None => nodeid == 0,
         }
     }
 
     /// Whether an answer finds what it says.
     fn finds_as_said(&self, named: &Named, action: &Action<'_>) -> bool
+        requires { HasItsFile self.now.store named.now (action_shown action.now) }
         ensures { (handle : Option OpenDirectory) (after : Store) (direct : Bool) → IsTrue result ↔ (action_said self.now.store after (named_shown named.now handle) direct (action_shown action.now)).found }
     {
         match action {
             Action::Lookup {
-                name,
                 outcome: Outcome::Succeeds(entry),
-            } => self.is_found_as(named.node, name, entry.nodeid),
+                ..
+            } => is_found_as(named.file, entry.nodeid),
             _ => true,
         }
     }
 
     /// Whether an answer may be a success of the action, and finds what it says.
     pub(crate) fn may_succeed(&self, named: &Named, action: &Action<'_>) -> bool
+        requires { HasItsFile self.now.store named.now (action_shown action.now) }
         ensures { (handle : Option OpenDirectory) (after : Store) (direct : Bool) → IsTrue result ↔ ((action_rule self.now.store (named_shown named.now handle) (action_shown action.now)).needs × (action_said self.now.store after (named_shown named.now handle) direct (action_shown action.now)).found) }
     {
         self.may_be_done(named, action) && self.finds_as_said(named, action)
@@ -220,6 +238,7 @@ impl Stored {
 
     /// Whether the attributes in an answer fit, after the action.
     pub(crate) fn attributes_fit(&self, named: &Named, action: &Action<'_>, truncates: bool) -> bool
+        requires { HasItsFile self.now.store named.now (action_shown action.now) }
         ensures { (handle : Option OpenDirectory) (direct : Bool) (count : ℕ) → (action_rule self.now.store (named_shown named.now handle) (action_shown action.now)).needs
             → IsTrue result ↔ (action_said self.now.store (changed self.now.store (named_shown named.now handle) truncates (Acts (action_shown action.now)) count) (named_shown named.now handle) direct (action_shown action.now)).attributes }
     {
@@ -227,9 +246,9 @@ impl Stored {
         let node = named.node;
         match action {
             Action::Lookup {
-                name,
                 outcome: Outcome::Succeeds(entry),
-            } => entry.nodeid == 0 || fit(self.facts_found(node, name), &entry.attr),
+                ..
+            } => entry.nodeid == 0 || fit(self.facts_found(named.file), &entry.attr),
             Action::Getattr {
                 outcome: Outcome::Succeeds(out),
             } => fit(self.facts(node), &out.attr),
@@ -270,11 +289,10 @@ impl Stored {
             Action::Create {
                 mode,
                 umask,
-                name,
                 outcome: Outcome::Succeeds((entry, _)),
                 ..
             } => {
-                let facts = self.facts_created(node, name, new_bits(*mode, *umask), truncates);
+                let facts = self.facts_created(named.file, new_bits(*mode, *umask), truncates);
                 fit(facts, &entry.attr)
             }
             _ => true,

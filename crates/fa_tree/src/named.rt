@@ -12,6 +12,9 @@ pub(crate) struct Named {
     pub node: FileId,
     /// The new directory of a RENAME or RENAME2, and the file of a LINK.
     pub other: Option<FileId>,
+    /// The file of the name that its action gives in the directory of the node, of RENAME and RENAME2 of the old one, if the action gives
+    /// one and it is there.
+    pub file: Option<FileId>,
 }
 
 /// The files that a call names that lists, and the directory that it lists, which is open.

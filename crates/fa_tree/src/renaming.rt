@@ -2,6 +2,7 @@
 
 ghost use Rattle.std.specs.Prelude.{◌≡◌, ◌≢◌, ◌↔◌, ℕ, List, Option, Some, IsTrue, OnOk, OnErr};
 ghost use Rattle.fa_bodies.specs.declared.rename_flags.RenameFlags.TheVariants.{Exchange};
+ghost use Rattle.std.specs.FinMap.{get};
 ghost use Rattle.fa_tree.specs.State.{IsDirectory, IsFree, IsThere};
 ghost use Rattle.fa_tree.specs.Resolved.{OfOther};
 ghost use Rattle.fa_tree.specs.Renaming.{MayBeExchanged, exchange_edits, rename2_rule};
@@ -14,20 +15,20 @@ use fa_bodies::RenameFlags;
 use std::alloc::AllocError;
 
 impl Stored {
-    /// Whether two names may get each other's file.
+    /// Whether two names may get each other's file, by that of the old name.
     fn may_be_exchanged(
         &self,
         old_directory: FileId,
-        old_name: &[u8],
+        found: Option<FileId>,
         new_directory: FileId,
         new_name: &[u8],
     ) -> bool
-        ensures { IsTrue result ↔ MayBeExchanged self.now.store old_directory old_name.now new_directory new_name.now }
+        ensures { (old_name : List ℕ) → found ≡ get self.now.store.names (old_directory, old_name) → IsTrue result ↔ MayBeExchanged self.now.store old_directory old_name new_directory new_name.now }
     {
         if !self.is_directory(old_directory) || !self.is_directory(new_directory) {
             return false;
         }
-        match self.find(old_directory, old_name) {
+        match found {
             None => false,
             Some(file) => match self.find(new_directory, new_name) {
                 None => false,
@@ -39,28 +40,22 @@ impl Stored {
         }
     }
 
-    /// Whether RENAME2 may succeed.
-    pub(crate) fn may_be_renamed2(
-        &self,
-        flags: RenameFlags,
-        named: &Named,
-        old_name: &[u8],
-        new_name: &[u8],
-    ) -> bool
-        ensures { IsTrue result ↔ (rename2_rule self.now.store named.now.node old_name.now flags named.now.other new_name.now).needs }
+    /// Whether RENAME2 may succeed, by the file of the old name.
+    pub(crate) fn may_be_renamed2(&self, flags: RenameFlags, named: &Named, new_name: &[u8]) -> bool
+        ensures { (old_name : List ℕ) → named.now.file ≡ get self.now.store.names (named.now.node, old_name) → IsTrue result ↔ (rename2_rule self.now.store named.now.node old_name flags named.now.other new_name.now).needs }
     {
         let node = named.node;
         match named.other {
             None => false,
             Some(directory) => match flags {
-                RenameFlags::Replace => self.may_be_renamed(node, old_name, directory, new_name),
+                RenameFlags::Replace => self.may_be_renamed(node, named.file, directory, new_name),
                 RenameFlags::NoReplace => {
                     self.is_absent(directory, new_name)
-                        && self.may_be_renamed(node, old_name, directory, new_name)
+                        && self.may_be_renamed(node, named.file, directory, new_name)
                 }
-                RenameFlags::Exchange => {
-                    self.may_be_exchanged(node, old_name, directory, new_name)
-                }
+                RenameFlags::Exchange => self.may_be_exchanged(
+                    node, named.file, directory, new_name,
+                ),
             },
         }
     }

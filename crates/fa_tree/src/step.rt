@@ -17,7 +17,7 @@ ghost use Rattle.fa_tree.specs.Bindings.{AreBound};
 ghost use Rattle.fa_tree.specs.Operations.{action_rule, action_said, count_written, said};
 ghost use Rattle.fa_tree.specs.Steps.{OfCallAt, names_given, opens_anew, setting, given_in, operation_checks, step_checks, tree_done, tree_after, Steps};
 ghost use Rattle.fa_tree.specs.Refusals.{DoneAnd, MayGrow, TellsOf};
-ghost use Rattle.fa_tree.specs.parts.NamedParts.{named_shown};
+ghost use Rattle.fa_tree.specs.parts.NamedParts.{named_shown, HasItsFile};
 ghost use Rattle.fa_tree.specs.parts.StepParts.{done_checks};
 
 use crate::error::StepError;
@@ -157,6 +157,7 @@ impl Tree {
                 asked: call.asked,
                 node,
                 other: None,
+                file: None,
             }),
             Some(name) => match self.file_of(name) {
                 None => None,
@@ -164,19 +165,27 @@ impl Tree {
                     asked: call.asked,
                     node,
                     other: Some(file),
+                    file: None,
                 }),
             },
         }
     }
 
-    /// The files that a call names that does not list, if the tree knows all of them.
+    /// The files that a call names that does not list, if the tree knows all of them, with the file of the name of its action.
     #[inline(always)]
-    pub(crate) fn named(&self, call: &Call<'_>) -> Option<Named>
+    pub(crate) fn named(&self, call: &Call<'_>, action: &Action<'_>) -> Option<Named>
         requires { call.now.listing ≡ None }
         ensures found { IfSome result (λ named. resolved self.now (call_shown call.now) ≡ Some (named_shown named None)) }
+        ensures asked { IfSome result (λ named. HasItsFile self.now.store named (action_shown action.now)) }
         ensures none { IfNone result (resolved self.now (call_shown call.now) ≡ None) }
     {
-        self.files_named(call)
+        match self.files_named(call) {
+            None => None,
+            Some(named) => Some(Named {
+                file: self.stored.file_asked(named.node, action),
+                ..named
+            }),
+        }
     }
 
     /// The name of a node that an answer gives, with the file for which it is given, if it gives one.
@@ -186,6 +195,7 @@ impl Tree {
         call: &Call<'_>,
         action: &Action<'_>,
     ) -> Option<(NodeName, FileId)>
+        requires { HasItsFile self.now.store named.now (action_shown action.now) }
         ensures { (count : ℕ) (so_far : List PlainDirent) → (action_rule self.now.store (named_shown named.now None) (action_shown action.now)).needs
             → given_in (setting self.now.store (named_shown named.now None) (call_shown call.now) (Acts (action_shown action.now)) count so_far) (call_shown call.now) (Acts (action_shown action.now)) ≡ option_to_list result }
     {
@@ -211,6 +221,7 @@ impl Tree {
 
     /// Whether an action may succeed, and finds what its answer says.
     fn may_succeed(&self, named: &Named, action: &Action<'_>) -> bool
+        requires { HasItsFile self.now.store named.now (action_shown action.now) }
         ensures { (after : Store) (direct : Bool) → IsTrue result ↔ ((action_rule self.now.store (named_shown named.now None) (action_shown action.now)).needs × (action_said self.now.store after (named_shown named.now None) direct (action_shown action.now)).found) }
     {
         self.stored.may_succeed(named, action)
@@ -218,7 +229,8 @@ impl Tree {
 
     /// Whether the attributes in an answer fit.
     fn attributes_fit(&self, named: &Named, call: &Call<'_>, action: &Action<'_>) -> bool
-        requires { (action_rule self.now.store (named_shown named.now None) (action_shown action.now)).needs }
+        requires asked { HasItsFile self.now.store named.now (action_shown action.now) }
+        requires needs { (action_rule self.now.store (named_shown named.now None) (action_shown action.now)).needs }
         ensures { (count : ℕ) (so_far : List PlainDirent) → IsTrue result ↔ (said (setting self.now.store (named_shown named.now None) (call_shown call.now) (Acts (action_shown action.now)) count so_far) (Acts (action_shown action.now))).attributes }
     {
         self.stored.attributes_fit(named, action, call.truncates)
@@ -226,7 +238,8 @@ impl Tree {
 
     /// Whether the names of nodes in an answer may be given for their files.
     fn nodes_fit(&self, named: &Named, call: &Call<'_>, action: &Action<'_>) -> bool
-        requires { (action_rule self.now.store (named_shown named.now None) (action_shown action.now)).needs }
+        requires asked { HasItsFile self.now.store named.now (action_shown action.now) }
+        requires needs { (action_rule self.now.store (named_shown named.now None) (action_shown action.now)).needs }
         ensures { (count : ℕ) (so_far : List PlainDirent) → IsTrue result ↔ AreBound self.now.nodes (given_in (setting self.now.store (named_shown named.now None) (call_shown call.now) (Acts (action_shown action.now)) count so_far) (call_shown call.now) (Acts (action_shown action.now))) }
     {
         self.may_bind(&self.binding(named, call, action))
@@ -241,6 +254,7 @@ impl Tree {
 
     /// Judges an action that did not fail: a success, or one that an order takes as done though it was not answered.
     fn judge_done(&self, named: &Named, call: &Call<'_>, action: &Action<'_>) -> Result<(), u16>
+        requires { HasItsFile self.now.store named.now (action_shown action.now) }
         ensures ok { OnOk result ((count : ℕ) (so_far : List PlainDirent) → AllHold (done_checks self.now.nodes (setting self.now.store (named_shown named.now None) (call_shown call.now) (Acts (action_shown action.now)) count so_far) (call_shown call.now) (Acts (action_shown action.now)))) }
         ensures fault { IfErr result (λ code. (count : ℕ) (so_far : List PlainDirent) → FirstFailure (done_checks self.now.nodes (setting self.now.store (named_shown named.now None) (call_shown call.now) (Acts (action_shown action.now)) count so_far) (call_shown call.now) (Acts (action_shown action.now))) code) }
     {
@@ -261,18 +275,20 @@ impl Tree {
 
     /// Whether an error has its cause.
     pub(crate) fn has_cause(&self, named: &Named, action: &Action<'_>, error: i32) -> bool
+        requires { HasItsFile self.now.store named.now (action_shown action.now) }
         ensures { IsTrue result ↔ HasCause (action_rule self.now.store (named_shown named.now None) (action_shown action.now)) error }
     {
         self.stored.has_cause(named, action, error)
     }
 
-    /// Judges what came of a call that names these files.
+    /// Judges what came of a call that names these files, by the file of its name.
     pub(crate) fn judge(
         &self,
         named: &Named,
         call: &Call<'_>,
         action: &Action<'_>,
     ) -> Result<(), u16>
+        requires { HasItsFile self.now.store named.now (action_shown action.now) }
         ensures ok { OnOk result ((count : ℕ) (so_far : List PlainDirent) → AllHold (operation_checks self.now.nodes (setting self.now.store (named_shown named.now None) (call_shown call.now) (Acts (action_shown action.now)) count so_far) (call_shown call.now) (Acts (action_shown action.now)))) }
         ensures fault { IfErr result (λ code. (count : ℕ) (so_far : List PlainDirent) → FirstFailure (operation_checks self.now.nodes (setting self.now.store (named_shown named.now None) (call_shown call.now) (Acts (action_shown action.now)) count so_far) (call_shown call.now) (Acts (action_shown action.now))) code) }
     {
@@ -288,7 +304,7 @@ impl Tree {
         }
     }
 
-    /// Takes an action over that was judged and did not fail.
+    /// Takes an action over that was judged and did not fail, with the file of its name.
     fn take_done(
         &mut self,
         named: &Named,
@@ -296,27 +312,29 @@ impl Tree {
         action: &Action<'_>,
         count: u32,
     ) -> Result<(), AllocError>
-        requires { (action_rule self.old.store (named_shown named.now None) (action_shown action.now)).needs }
+        requires asked { HasItsFile self.old.store named.now (action_shown action.now) }
+        requires needs { (action_rule self.old.store (named_shown named.now None) (action_shown action.now)).needs }
         ensures taken { OnOk result (self.new ≡ tree_done self.old (named_shown named.now None) (call_shown call.now) (Acts (action_shown action.now)) count) }
         ensures memory { OnErr result (MayGrow (action_shown action.now)) }
         ensures unchanged { OnErr result (self.new ≡ self.old) }
     {
         let opens = opens_anew(call);
+        let truncates = call.truncates;
         match self.binding(named, call, action) {
             None => self
                 .stored
-                .leave(named, action, call.truncates, count, call.asked, opens),
+                .leave(named, action, truncates, count, call.asked, opens),
             Some(given) => {
                 self.nodes.reserve()?;
                 self.stored
-                    .leave(named, action, call.truncates, count, call.asked, opens)?;
+                    .leave(named, action, truncates, count, call.asked, opens)?;
                 self.nodes.bind(given);
                 Ok(())
             }
         }
     }
 
-    /// Takes a call over that was judged.
+    /// Takes a call over that was judged, with the file of its name.
     fn take(
         &mut self,
         named: &Named,
@@ -324,7 +342,8 @@ impl Tree {
         action: &Action<'_>,
         count: u32,
     ) -> Result<(), AllocError>
-        requires { (count : ℕ) (so_far : List PlainDirent) → AllHold (operation_checks self.old.nodes (setting self.old.store (named_shown named.now None) (call_shown call.now) (Acts (action_shown action.now)) count so_far) (call_shown call.now) (Acts (action_shown action.now))) }
+        requires asked { HasItsFile self.old.store named.now (action_shown action.now) }
+        requires judged { (count : ℕ) (so_far : List PlainDirent) → AllHold (operation_checks self.old.nodes (setting self.old.store (named_shown named.now None) (call_shown call.now) (Acts (action_shown action.now)) count so_far) (call_shown call.now) (Acts (action_shown action.now))) }
         ensures taken { OnOk result (self.new ≡ tree_after self.old (named_shown named.now None) (call_shown call.now) (Acts (action_shown action.now)) count) }
         ensures memory { OnErr result (DoneAnd (action_ended (action_shown action.now)) (MayGrow (action_shown action.now))) }
         ensures unchanged { OnErr result (self.new ≡ self.old) }
@@ -348,11 +367,12 @@ impl Tree {
         ensures refused { IfErr result (λ e. (so_far : List PlainDirent) → TellsOf e (call_shown call.now) (step_checks self.old (call_shown call.now) wrote so_far)) }
         ensures unchanged { OnErr result (self.new ≡ self.old) }
     {
-        match self.named(call) {
+        match self.named(call, action) {
             None => Err(StepError::Refused(codes::UNKNOWN_HERE)),
             Some(named) => {
+                let count = count_written(action, wrote);
                 self.judge(&named, call, action)?;
-                self.take(&named, call, action, count_written(action, wrote))?;
+                self.take(&named, call, action, count)?;
                 Ok(())
             }
         }

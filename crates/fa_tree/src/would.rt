@@ -47,7 +47,7 @@ impl Tree {
         ensures allowed { OnOk result ((wrote : Option ℕ) (so_far : List PlainDirent) → AllHold (step_checks self.now (call_shown call.now) wrote so_far)) }
         ensures refused { IfErr result (λ code. (wrote : Option ℕ) (so_far : List PlainDirent) → FirstFailure (step_checks self.now (call_shown call.now) wrote so_far) code) }
     {
-        match self.named(call) {
+        match self.named(call, action) {
             None => Err(codes::UNKNOWN_HERE),
             Some(named) => self.judge(&named, call, action),
         }

@@ -1,6 +1,10 @@
 -- What a call names, in the code's words.
-use Rattle.std.specs.Prelude.{Option, Some}
-use Rattle.fa_tree.specs.State.{OpenDirectory}
+use Rattle.std.specs.Prelude.{◌≡◌, Option, None, Some}
+use Rattle.std.specs.FinMap.{get}
+use Rattle.fa_ledger.specs.Operations.{PlainAction}
+use Rattle.fa_ledger.specs.Operations.PlainAction.{Lookup, Symlink, Mknod, Mkdir, Unlink, Rmdir, Rename, Rename2, Link, Create}
+use Rattle.fa_tree.specs.declared.id.FileId.{FileId}
+use Rattle.fa_tree.specs.State.{Store, OpenDirectory}
 use Rattle.fa_tree.specs.Resolved.{Resolved}
 use Rattle.fa_tree.specs.declared.named.Named.{Named}
 use Rattle.fa_tree.specs.declared.named.NamedDirectory.{NamedDirectory}
@@ -13,3 +17,21 @@ named_shown n handle = record { asked = n.asked; node = n.node; other = n.other;
 -- the same of a call that lists
 abbrev pub directory_shown : NamedDirectory → Resolved
 directory_shown at = named_shown at.named (Some (open_of at.names))
+
+-- the file of the name that an action gives in this directory, of RENAME and RENAME2 of the old one; none where it gives none
+abbrev pub file_asked : Store → (directory : FileId) → PlainAction → Option FileId
+file_asked s directory (Lookup name o) = get s.names (directory, name)
+file_asked s directory (Symlink name target o) = get s.names (directory, name)
+file_asked s directory (Mknod mode umask name o) = get s.names (directory, name)
+file_asked s directory (Mkdir mode umask name o) = get s.names (directory, name)
+file_asked s directory (Unlink name o) = get s.names (directory, name)
+file_asked s directory (Rmdir name o) = get s.names (directory, name)
+file_asked s directory (Rename old_name new_name o) = get s.names (directory, old_name)
+file_asked s directory (Rename2 flags old_name new_name o) = get s.names (directory, old_name)
+file_asked s directory (Link new_name o) = get s.names (directory, new_name)
+file_asked s directory (Create flags mode umask name o) = get s.names (directory, name)
+file_asked s directory other = None
+
+-- what a call names has the file of the name that its action gives
+abbrev pub HasItsFile : Store → Named → PlainAction → Type 0
+HasItsFile s named action = named.file ≡ file_asked s named.node action

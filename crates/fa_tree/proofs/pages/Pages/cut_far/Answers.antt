@@ -1,4 +1,4 @@
-use Rattle.std.proofs.Common.{◌≡◌, ◌<◌, length, sym, ap, rules, arith}
+use Rattle.std.proofs.Common.{◌≡◌, sym, ap, rules, arith}
 use Rattle.fa_tree.specs.parts.PageParts.{page_of}
 use Rattle.fa_tree.proofs.PageLemmas.{only_others, near_kept}
 use Rattle.fa_tree.proofs.pages.Pages.cut_far.Goals as goal

@@ -17,9 +17,10 @@ returns-else-entry-eq0 c =
     let told : IsTrue c.fit.result ↔ FitIfAny c.facts_found.result at.entry.attr = search rules in
     let some : at.entry.nodeid ≢ 0 = search rules in
     let done : at.outcome ≡ Succeeds at.entry = search rules in
-    rw (at.is, done) (λ handle direct count may.
-    of_entry c.args.self.now.store (get c.args.self.now.store.names (c.args.named.now.node, at.name.now)) at.entry.nodeid at.entry.attr c.fit.result some
-    (any_fit c.args.self.now.store (get c.args.self.now.store.names (c.args.named.now.node, at.name.now)) c.facts_found.result at.entry.attr c.fit.result c.facts_found.ensures told))
+    let asked = rw at.is at c.requires in
+    rw (at.is, done, ← asked) (λ handle direct count may.
+    of_entry c.args.self.now.store c.args.named.now.file at.entry.nodeid at.entry.attr c.fit.result some
+    (any_fit c.args.self.now.store c.args.named.now.file c.facts_found.result at.entry.attr c.fit.result c.facts_found.ensures told))
 
 pub returns-in-Setattr-default-Succeeds : goal.returns-in-Setattr-default-Succeeds
 returns-in-Setattr-default-Succeeds c =
@@ -87,8 +88,10 @@ returns-in-Create-default-default-default-default-Succeeds c =
     let bits = c.new_bits-in-Create-default-default-default-default-Succeeds in
     let fit = c.fit-in-Create-default-default-default-default-Succeeds in
     let told : IsTrue fit.result ↔ FitIfAny c.facts_created-facts.result at.entry.attr = search rules in
+    let asked = rw at.is at c.requires in
     rw (at.is, done) (λ handle direct count may.
     any_fit _ _ c.facts_created-facts.result at.entry.attr fit.result
     (created_facts c.args.self.now.store c.args.named.now.asked c.args.truncates c.args.named.now.node at.name.now (new_regular at.mode at.umask) bits.result c.facts_created-facts.result
     (get c.args.self.now.store.names (c.args.named.now.node, at.name.now)) (still_tree _ c.args.self.now c.self.view_is c.self.invariant.0)
-    (creates_new c.args.self.now.store c.args.named.now.asked c.args.named.now.node at.name.now at.flags may) refl refl refl bits.ensures c.facts_created-facts.ensures) told)
+    (creates_new c.args.self.now.store c.args.named.now.asked c.args.named.now.node at.name.now at.flags may) refl refl refl bits.ensures
+    (rw (← asked) c.facts_created-facts.ensures)) told)

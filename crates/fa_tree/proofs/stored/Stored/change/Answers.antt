@@ -10,49 +10,49 @@ use Rattle.fa_tree.proofs.stored.Stored.change.Goals as goal
 
 pub make-requires : goal.make-requires
 make-requires c =
-    let may = subst (λ a. (action_rule c.args.self.now.store (named_shown c.args.named.now None) (action_shown a)).needs) c.in-Symlink.is (c.requires None) in
+    let may = subst (λ a. (action_rule c.args.self.now.store (named_shown c.args.named.now None) (action_shown a)).needs) c.in-Symlink.is (c.requires.needs None) in
     record { free = may.0; new = may.1; made = tt }
 
 pub make-requires-in-Mknod : goal.make-requires-in-Mknod
 make-requires-in-Mknod c =
-    let may = subst (λ a. (action_rule c.args.self.now.store (named_shown c.args.named.now None) (action_shown a)).needs) c.in-Mknod.is (c.requires None) in
+    let may = subst (λ a. (action_rule c.args.self.now.store (named_shown c.args.named.now None) (action_shown a)).needs) c.in-Mknod.is (c.requires.needs None) in
     record { free = may.0; new = may.1; made = tt }
 
 pub make-requires-in-Mkdir : goal.make-requires-in-Mkdir
 make-requires-in-Mkdir c =
-    let may = subst (λ a. (action_rule c.args.self.now.store (named_shown c.args.named.now None) (action_shown a)).needs) c.in-Mkdir.is (c.requires None) in
+    let may = subst (λ a. (action_rule c.args.self.now.store (named_shown c.args.named.now None) (action_shown a)).needs) c.in-Mkdir.is (c.requires.needs None) in
     record { free = may.0; new = may.1; made = tt }
 
-pub create-requires : goal.create-requires
-create-requires c = λ free.
+pub create-requires-clause-free : goal.create-requires-clause-free
+create-requires-clause-free c = λ free.
     created_made c.args.self.now.store c.args.named.now.asked c.args.named.now.node c.in-Create.name.now c.in-Create.flags
-    (subst (λ a. (action_rule c.args.self.now.store (named_shown c.args.named.now None) (action_shown a)).needs) c.in-Create.is (c.requires None)) free
+    (subst (λ a. (action_rule c.args.self.now.store (named_shown c.args.named.now None) (action_shown a)).needs) c.in-Create.is (c.requires.needs None)) free
 
 pub rename-requires : goal.rename-requires
 rename-requires c = other_is c.args.named.now.other c.in-Some.directory _ c.in-Some.is
-    (subst (λ a. (action_rule c.args.self.now.store (named_shown c.args.named.now None) (action_shown a)).needs) c.in-Rename.is (c.requires None))
+    (subst (λ a. (action_rule c.args.self.now.store (named_shown c.args.named.now None) (action_shown a)).needs) c.in-Rename.is (c.requires.needs None))
 
 pub rename2-requires : goal.rename2-requires
 rename2-requires c =
     subst (λ other. (rename2_rule c.args.self.now.store c.args.named.now.node c.in-Rename2.old_name.now c.in-Rename2.flags other c.in-Rename2.new_name.now).needs) c.in-Some-other.is
-    (subst (λ a. (action_rule c.args.self.now.store (named_shown c.args.named.now None) (action_shown a)).needs) c.in-Rename2.is (c.requires None))
+    (subst (λ a. (action_rule c.args.self.now.store (named_shown c.args.named.now None) (action_shown a)).needs) c.in-Rename2.is (c.requires.needs None))
 
 pub link-requires-clause-free : goal.link-requires-clause-free
 link-requires-clause-free c =
     let may = other_is c.args.named.now.other c.in-Some-other-2.file _ c.in-Some-other-2.is
-    (subst (λ a. (action_rule c.args.self.now.store (named_shown c.args.named.now None) (action_shown a)).needs) c.in-Link.is (c.requires None)) in
+    (subst (λ a. (action_rule c.args.self.now.store (named_shown c.args.named.now None) (action_shown a)).needs) c.in-Link.is (c.requires.needs None)) in
     (may.0, may.1)
 
 pub link-requires-clause-there : goal.link-requires-clause-there
 link-requires-clause-there c =
     let may = other_is c.args.named.now.other c.in-Some-other-2.file _ c.in-Some-other-2.is
-    (subst (λ a. (action_rule c.args.self.now.store (named_shown c.args.named.now None) (action_shown a)).needs) c.in-Link.is (c.requires None)) in
+    (subst (λ a. (action_rule c.args.self.now.store (named_shown c.args.named.now None) (action_shown a)).needs) c.in-Link.is (c.requires.needs None)) in
     linked_is_there c.args.self.now.store (still_tree _ c.args.self.now c.self.view_is c.self.invariant.0) c.in-Some-other-2.file may.2
 
 pub link-requires-clause-other : goal.link-requires-clause-other
 link-requires-clause-other c =
     let may = other_is c.args.named.now.other c.in-Some-other-2.file _ c.in-Some-other-2.is
-    (subst (λ a. (action_rule c.args.self.now.store (named_shown c.args.named.now None) (action_shown a)).needs) c.in-Link.is (c.requires None)) in
+    (subst (λ a. (action_rule c.args.self.now.store (named_shown c.args.named.now None) (action_shown a)).needs) c.in-Link.is (c.requires.needs None)) in
     may.3
 
 pub returns-in_ok-set_attributes-in-Setattr-clause-changed : goal.returns-in_ok-set_attributes-in-Setattr-clause-changed
@@ -73,14 +73,14 @@ returns-in_ok-write-in-Write-clause-changed c = λ handle.
 pub returns-in_default-clause-changed : goal.returns-in_default-clause-changed
 returns-in_default-clause-changed c = λ handle.
     absurd (none_is c.args.named.now.other _ c.in_default.is
-    (subst (λ a. (action_rule c.args.self.now.store (named_shown c.args.named.now None) (action_shown a)).needs) c.in-Rename.is (c.requires None)))
+    (subst (λ a. (action_rule c.args.self.now.store (named_shown c.args.named.now None) (action_shown a)).needs) c.in-Rename.is (c.requires.needs None)))
 
 pub returns-in_default-other-clause-changed : goal.returns-in_default-other-clause-changed
 returns-in_default-other-clause-changed c = λ handle.
     absurd (rename2_of_none c.args.self.now.store c.args.named.now.node c.in-Rename2.old_name.now c.in-Rename2.flags c.args.named.now.other c.in-Rename2.new_name.now c.in_default-other.is
-    (subst (λ a. (action_rule c.args.self.now.store (named_shown c.args.named.now None) (action_shown a)).needs) c.in-Rename2.is (c.requires None)))
+    (subst (λ a. (action_rule c.args.self.now.store (named_shown c.args.named.now None) (action_shown a)).needs) c.in-Rename2.is (c.requires.needs None)))
 
 pub returns-in_default-other-2-clause-changed : goal.returns-in_default-other-2-clause-changed
 returns-in_default-other-2-clause-changed c = λ handle.
     absurd (none_is c.args.named.now.other _ c.in_default-other-2.is
-    (subst (λ a. (action_rule c.args.self.now.store (named_shown c.args.named.now None) (action_shown a)).needs) c.in-Link.is (c.requires None)))
+    (subst (λ a. (action_rule c.args.self.now.store (named_shown c.args.named.now None) (action_shown a)).needs) c.in-Link.is (c.requires.needs None)))

@@ -16,9 +16,10 @@ pub returns-in-Create-default-default-default-default-Succeeds : goal.returns-in
 returns-in-Create-default-default-default-default-Succeeds c =
     let at = c.in-Create-default-default-default-default-Succeeds in
     let done : at.outcome ≡ Succeeds at.outcome-0 = search rules in
+    let asked = rw at.is at c.requires in
     rw (at.is, done) (λ handle truncates direct count may. (
       created_file c.args.self.now.store c.args.named.now.asked truncates c.args.named.now.node at.name.now (new_regular at.mode at.umask) c.found_or_made.result
-          (get c.args.self.now.store.names (c.args.named.now.node, at.name.now)) refl c.found_or_made.ensures,
+          (get c.args.self.now.store.names (c.args.named.now.node, at.name.now)) refl (rw (← asked) c.found_or_made.ensures),
       refl,
     ))
 

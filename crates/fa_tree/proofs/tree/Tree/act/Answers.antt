@@ -26,7 +26,7 @@ returns-in_ok-take-in-Some-clause-steps c = λ so_far.
     let x = named_shown c.in-Some.named None in
     steps_so c.args.self.now call o c.requires.asks c.args.wrote so_far x c.in-Some.ensures.found c.take.new.self
     (c.in_ok-judge-in-Some.ensures.ok (count_written o c.args.wrote) so_far)
-    (c.in_ok-take-in-Some.ensures.taken ∙ ap (tree_after c.args.self.now x call o) c.count_written.ensures)
+    (c.in_ok-take-in-Some.ensures.taken ∙ ap (tree_after c.args.self.now x call o) c.count_written-count.ensures)
 
 pub returns-in_err-take-in-Some-clause-refused : goal.returns-in_err-take-in-Some-clause-refused
 returns-in_err-take-in-Some-clause-refused c =

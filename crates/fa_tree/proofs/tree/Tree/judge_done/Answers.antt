@@ -10,8 +10,8 @@ pub returns-then-not-may_succeed-clause-fault : goal.returns-then-not-may_succee
 returns-then-not-may_succeed-clause-fault c = λ count so_far.
     inl ((λ ok. untrue c.may_succeed.result c.if-not-may_succeed.true ((c.may_succeed.ensures (changed c.args.self.now.store (named_shown c.args.named.now None) c.args.call.now.truncates (Acts (action_shown c.args.action.now)) count) c.args.call.now.direct).1 ok)), refl)
 
-pub attributes_fit-requires : goal.attributes_fit-requires
-attributes_fit-requires c = ((c.may_succeed.ensures (changed c.args.self.now.store (named_shown c.args.named.now None) c.args.call.now.truncates (Acts (action_shown c.args.action.now)) 0) c.args.call.now.direct).0 c.if-not-may_succeed.false).0
+pub attributes_fit-requires-clause-needs : goal.attributes_fit-requires-clause-needs
+attributes_fit-requires-clause-needs c = ((c.may_succeed.ensures (changed c.args.self.now.store (named_shown c.args.named.now None) c.args.call.now.truncates (Acts (action_shown c.args.action.now)) 0) c.args.call.now.direct).0 c.if-not-may_succeed.false).0
 
 pub returns-then-not-attributes_fit-clause-fault : goal.returns-then-not-attributes_fit-clause-fault
 returns-then-not-attributes_fit-clause-fault c = λ count so_far.
@@ -20,8 +20,8 @@ returns-then-not-attributes_fit-clause-fault c = λ count so_far.
       inl ((λ ok. untrue c.attributes_fit.result c.if-not-attributes_fit.true ((c.attributes_fit.ensures count so_far).1 ok)), refl),
     )
 
-pub nodes_fit-requires : goal.nodes_fit-requires
-nodes_fit-requires c = ((c.may_succeed.ensures (changed c.args.self.now.store (named_shown c.args.named.now None) c.args.call.now.truncates (Acts (action_shown c.args.action.now)) 0) c.args.call.now.direct).0 c.if-not-may_succeed.false).0
+pub nodes_fit-requires-clause-needs : goal.nodes_fit-requires-clause-needs
+nodes_fit-requires-clause-needs c = ((c.may_succeed.ensures (changed c.args.self.now.store (named_shown c.args.named.now None) c.args.call.now.truncates (Acts (action_shown c.args.action.now)) 0) c.args.call.now.direct).0 c.if-not-may_succeed.false).0
 
 pub returns-then-not-nodes_fit-clause-fault : goal.returns-then-not-nodes_fit-clause-fault
 returns-then-not-nodes_fit-clause-fault c = λ count so_far.

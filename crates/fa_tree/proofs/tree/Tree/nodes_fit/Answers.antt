@@ -8,4 +8,4 @@ use Rattle.fa_tree.proofs.tree.Tree.nodes_fit.Goals as goal
 pub returns : goal.returns
 returns c = λ count so_far.
     subst (λ (given : List (NodeName × FileId)). IsTrue c.may_bind.result ↔ AreBound c.args.self.now.nodes given)
-    (sym (c.binding.ensures count so_far c.requires)) c.may_bind.ensures
+    (sym (c.binding.ensures count so_far c.requires.needs)) c.may_bind.ensures

@@ -10,13 +10,13 @@ use Rattle.fa_tree.proofs.OutcomeLemmas.{done_needs}
 use Rattle.fa_tree.proofs.TakeLemmas.{done_tree, err_done}
 use Rattle.fa_tree.proofs.tree.Tree.take.Goals as goal
 
-pub take_done-requires : goal.take_done-requires
-take_done-requires c =
+pub take_done-requires-clause-needs : goal.take_done-requires-clause-needs
+take_done-requires-clause-needs c =
     let x = named_shown c.args.named.now None in
     let call = call_shown c.args.call.now in
     let a = action_shown c.args.action.now in
     let count : ℕ = 0 in
-    done_needs c.args.self.now.nodes (action_rule c.args.self.now.store x a) (action_said c.args.self.now.store (changed c.args.self.now.store x call.truncates (Acts a) count) x call.direct a) (names_given call) (action_ended a) (λ error fails. c.in_default.not-Fails error (c.ended.ensures ∙ fails)) (c.requires 0 [])
+    done_needs c.args.self.now.nodes (action_rule c.args.self.now.store x a) (action_said c.args.self.now.store (changed c.args.self.now.store x call.truncates (Acts a) count) x call.direct a) (names_given call) (action_ended a) (λ error fails. c.in_default.not-Fails error (c.ended.ensures ∙ fails)) (c.requires.judged 0 [])
 
 pub returns-in_default : goal.returns-in_default
 returns-in_default c =

@@ -16,7 +16,7 @@ returns-in-None-clause-taken c =
     let x = named_shown c.args.named.now None in
     ok_also c.leave.result _ _ (λ left.
     left_tree c.self.inside.stored c.leave.new.self (nodes_shown c.self.inside.nodes) (nodes_shown c.self.inside.nodes) c.args.self.now x (call_shown c.args.call.now)
-    (action_shown c.args.action.now) c.args.count [] c.self.view_is (rw (← c.opens_anew-opens.ensures) (left None)) (c.in-None.ensures c.args.count [] c.requires) refl)
+    (action_shown c.args.action.now) c.args.count [] c.self.view_is (rw (← c.opens_anew-opens.ensures) (left None)) (c.in-None.ensures c.args.count [] c.requires.needs) refl)
     c.leave.ensures.left
 
 pub returns-in_ok-leave-in-Some-clause-taken : goal.returns-in_ok-leave-in-Some-clause-taken
@@ -24,7 +24,7 @@ returns-in_ok-leave-in-Some-clause-taken c =
     let x = named_shown c.args.named.now None in
     left_tree c.self.inside.stored c.leave-in-Some.new.self (nodes_shown c.self.inside.nodes) (nodes_shown c.bind.new.self) c.args.self.now x (call_shown c.args.call.now)
     (action_shown c.args.action.now) c.args.count (c.in-Some.given ∷ []) c.self.view_is (rw (← c.opens_anew-opens.ensures) (c.in_ok-leave-in-Some.ensures.left None))
-    (c.in-Some.ensures c.args.count [] c.requires)
+    (c.in-Some.ensures c.args.count [] c.requires.needs)
     (c.bind.ensures.bound ∙ ap (λ nodes. insert nodes c.in-Some.given.0 c.in-Some.given.1) c.reserve.ensures.same)
 
 pub returns-in_err-reserve-in-Some-clause-memory : goal.returns-in_err-reserve-in-Some-clause-memory
@@ -32,4 +32,4 @@ returns-in_err-reserve-in-Some-clause-memory c =
     let x = named_shown c.args.named.now None in
     let a = action_shown c.args.action.now in
     either_way c.from_residual.result (giving_grows c.args.self.now.store (changed c.args.self.now.store x c.args.call.now.truncates (Acts a) 0) x c.args.call.now.direct
-    (names_given (call_shown c.args.call.now)) a c.in-Some.given (c.in-Some.ensures 0 [] c.requires))
+    (names_given (call_shown c.args.call.now)) a c.in-Some.given (c.in-Some.ensures 0 [] c.requires.needs))
