@@ -31,6 +31,25 @@ name_left names removed q x is =
     by true tie is = absurd cc
     by false apart is = ((λ same. let tie : eq_by_cmp place_cmp q removed ≡ true = subst (λ (p : Place). eq_by_cmp place_cmp q p ≡ true) same (place_self q) in absurd cc), is)
 
+-- places that differ are told apart
+place_told : (a b : Place) → a ≢ b → eq_by_cmp place_cmp a b ≡ false
+place_told a b apart = by (eq_by_cmp place_cmp a b) refl
+  where
+    by : (tied : Bool) → eq_by_cmp place_cmp a b ≡ tied → tied ≡ false
+    by true tie = absurd (apart (same_place a b tie))
+    by false tie = refl
+
+-- where one is added is its file
+pub added_here : (names : FinMap place_cmp FileId) (added : Place) (file : FileId) → get (insert names added file) added ≡ Some file
+added_here names added file = get-insert place_cmp_total names added file added ∙ ap (λ b. cond b (Some file) (get names added)) (place_self added)
+
+-- names at other places stay where one is added, and where one is taken away
+pub added_elsewhere : (names : FinMap place_cmp FileId) (added q : Place) (file : FileId) → q ≢ added → get (insert names added file) q ≡ get names q
+added_elsewhere names added q file apart = get-insert place_cmp_total names added file q ∙ ap (λ b. cond b (Some file) (get names q)) (place_told q added apart)
+
+pub removed_elsewhere : (names : FinMap place_cmp FileId) (removed q : Place) → q ≢ removed → get (remove names removed) q ≡ get names q
+removed_elsewhere names removed q apart = get-remove place_cmp_total names removed q ∙ ap (λ b. cond b None (get names q)) (place_told q removed apart)
+
 -- a name that goes after one is added at another place may go before it
 pub name_goes_first : (names : FinMap place_cmp FileId) (added removed : Place) (file : FileId) → added ≢ removed
     → remove (insert names added file) removed ≡ insert (remove names removed) added file

@@ -17,6 +17,7 @@ use Rattle.fa_tree.specs.Rules.{with_file}
 use Rattle.fa_tree.specs.Edits.{names_after, open_after}
 use Rattle.fa_tree.specs.Edits.Edit.{Added, Removed}
 use Rattle.fa_tree.specs.Lookups.{bits_set, file_set}
+use Rattle.fa_tree.specs.Removing.{MayBeUnlinked}
 use Rattle.fa_tree.specs.Renaming.{MayBeRenamed, moved, rename_edits, MayBeExchanged, exchanged}
 use Rattle.fa_tree.specs.Shape.{IsTree}
 use Rattle.fa_tree.specs.parts.FileIdLaws.{file_cmp_total, files_apart, file_self, same_equal, equal_tested}
@@ -32,6 +33,10 @@ use Rattle.fa_tree.proofs.ShapeLemmas.{put_here, with_stay, files_keep_tree, rem
 pub removed_tree : (old new : NamesShown) (files : FinMap file_cmp File) (directory : FileId) (name : List ℕ) → IsTree (record { names = old.names; files = files })
     → new ≡ edited (Removed directory name ∷ []) old → IsTree (record { names = new.names; files = files })
 removed_tree old new files directory name tree gone = rw (gone) (removal_keeps_tree (record { names = old.names; files = files }) (directory, name) tree)
+
+-- what may be unlinked in a state may be unlinked in the same state
+pub still_unlinked : (t u : StoredShown) (directory : FileId) (name : List ℕ) → t ≡ u → MayBeUnlinked u.store directory name → MayBeUnlinked t.store directory name
+still_unlinked t u directory name same may = subst (λ (v : StoredShown). MayBeUnlinked v.store directory name) (sym same) may
 
 -- what may be renamed in a state may be renamed in the same state
 pub still_renamed : (t u : StoredShown) (old_directory : FileId) (old_name : List ℕ) (new_directory : FileId) (new_name : List ℕ) → t ≡ u

@@ -8,6 +8,7 @@ ghost use Rattle.fa_ledger.specs.Operations.{action_shown};
 ghost use Rattle.fa_tree.specs.State.{OpenDirectory};
 ghost use Rattle.fa_tree.specs.Edits.Edit.{Removed};
 ghost use Rattle.fa_tree.specs.Lookups.{file_set};
+ghost use Rattle.fa_tree.specs.Removing.{MayBeUnlinked};
 ghost use Rattle.fa_tree.specs.Renaming.{MayBeRenamed, rename_edits};
 ghost use Rattle.fa_tree.specs.Rules.{with_file};
 ghost use Rattle.fa_tree.specs.Contents.{resized, file_written};
@@ -83,8 +84,9 @@ impl Stored {
         }
     }
 
-    /// Takes a name away, if it is there, of a file that may have others.
+    /// Takes a name away of a file that is no directory, and may have others.
     fn remove(&mut self, directory: FileId, name: &[u8])
+        requires { MayBeUnlinked self.old.store directory name.now }
         ensures { self.new ≡ stored_edited (Removed directory name.now ∷ []) self.old }
     {
         self.names.remove(directory, name);

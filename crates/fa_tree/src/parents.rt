@@ -64,6 +64,7 @@ impl Parents {
     pub fn add(&mut self, file: FileId, kind: Kind, directory: FileId) -> Result<(), AllocError>
         ensures noted { OnOk result (kind ≡ Directory → parent_noted self.new.table.entries file ≡ Some directory) }
         ensures others { OnOk result ((of : FileId) → of ≢ file → parent_noted self.new.table.entries of ≡ parent_noted self.old.table.entries of) }
+        ensures other_kinds { OnOk result (kind ≢ Directory → self.new.table.entries ≡ self.old.table.entries) }
         ensures unchanged { OnErr result (self.new.table.entries ≡ self.old.table.entries) }
     {
         if kind == Kind::Directory {

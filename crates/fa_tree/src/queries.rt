@@ -60,11 +60,7 @@ impl Stored {
         ensures there { IfSome result (λ directory. IsParent self.now.store directory file) }
         ensures none { IfNone result ((directory : FileId) → IsParent self.now.store directory file → ⊥) }
     {
-        if self.names.is_named(file) {
-            self.parents.of(file)
-        } else {
-            None
-        }
+        self.parents.of(file)
     }
 
     /// Whether no name is in a directory. In expected constant time.

@@ -12,3 +12,7 @@ parent_noted table file = lookup (derived.eq-value.it file) table
 -- of each directory that has a name the directory that the name is in is noted
 abbrev pub AreParents : Store → (noted : FileId → Option FileId) → Type 0
 AreParents s noted = (file directory : FileId) → IsDirectory s file → IsParent s directory file → noted file ≡ Some directory
+
+-- a directory is noted for directories alone, and has a name for each of these
+abbrev pub AreNoted : Store → (noted : FileId → Option FileId) → Type 0
+AreNoted s noted = (file directory : FileId) → noted file ≡ Some directory → IsDirectory s file × IsParent s directory file

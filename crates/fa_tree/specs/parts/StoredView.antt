@@ -1,12 +1,15 @@
 -- What the fields of what is stored show.
 use Rattle.fa_tree.specs.Shape.{IsTree}
 use Rattle.fa_tree.specs.declared.stored.Stored.TheInside.{Inside}
-use Rattle.fa_tree.specs.parts.ParentParts.{parent_noted, AreParents}
+use Rattle.fa_tree.specs.parts.ParentParts.{parent_noted, AreParents, AreNoted}
 use Rattle.fa_tree.specs.parts.StoredParts.{StoredShown}
 
 abbrev pub stored_shown : Inside → StoredShown
 stored_shown t = record { store = record { names = t.names.names; files = t.files }; handles = t.names.handles }
 
--- what they hold is a tree, and the parents of directories are noted
+-- what they hold is a tree, and the parents of directories are noted, and nothing else
 abbrev pub HoldsTree : Inside → Type 0
-HoldsTree t = IsTree (stored_shown t).store × AreParents (stored_shown t).store (parent_noted t.parents.table.entries)
+HoldsTree t =
+    IsTree (stored_shown t).store
+    × AreParents (stored_shown t).store (parent_noted t.parents.table.entries)
+    × AreNoted (stored_shown t).store (parent_noted t.parents.table.entries)

@@ -28,6 +28,9 @@ create-requires-clause-free c = λ free.
     created_made c.args.self.now.store c.args.named.now.asked c.args.named.now.node c.in-Create.name.now c.in-Create.flags
     (subst (λ a. (action_rule c.args.self.now.store (named_shown c.args.named.now None) (action_shown a)).needs) c.in-Create.is (c.requires.needs None)) free
 
+pub remove-requires : goal.remove-requires
+remove-requires c = subst (λ a. (action_rule c.args.self.now.store (named_shown c.args.named.now None) (action_shown a)).needs) c.in-Unlink.is (c.requires.needs None)
+
 pub rename-requires : goal.rename-requires
 rename-requires c = other_is c.args.named.now.other c.in-Some.directory _ c.in-Some.is
     (subst (λ a. (action_rule c.args.self.now.store (named_shown c.args.named.now None) (action_shown a)).needs) c.in-Rename.is (c.requires.needs None))

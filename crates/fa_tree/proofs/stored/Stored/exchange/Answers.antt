@@ -1,7 +1,7 @@
 use Rattle.std.proofs.Common.{sym, ◌∙◌}
 use Rattle.fa_tree.specs.parts.ParentParts.{parent_noted}
 use Rattle.fa_tree.specs.parts.StoredView.{stored_shown}
-use Rattle.fa_tree.proofs.ParentLemmas.{exchanged_parents}
+use Rattle.fa_tree.proofs.ParentLemmas.{exchanged_parents, exchanged_notes}
 use Rattle.fa_tree.proofs.StoredChangeLemmas.{still_exchanged, exchanged_tree}
 use Rattle.fa_tree.proofs.stored.Stored.exchange.Goals as goal
 
@@ -17,4 +17,8 @@ invariant_of-self c =
           c.in-Some.file c.in-Some-other.other c.self.invariant.0 there also
           (parent_noted c.self.inside.parents.table.entries) (parent_noted c.set.new.self.table.entries) (parent_noted c.set-in-Some-other.new.self.table.entries)
           c.self.invariant.1 c.set.ensures c.set-in-Some-other.ensures),
+      rw (c.exchange.ensures)
+          (exchanged_notes (stored_shown c.self.inside).store c.args.old_directory c.args.old_name.now c.args.new_directory c.args.new_name.now c.in-Some.file there
+          (parent_noted c.self.inside.parents.table.entries) (parent_noted c.set.new.self.table.entries) (parent_noted c.set-in-Some-other.new.self.table.entries) c.self.invariant.2
+          c.in-Some-other.other also c.set.ensures c.set-in-Some-other.ensures),
     )

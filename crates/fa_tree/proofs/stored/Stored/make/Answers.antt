@@ -1,8 +1,8 @@
-use Rattle.std.proofs.Common.{◌∙◌}
+use Rattle.std.proofs.Common.{ap, ◌∙◌}
 use Rattle.fa_tree.specs.parts.FileParts.{file_shown}
 use Rattle.fa_tree.specs.parts.ParentParts.{parent_noted}
 use Rattle.fa_tree.specs.parts.StoredView.{stored_shown}
-use Rattle.fa_tree.proofs.ParentLemmas.{others_of, made_parents, refused_parents}
+use Rattle.fa_tree.proofs.ParentLemmas.{others_of, made_parents, made_notes, refused_parents, refused_notes}
 use Rattle.fa_tree.proofs.StoredLemmas.{still_made, still_new, still_comes, made_tree, files_back}
 use Rattle.fa_tree.proofs.stored.Stored.make.Goals as goal
 
@@ -32,6 +32,10 @@ invariant_of-self-in-Ok-add c =
           (made_parents (stored_shown c.self.inside).store c.args.id c.args.directory c.args.name.now (file_shown c.args.file)
           (parent_noted c.self.inside.parents.table.entries) (parent_noted c.add.new.self.table.entries)
           c.self.invariant.0 none comes c.in-Ok.ensures.noted c.in-Ok.ensures.others c.self.invariant.1),
+      rw (c.in-Ok-add.ensures.added, c.in_ok-insert.ensures.inserted)
+          (made_notes (stored_shown c.self.inside).store c.args.id c.args.directory c.args.name.now (file_shown c.args.file)
+          (parent_noted c.self.inside.parents.table.entries) (parent_noted c.add.new.self.table.entries) none comes may.1
+          c.in-Ok.ensures.noted c.in-Ok.ensures.others (λ kind. ap (λ table. parent_noted table c.args.id) (c.in-Ok.ensures.other_kinds kind)) c.self.invariant.2),
     )
 
 pub invariant_of-self-in-Err-add : goal.invariant_of-self-in-Err-add
@@ -44,6 +48,9 @@ invariant_of-self-in-Err-add c =
           (parent_noted c.self.inside.parents.table.entries) (parent_noted c.remove-in-Err-add.new.self.table.entries) none
           (λ of apart. others_of c.args.id _ (parent_noted c.add.new.self.table.entries) (parent_noted c.remove-in-Err-add.new.self.table.entries) c.remove-in-Err-add.ensures of apart ∙ c.in-Ok.ensures.others of apart)
           c.self.invariant.1,
+      refused_notes (stored_shown c.self.inside).store c.args.id
+          (parent_noted c.self.inside.parents.table.entries) (parent_noted c.add.new.self.table.entries) (parent_noted c.remove-in-Err-add.new.self.table.entries)
+          c.in-Ok.ensures.others c.remove-in-Err-add.ensures c.self.invariant.2,
     )
 
 pub returns-in-Err-add-clause-unchanged : goal.returns-in-Err-add-clause-unchanged

@@ -1,9 +1,9 @@
-use Rattle.std.proofs.Common.{◌≡◌, sym, ap, subst, refl, ◌∙◌}
+use Rattle.std.proofs.Common.{◌≡◌, ◌≢◌, Some, sym, ap, subst, refl, ◌∙◌}
 use Rattle.std.specs.FinMap.{get}
 use Rattle.fa_tree.specs.declared.stored.Stored.TheInside.{Inside}
 use Rattle.fa_tree.specs.parts.ParentParts.{parent_noted}
 use Rattle.fa_tree.specs.parts.StoredView.{stored_shown}
-use Rattle.fa_tree.proofs.ParentLemmas.{AreGone, moved_parents}
+use Rattle.fa_tree.proofs.ParentLemmas.{AreGone, moved_parents, moved_notes}
 use Rattle.fa_tree.proofs.StoredChangeLemmas.{still_renamed, renamed_or_not, found_same, found_apart, still_unmoved}
 use Rattle.fa_tree.proofs.stored.Stored.rename.Goals as goal
 use Rattle.fa_tree.proofs.stored.Stored.rename.Goals.{in-Some-taken, in_default}
@@ -28,6 +28,8 @@ invariant_of-self-in-Some-2 c =
       | in-Some-taken w ↦ subst (λ found. AreGone found old between) (sym w.in-Some-taken.is ∙ c.get-taken.ensures) (rw (w.self-inside-is) w.remove.ensures)
       | in_default w ↦ subst (λ found. AreGone found old between) (sym w.in_default.is ∙ c.get-taken.ensures) (rw (w.self-inside-is) (λ of. refl))
     ] in
+    let apart : get n.names (c.args.new_directory, c.args.new_name.now) ≢ Some file =
+    λ same. found_apart c.get-taken.result file (sym c.eq.ensures ∙ c.if-eq.false) (c.get-taken.ensures ∙ same) in
     rw (names, files) (
       renamed_or_not c.rename.result n c.rename.new.self c.self.inside.files c.args.old_directory c.args.old_name.now c.args.new_directory c.args.new_name.now file
           c.self.invariant.0 may there c.rename.ensures.renamed c.rename.ensures.unchanged,
@@ -35,7 +37,10 @@ invariant_of-self-in-Some-2 c =
           (moved_parents (stored_shown c.self.inside).store c.args.old_directory c.args.old_name.now c.args.new_directory c.args.new_name.now file c.self.invariant.0 there
           old between (parent_noted c.set.new.self.table.entries) c.self.invariant.1 c.set.ensures
           (get n.names (c.args.new_directory, c.args.new_name.now)) refl
-          (λ same. found_apart c.get-taken.result c.in-Some.file (sym c.eq.ensures ∙ c.if-eq.false) (c.get-taken.ensures ∙ same)) gone),
+          apart gone),
+      rw (c.in_ok-rename-in-Some-2.ensures.renamed)
+          (moved_notes (stored_shown c.self.inside).store c.args.old_directory c.args.old_name.now c.args.new_directory c.args.new_name.now file there
+          old between (parent_noted c.set.new.self.table.entries) c.self.invariant.2 (get n.names (c.args.new_directory, c.args.new_name.now)) c.set.ensures refl apart gone),
     )
 
 pub returns-in-Some-clause-renamed : goal.returns-in-Some-clause-renamed

@@ -2,7 +2,7 @@ use Rattle.fa_tree.specs.parts.FileParts.{with_bits}
 use Rattle.std.proofs.Common.{refl, sym, ◌∙◌}
 use Rattle.fa_tree.specs.parts.ParentParts.{parent_noted}
 use Rattle.fa_tree.specs.parts.StoredView.{stored_shown}
-use Rattle.fa_tree.proofs.ParentLemmas.{change_keeps_parents}
+use Rattle.fa_tree.proofs.ParentLemmas.{change_keeps_parents, change_keeps_notes}
 use Rattle.fa_tree.proofs.StoredChangeLemmas.{change_keeps_tree, mode_left, link_left}
 use Rattle.fa_tree.proofs.stored.Stored.set_mode.Goals as goal
 use Rattle.fa_tree.proofs.stored.Stored.set_mode.Goals.{else-contains-via-then-contains+else-not-is_symlink, else-contains-via-else-contains}
@@ -12,6 +12,8 @@ invariant_of-self c = (
   change_keeps_tree (stored_shown c.self.inside) c.set_bits.new.self c.args.file (with_bits c.permission_bits.result) (λ f. refl) c.self.invariant.0 c.set_bits.ensures,
   change_keeps_parents (stored_shown c.self.inside) c.set_bits.new.self c.args.file (with_bits c.permission_bits.result) (parent_noted c.self.inside.parents.table.entries) (λ f. refl)
       c.self.invariant.0 c.self.invariant.1 c.set_bits.ensures,
+  change_keeps_notes (stored_shown c.self.inside) c.set_bits.new.self c.args.file (with_bits c.permission_bits.result) (parent_noted c.self.inside.parents.table.entries) (λ f. refl)
+      c.self.invariant.2 c.set_bits.ensures,
 )
 
 pub returns-else-contains : goal.returns-else-contains
