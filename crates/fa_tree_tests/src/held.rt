@@ -16,9 +16,10 @@ use std::process::Abort;
 /// How many bytes the WRITE has, the most that FUSE sends at a time.
 const WRITTEN: u32 = 1 << 20;
 
-/// Where a WRITE begins that the list of a file's pages goes on to, and the place of a byte that it does not go on to.
+/// Where a WRITE begins that the list of a file's pages goes on to.
 const NEAR: u64 = 10 << 12;
 
+/// Where a byte stands that it does not go on to.
 const FAR: u64 = 100 << 12;
 
 /// A mark is a request for so many bytes of memory, which nothing else asks for.
