@@ -5,6 +5,7 @@ use Rattle.std.specs.FinMap.{FinMap, get, insert, remove, get-empty}
 use Rattle.fa_bodies.specs.declared.mode.Kind.{Kind}
 use Rattle.fa_bodies.specs.declared.mode.Kind.TheVariants.{Fifo, CharDevice, Directory, BlockDevice, Regular, Symlink, Socket}
 use Rattle.fa_tree.specs.declared.id.FileId.{FileId}
+use Rattle.fa_tree.specs.declared.parents.Parent.{Parent}
 use Rattle.fa_tree.specs.State.{File, Store, Place, place_cmp, file_cmp, file_eq, HasName, IsFree, IsDirectory, IsParent}
 use Rattle.fa_tree.specs.Building.{empty_tree}
 use Rattle.fa_tree.specs.Edits.{names_after}
@@ -503,20 +504,21 @@ notes_named_or_not (Ok v) old new files directory name file noted free are put s
 notes_named_or_not (Err e) old new files directory name file noted free are put same = rw (same) are
 
 -- what is noted for a file is a directory that has a name for it
-pub parent_there : (t u : StoredShown) (noted : Notes) (file : FileId) (result : Option FileId) → t ≡ u → AreNoted t.store noted → result ≡ noted file
-    → IfSome result (λ directory. IsParent u.store directory file)
-parent_there t u noted file result same are told = subst (λ (v : StoredShown). IfSome result (λ directory. IsParent v.store directory file)) same (by result told)
+pub parent_there : (t u : StoredShown) (noted : Notes) (file : FileId) (result : Option Parent) → t ≡ u → AreNoted t.store noted
+    → option_map (λ (p : Parent). p.directory) result ≡ noted file → IfSome result (λ parent. IsParent u.store parent.directory file)
+parent_there t u noted file result same are told = subst (λ (v : StoredShown). IfSome result (λ parent. IsParent v.store parent.directory file)) same (by result told)
   where
-    by : (r : Option FileId) → r ≡ noted file → IfSome r (λ directory. IsParent t.store directory file)
+    by : (r : Option Parent) → option_map (λ (p : Parent). p.directory) r ≡ noted file → IfSome r (λ parent. IsParent t.store parent.directory file)
     by None is = tt
-    by (Some directory) is = (are file directory (sym is)).1
+    by (Some parent) is = (are file parent.directory (sym is)).1
 
 -- and of a directory for which none is noted no directory has a name
-pub parent_none : (t u : StoredShown) (noted : Notes) (file : FileId) (result : Option FileId) → t ≡ u → AreParents t.store noted → IsDirectory u.store file → result ≡ noted file
-    → IfNone result ((directory : FileId) → IsParent u.store directory file → ⊥)
+pub parent_none : (t u : StoredShown) (noted : Notes) (file : FileId) (result : Option Parent) → t ≡ u → AreParents t.store noted → IsDirectory u.store file
+    → option_map (λ (p : Parent). p.directory) result ≡ noted file → IfNone result ((directory : FileId) → IsParent u.store directory file → ⊥)
 parent_none t u noted file result same are kind told =
     subst (λ (v : StoredShown). IsDirectory v.store file → IfNone result ((directory : FileId) → IsParent v.store directory file → ⊥)) same (by result told) kind
   where
-    by : (r : Option FileId) → r ≡ noted file → IsDirectory t.store file → IfNone r ((directory : FileId) → IsParent t.store directory file → ⊥)
+    by : (r : Option Parent) → option_map (λ (p : Parent). p.directory) r ≡ noted file → IsDirectory t.store file
+        → IfNone r ((directory : FileId) → IsParent t.store directory file → ⊥)
     by None is kind = λ directory has. (let clash : None ≡ Some directory = is ∙ are file directory kind has in cc)
-    by (Some directory) is kind = tt
+    by (Some parent) is kind = tt

@@ -14,12 +14,20 @@ use indexmap::IndexMap;
 use std::alloc::{AllocError, Global};
 
 /// An entry of the table takes about so many bytes.
-const PARENT_WEIGHT: u64 = 64;
+const PARENT_WEIGHT: u64 = 72;
+
+/// The directory that a directory is in, and a hint: where its own entry stood in the table when this was noted. It may stand
+/// elsewhere by now, or nowhere, so no clause speaks of it.
+#[derive(Clone, Copy)]
+pub(crate) struct Parent {
+    pub directory: FileId,
+    pub hint: usize,
+}
 
 /// For each directory that has a name the directory that the name is in. No other file has an entry.
 #[derive(Drop)]
 pub(crate) struct Parents {
-    pub table: IndexMap<FileId, FileId, Seed>,
+    pub table: IndexMap<FileId, Parent, Seed>,
 }
 
 impl Parents {
@@ -48,13 +56,25 @@ impl Parents {
         (self.table.len() as u64).saturating_mul(PARENT_WEIGHT)
     }
 
-    /// The directory that is noted for a file, if one is.
+    /// The directory that is noted for a file, if one is, whatever the hint.
+    ///
+    /// Takes no memory. Constant time where the file's entry stands where the hint says, else expected constant time.
+    pub fn of(&self, file: FileId, hint: usize) -> Option<Parent>
+        ensures { option_map (λ parent. parent.directory) result ≡ parent_noted self.now.table.entries file }
+    {
+        if let Some((key, parent)) = self.table.get_index(hint) {
+            if *key == file {
+                return Some(*parent);
+            }
+        }
+        self.table.get(&file).copied()
+    }
+
+    /// Where the entry of a file stands, if it has one, and else any number: the hint for it.
     ///
     /// Takes no memory, in expected constant time.
-    pub fn of(&self, file: FileId) -> Option<FileId>
-        ensures { result ≡ parent_noted self.now.table.entries file }
-    {
-        self.table.get(&file).copied()
+    fn hint(&self, file: FileId) -> usize {
+        self.table.get_index_of(&file).unwrap_or(0)
     }
 
     /// Notes the directory that a file of this type is in, if that is a directory. An error says that memory was refused, and
@@ -68,7 +88,8 @@ impl Parents {
         ensures unchanged { OnErr result (self.new.table.entries ≡ self.old.table.entries) }
     {
         if kind == Kind::Directory {
-            self.table.insert(file, directory)?;
+            let hint = self.hint(directory);
+            self.table.insert(file, Parent { directory, hint })?;
         }
         Ok(())
     }
@@ -79,8 +100,9 @@ impl Parents {
     pub fn set(&mut self, file: FileId, directory: FileId)
         ensures { (of : FileId) → parent_noted self.new.table.entries of ≡ cond (file_eq of file) (option_map (λ _. directory) (parent_noted self.old.table.entries file)) (parent_noted self.old.table.entries of) }
     {
+        let hint = self.hint(directory);
         match self.table.get_mut(&file) {
-            Some(parent) => *parent = directory,
+            Some(parent) => *parent = Parent { directory, hint },
             None => {}
         }
     }

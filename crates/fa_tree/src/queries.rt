@@ -7,6 +7,7 @@ ghost use Rattle.fa_tree.specs.Building.{IsNonDirectory};
 ghost use Rattle.fa_tree.specs.State.{IsFree, IsParent, IsDirectory, IsRegular, IsSymlink, IsLinked, IsLinkedDirectory, IsEmptyDirectory, IsBelow, links};
 
 use crate::id::FileId;
+use crate::parents::Parent;
 use crate::stored::Stored;
 use fa_bodies::Kind;
 
@@ -54,13 +55,15 @@ impl Stored {
         self.kind(file) == Some(Kind::Symlink)
     }
 
-    /// The directory that has a name for a directory, if one has. In expected constant time.
-    pub(crate) fn parent(&self, file: FileId) -> Option<FileId>
+    /// The directory that has a name for a directory, if one has, whatever the hint where the directory's own entry stands.
+    ///
+    /// Constant time where the hint is right, else expected constant time.
+    fn parent(&self, file: FileId, hint: usize) -> Option<Parent>
         requires { IsDirectory self.now.store file }
-        ensures there { IfSome result (λ directory. IsParent self.now.store directory file) }
+        ensures there { IfSome result (λ parent. IsParent self.now.store parent.directory file) }
         ensures none { IfNone result ((directory : FileId) → IsParent self.now.store directory file → ⊥) }
     {
-        self.parents.of(file)
+        self.parents.of(file, hint)
     }
 
     /// Whether no name is in a directory. In expected constant time.
@@ -100,16 +103,21 @@ impl Stored {
 
     /// Whether the directory `below` is below the file `above`.
     ///
-    /// As many look-ups of a parent as there are directories on the way up.
+    /// As many steps as there are directories on the way up. Each takes constant time where no entry of a parent was moved since it
+    /// was noted, else expected constant time. The first and the last are look-ups by hash.
     pub(crate) fn is_below(&self, above: FileId, below: FileId) -> bool
         requires directory { IsDirectory self.now.store below }
         ensures { IsTrue result ↔ IsBelow self.now.store above below }
     {
         let mut at = below;
+        let mut hint = 0;
         for _ in 0..self.files.len() {
-            match self.parent(at) {
-                Some(parent) if parent == above => return true,
-                Some(parent) => at = parent,
+            match self.parent(at, hint) {
+                Some(parent) if parent.directory == above => return true,
+                Some(parent) => {
+                    at = parent.directory;
+                    hint = parent.hint;
+                }
                 None => return false,
             }
         }

@@ -1,13 +1,14 @@
 -- The directory that each directory is in, as it is noted.
-use Rattle.std.specs.Prelude.{◌≡◌, List, Option, Some}
+use Rattle.std.specs.Prelude.{◌≡◌, List, Option, Some, option_map}
 use Rattle.std.specs.Map.{lookup}
 use Rattle.fa_tree.specs.declared.id.FileId.{FileId}
+use Rattle.fa_tree.specs.declared.parents.Parent.{Parent}
 use Rattle.fa_tree.specs.contracts.id.FileIdPartialEq.TheImpl as derived
 use Rattle.fa_tree.specs.State.{Store, IsDirectory, IsParent}
 
 -- the directory that is noted for a file, if one is
-abbrev pub parent_noted : List (FileId × FileId) → FileId → Option FileId
-parent_noted table file = lookup (derived.eq-value.it file) table
+abbrev pub parent_noted : List (FileId × Parent) → FileId → Option FileId
+parent_noted table file = option_map (λ parent. parent.directory) (lookup (derived.eq-value.it file) table)
 
 -- of each directory that has a name the directory that the name is in is noted
 abbrev pub AreParents : Store → (noted : FileId → Option FileId) → Type 0

@@ -18,7 +18,7 @@ loop-init c =
 
 pub returns-in-Some : goal.returns-in-Some
 returns-in-Some c =
-    let same = same_equal c.in-Some.parent c.args.above (sym c.eq.ensures ∙ c.if-eq.true) in
+    let same = same_equal c.in-Some.parent.directory c.args.above (sym c.eq.ensures ∙ c.if-eq.true) in
     let is = subst (λ p. IsParent c.args.self.now.store p c.loop.at) same c.in-Some.ensures.there in
     (λ _. c.loop.invariant.1.1 (child c.args.above c.loop.at is), λ _. refl)
 
@@ -29,7 +29,7 @@ pub loop-preserved : goal.loop-preserved
 loop-preserved c =
     let s = c.args.self.now.store in
     let tree = still_tree _ c.args.self.now c.self.view_is c.self.invariant.0 in
-    let p = c.in-Some.parent in
+    let p = c.in-Some.parent.directory in
     let is = c.in-Some.ensures.there in
     let was = c.loop.invariant in
     let way = was.2 in
