@@ -84,6 +84,22 @@ fn turn(
     ensures { IfOk result (λ next. IfSome next (λ n. (c : List Message) × IsHeld c n standing.new)) }
 {
     let mut session = parked.resume(alloc, seed)?;
+    turn_along(alloc, seed, parked, &mut session, standing, notes)
+}
+
+/// The same with the session lent, as it was put aside.
+fn turn_along<'s, 'a: 's>(
+    alloc: Global,
+    seed: Seed,
+    parked: &Parked,
+    session: &mut Session<'s>,
+    standing: &mut Standing,
+    notes: &mut Notes<'a>,
+) -> Result<Option<Parked>, AllocError>
+    requires held { (c : List Message) × IsHeld c parked.now standing.old }
+    requires resumed { session.old ≡ parked.now }
+    ensures { IfOk result (λ next. IfSome next (λ n. (c : List Message) × IsHeld c n standing.new)) }
+{
     let mut since = Vec::new(alloc);
     let room = parked.bytes().max(GENERATION);
     let mut taken: usize = 0;
@@ -94,7 +110,7 @@ fn turn(
         let Some((number, packet)) = notes.next()? else {
             return Ok(None);
         };
-        match accept(&mut session, standing, &packet) {
+        match accept(session, standing, &packet) {
             Ok(event) => {
                 notes.take(number, &event)?;
                 taken = taken.saturating_add(packet.bytes.len());
@@ -114,14 +130,24 @@ fn turn(
 /// What came of the messages of a capture.
 pub(crate) fn pair<'a>(alloc: Global, capture: &Capture<'a>) -> Result<Pairing<'a>, AllocError> {
     let mut notes = Notes::new(alloc, capture);
+    take_turns(alloc, capture, &mut notes)?;
+    Ok(notes.into_pairing())
+}
+
+/// Takes the messages of a capture, turn by turn.
+fn take_turns(
+    alloc: Global,
+    capture: &Capture<'_>,
+    notes: &mut Notes<'_>,
+) -> Result<(), AllocError> {
     let mut standing = Standing::new(alloc, capture.seed);
     let mut parked = Parked::new(alloc);
     // Each turn but the last one takes a message.
     for _ in 0..=capture.messages {
-        match turn(alloc, capture.seed, &parked, &mut standing, &mut notes)? {
+        match turn(alloc, capture.seed, &parked, &mut standing, notes)? {
             Some(next) => parked = next,
             None => break,
         }
     }
-    Ok(notes.into_pairing())
+    Ok(())
 }

@@ -4,12 +4,12 @@ use Rattle.fa_capture.specs.declared.limits.TheConstants.{MAX_MESSAGES}
 use Rattle.fa_capture.specs.Message.{message}
 use Rattle.fa_ledger.specs.Standing.{PlainStanding, ShowsStanding}
 use Rattle.fa_show.proofs.FollowLemmas.{Follows, follows_one, follows_on}
-use Rattle.fa_show.proofs.following.turn.Goals as goal
-use Rattle.fa_show.proofs.following.turn.Goals.{in-Ok+in_ok-take-in-Ok+in_ok-push-in-Ok, in-Err-BySession}
+use Rattle.fa_show.proofs.following.turn_along.Goals as goal
+use Rattle.fa_show.proofs.following.turn_along.Goals.{in-Ok+in_ok-take-in-Ok+in_ok-push-in-Ok, in-Err-BySession}
 
 pub accept-requires : goal.accept-requires
 accept-requires c =
-    let (before, held) = c.requires in
+    let (before, held) = c.requires.held in
     let now = c.loop.invariant.on before held in
     let here = before ++ map message c.loop.since.items in
     let few : length here < MAX_MESSAGES = omega (arith, c.if-len-ge-MAX_MESSAGES.false, c.len.ensures here now.shown.behind) in
@@ -17,13 +17,13 @@ accept-requires c =
 
 pub rewound-requires : goal.rewound-requires
 rewound-requires c =
-    let (before, held) = c.requires in
+    let (before, held) = c.requires.held in
     let now = c.loop.invariant.on before held in
     (before, held.shown.in_session, omega (arith, now.few, length-append before (map message c.loop.since.items), length-map c.loop.since.items message, c.deref.ensures.len))
 
 pub returns-in-Err-Behind : goal.returns-in-Err-Behind
 returns-in-Err-Behind c =
-    let (before, held) = c.requires in
+    let (before, held) = c.requires.held in
     let now = c.loop.invariant.on before held in
     let here = before ++ map message c.loop.since.items in (
       here,
