@@ -2,8 +2,9 @@
 
 use crate::advice::Advice;
 use crate::citing::message_line;
-use crate::exchange::last_asked;
+use crate::exchange::{Exchange, last_asked};
 use crate::fault::Fault;
+use crate::past::Past;
 use crate::{advice, framing, handles, headers, nodes, sessions};
 use fa_capture::{Capture, codes};
 use fa_show::Text;
@@ -68,9 +69,23 @@ fn explain_message(
         codes::FIRST_NOT_INIT..=codes::UNIQUE_ZERO => {
             sessions::explain(text, capture, fault, exchange)
         }
-        codes::CLOSED_HANDLE => handles::explain(alloc, text, capture, fault)?,
-        _ => nodes::explain(alloc, text, capture, fault, exchange)?,
+        _ => explain_by_past(alloc, text, capture, fault, exchange)?,
     };
     advice::look_at(text, fault.code, advice);
     Ok(())
+}
+
+/// Writes why a message is refused by what those before it say of its nodes, or of its file handle: what to look at.
+fn explain_by_past(
+    alloc: Global,
+    text: &mut Text,
+    capture: &Capture<'_>,
+    fault: &Fault<'_>,
+    exchange: Option<Exchange<'_>>,
+) -> Result<Advice, AllocError> {
+    let mut past = Past::new(alloc, capture.seed);
+    match fault.code {
+        codes::CLOSED_HANDLE => handles::explain(alloc, text, capture, fault, &mut past),
+        _ => nodes::explain(alloc, text, capture, fault, exchange, &mut past),
+    }
 }

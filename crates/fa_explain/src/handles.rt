@@ -161,17 +161,17 @@ impl Cause {
     }
 }
 
-/// Writes why a file handle is not open, and what opened and closed it: what to look at.
+/// Writes why a file handle is not open, and what opened and closed it: what to look at. Nothing was asked of the past.
 pub(crate) fn explain(
     alloc: Global,
     text: &mut Text,
     capture: &Capture<'_>,
     fault: &Fault<'_>,
+    past: &mut Past,
 ) -> Result<Advice, AllocError> {
     let Some(handle) = used_by(fault) else {
         return Ok(Advice::First);
     };
-    let mut past = Past::new(alloc, capture.seed);
     past.ask_for_handle(handle)?;
     past.read(alloc, capture, fault.number)?;
     let late = late_answer(alloc, capture, fault.number, Sought::Handle(handle))?;

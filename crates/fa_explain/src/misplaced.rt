@@ -1,5 +1,8 @@
 //! Messages that may stand at another place than they were sent.
 
+ghost use Rattle.std.specs.Prelude.{[]};
+ghost use Rattle.fa_session.specs.Shows.{Shows};
+
 use crate::exchange::{Answered, unique_of};
 use crate::fault::Fault;
 use crate::given::{Given, Handle, Opened};
@@ -59,6 +62,18 @@ pub(crate) fn late_answer(
     sought: Sought,
 ) -> Result<Option<Answered>, AllocError> {
     let mut session = Session::new(alloc, capture.seed);
+    late_answer_in(&mut session, capture, number, sought)
+}
+
+/// The same with a session lent, in which no message came.
+fn late_answer_in<'a>(
+    session: &mut Session<'a>,
+    capture: &Capture<'a>,
+    number: u32,
+    sought: Sought,
+) -> Result<Option<Answered>, AllocError>
+    requires { Shows [] session.old }
+{
     let mut packets = capture.packets();
     for taken in 0..MAX_MESSAGES {
         let Some(packet) = packets.next() else {

@@ -83,17 +83,18 @@ impl NodePast {
     }
 }
 
-/// Writes what a message may not say of a node, and what gave the node and took it back: what to look at.
+/// Writes what a message may not say of a node, and what gave the node and took it back: what to look at. Nothing was asked of the past.
 pub(crate) fn explain(
     alloc: Global,
     text: &mut Text,
     capture: &Capture<'_>,
     fault: &Fault<'_>,
     exchange: Option<Exchange<'_>>,
+    past: &mut Past,
 ) -> Result<Advice, AllocError> {
     match fault.code {
-        codes::FORGOTTEN_NODE => return unknown(alloc, text, capture, fault),
-        codes::FORGOTTEN_TOO_OFTEN => too_often(alloc, text, capture, fault)?,
+        codes::FORGOTTEN_NODE => return unknown(alloc, text, capture, fault, past),
+        codes::FORGOTTEN_TOO_OFTEN => too_often(alloc, text, capture, fault, past)?,
         _ => not_allowed(text, fault, exchange),
     }
     Ok(Advice::First)
@@ -119,12 +120,12 @@ fn unknown(
     text: &mut Text,
     capture: &Capture<'_>,
     fault: &Fault<'_>,
+    past: &mut Past,
 ) -> Result<Advice, AllocError> {
     let Some(request) = request_of(fault) else {
         return Ok(Advice::First);
     };
     let other = other_node(&request.body).unwrap_or(ROOT_ID);
-    let mut past = Past::new(alloc, capture.seed);
     past.ask_for(request.node)?;
     past.ask_for(other)?;
     past.read(alloc, capture, fault.number)?;
@@ -195,11 +196,11 @@ fn too_often(
     text: &mut Text,
     capture: &Capture<'_>,
     fault: &Fault<'_>,
+    past: &mut Past,
 ) -> Result<(), AllocError> {
     let Some(request) = request_of(fault) else {
         return Ok(());
     };
-    let mut past = Past::new(alloc, capture.seed);
     match &request.body {
         RequestBody::BatchForget { items: bytes, .. } => {
             for (node, _) in items(bytes) {
@@ -207,7 +208,7 @@ fn too_often(
             }
             past.read(alloc, capture, fault.number)?;
             for (node, nlookup) in items(bytes) {
-                if is_too_many(&past, node, nlookup) {
+                if is_too_many(past, node, nlookup) {
                     taken_too_often(text, capture, fault, node, nlookup, &past.node(node));
                     break;
                 }

@@ -1,5 +1,8 @@
 //! What the messages before one say of nodes, and of a file handle.
 
+ghost use Rattle.std.specs.Prelude.{[]};
+ghost use Rattle.fa_session.specs.Shows.{Shows};
+
 use crate::exchange::Answered;
 use crate::given::{Given, Handle, HandleKind, Opened, node_listed};
 use crate::handles::HandlePast;
@@ -61,6 +64,18 @@ impl Past {
         number: u32,
     ) -> Result<(), AllocError> {
         let mut session = Session::new(alloc, capture.seed);
+        self.read_in(&mut session, capture, number)
+    }
+
+    /// The same with a session lent, in which no message came.
+    fn read_in<'a>(
+        &mut self,
+        session: &mut Session<'a>,
+        capture: &Capture<'a>,
+        number: u32,
+    ) -> Result<(), AllocError>
+        requires { Shows [] session.old }
+    {
         let mut packets = capture.packets();
         for taken in 0..(number as usize).min(MAX_MESSAGES) {
             let Some(packet) = packets.next() else {
