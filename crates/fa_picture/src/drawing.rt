@@ -99,6 +99,15 @@ impl<'a, 'e> Drawing<'a, 'e> {
         write_markup(text, "</svg>\n");
     }
 
+    /// The text of the picture under its heading: it is written twice, and first into no room, which tells how much it takes.
+    fn text(&mut self, alloc: Global, verdict: Option<&str>) -> Result<Text, AllocError> {
+        let mut measured = Text::new(alloc, 0, false)?;
+        self.write(&mut measured, verdict, Heading::Verdict);
+        let mut text = Text::new(alloc, measured.lost(), false)?;
+        self.write(&mut text, verdict, Heading::Verdict);
+        Ok(text)
+    }
+
     /// Takes what the picture is called as the words that are written next.
     fn take_name(&mut self, verdict: Option<&str>) {
         let name = &mut self.words.title;
@@ -179,9 +188,5 @@ pub fn picture(
 ) -> Result<Text, AllocError> {
     let exchanges = Exchanges::of(alloc, &subject.capture, subject.fault)?;
     let mut drawing = Drawing::of(alloc, subject, &exchanges, view)?;
-    let mut measured = Text::new(alloc, 0, false)?;
-    drawing.write(&mut measured, verdict, Heading::Verdict);
-    let mut text = Text::new(alloc, measured.lost(), false)?;
-    drawing.write(&mut text, verdict, Heading::Verdict);
-    Ok(text)
+    drawing.text(alloc, verdict)
 }

@@ -36,13 +36,23 @@ impl Exchanges {
             fault,
         };
         let mut waiting = IndexMap::with_hasher(alloc, capture.seed);
+        exchanges.take(capture, &mut waiting)?;
+        Ok(exchanges)
+    }
+
+    /// Takes in the messages of a capture.
+    fn take(
+        &mut self,
+        capture: &Capture<'_>,
+        waiting: &mut IndexMap<u64, u32, Seed>,
+    ) -> Result<(), AllocError> {
         for packet in capture.packets() {
             match packet.direction {
-                Direction::ToServer => exchanges.ask(&packet, &mut waiting)?,
-                Direction::FromServer => exchanges.answer(&packet, &mut waiting)?,
+                Direction::ToServer => self.ask(&packet, waiting)?,
+                Direction::FromServer => self.answer(&packet, waiting)?,
             }
         }
-        Ok(exchanges)
+        Ok(())
     }
 
     /// Takes in a request.

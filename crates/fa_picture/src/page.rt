@@ -56,7 +56,39 @@ struct Page<'a, 'e> {
     line: Text,
 }
 
-impl Page<'_, '_> {
+impl<'a, 'e> Page<'a, 'e> {
+    /// What a page has of a capture in which these messages go together, with this table and a picture around the message that the view
+    /// says.
+    fn of(
+        alloc: Global,
+        subject: &Subject<'a, '_>,
+        exchanges: &'e Exchanges,
+        table: Table<'a>,
+        view: View,
+    ) -> Result<Page<'a, 'e>, AllocError> {
+        let drawn = View {
+            around: view.around,
+            messages: DEFAULT_MESSAGES,
+        };
+        Ok(Page {
+            exchanges,
+            drawing: Drawing::of(alloc, subject, exchanges, drawn)?,
+            table,
+            fault: subject.fault,
+            messages: subject.capture.messages,
+            line: Text::new(alloc, LINE_ROOM, false)?,
+        })
+    }
+
+    /// The text of the page: it is written twice, and first into no room, which tells how much it takes.
+    fn text(&mut self, alloc: Global, findings: Findings<'_>) -> Result<Text, AllocError> {
+        let mut measured = Text::new(alloc, 0, false)?;
+        self.write(&mut measured, findings);
+        let mut text = Text::new(alloc, measured.lost(), false)?;
+        self.write(&mut text, findings);
+        Ok(text)
+    }
+
     /// Writes the page.
     fn write(&mut self, text: &mut Text, findings: Findings<'_>) {
         write_head(text, findings.verdict);
@@ -126,25 +158,20 @@ pub fn report(
     view: View,
 ) -> Result<Text, AllocError> {
     let exchanges = Exchanges::of(alloc, &subject.capture, subject.fault)?;
+    let table = table_of(alloc, subject, &exchanges, findings.reasons, view)?;
+    let mut page = Page::of(alloc, subject, &exchanges, table, view)?;
+    page.text(alloc, findings)
+}
+
+/// The table of the messages around the one that the view says, and of those to which the reasons link.
+fn table_of<'a>(
+    alloc: Global,
+    subject: &Subject<'a, '_>,
+    exchanges: &Exchanges,
+    reasons: &Text,
+    view: View,
+) -> Result<Table<'a>, AllocError> {
     let mut named = Vec::new(alloc);
-    mention(findings.reasons.as_bytes(), &mut named)?;
-    let table = Table::of(alloc, subject, &exchanges, &named, view)?;
-    let drawn = View {
-        around: view.around,
-        messages: DEFAULT_MESSAGES,
-    };
-    let drawing = Drawing::of(alloc, subject, &exchanges, drawn)?;
-    let mut page = Page {
-        exchanges: &exchanges,
-        drawing,
-        table,
-        fault: subject.fault,
-        messages: subject.capture.messages,
-        line: Text::new(alloc, LINE_ROOM, false)?,
-    };
-    let mut measured = Text::new(alloc, 0, false)?;
-    page.write(&mut measured, findings);
-    let mut text = Text::new(alloc, measured.lost(), false)?;
-    page.write(&mut text, findings);
-    Ok(text)
+    mention(reasons.as_bytes(), &mut named)?;
+    Table::of(alloc, subject, exchanges, &named, view)
 }

@@ -77,11 +77,21 @@ impl<'a> Scene<'a> {
             strips: Vec::new(alloc),
         };
         if let Some(window) = scene.window {
-            scene.take_messages(alloc, &subject.capture, Choice { window, exchanges })?;
-            scene.take_order(alloc, subject.fault.entries_before(subject.order))?;
-            scene.take_bands(alloc, window)?;
+            scene.take(alloc, subject, Choice { window, exchanges })?;
         }
         Ok(scene)
+    }
+
+    /// Takes in what is drawn of a capture.
+    fn take(
+        &mut self,
+        alloc: Global,
+        subject: &Subject<'a, '_>,
+        choice: Choice<'_>,
+    ) -> Result<(), AllocError> {
+        self.take_messages(alloc, &subject.capture, choice)?;
+        self.take_order(alloc, subject.fault.entries_before(subject.order))?;
+        self.take_bands(alloc, choice.window)
     }
 
     /// Takes in the messages of a capture.
