@@ -3,6 +3,7 @@
 ghost use Rattle.std.specs.Prelude.{◌≡◌, ◌↔◌, ◌<◌, ◌∷◌, ◌++◌, List, [], OnOk, OnErr, IfOk, IfErr, IfSome, IsTrue, option_map};
 ghost use Rattle.fa_capture.specs.Checks.{AllHold, FirstFailure};
 ghost use Rattle.fa_capture.specs.Message.{Message, message};
+ghost use Rattle.fa_capture.specs.declared.packet.Direction.TheVariants.{ToServer, FromServer};
 ghost use Rattle.fa_capture.specs.declared.limits.TheConstants.{MAX_MESSAGES};
 ghost use Rattle.fa_bodies.specs.Requests.{request_shown};
 ghost use Rattle.fa_session.specs.declared.error.SessionError.TheVariants.{Memory};
@@ -113,43 +114,68 @@ impl<'a> Session<'a> {
         ensures refused { IfErr result (λ error. (c : List Message) → Shows c self.old → IsRefusal c (message packet.now) error) }
         ensures unchanged { OnErr result (self.new ≡ self.old) }
     {
+        // A function for each direction, so that a call makes room for what one of them needs, not for that of both.
         match packet.direction {
-            Direction::ToServer => {
-                let message = RequestMessage {
-                    bytes: packet.bytes,
-                    request: request(packet)?,
-                };
-                self.check_request(&message.request)?;
-                let at = self.note_request(&message)?;
-                Ok(Event::Asked { at, message })
-            }
-            Direction::FromServer => {
-                let head = reply_head(packet)?;
-                if self.is_empty() {
-                    return Err(SessionError::Refused(codes::FIRST_NOT_INIT));
-                }
-                if head.unique == 0 {
-                    let at = self.next_number();
-                    return Ok(Event::Notice { at });
-                }
-                let Some((asked, message)) = self.waiting_for(head.unique) else {
-                    return Err(SessionError::Refused(codes::NO_REQUEST_WAITS));
-                };
-                let messages = ReplyMessages {
-                    to: message,
-                    bytes: packet.bytes,
-                    reply: reply_body(&message.request, packet)?,
-                };
-                check_reply(&messages.to.request, &messages.reply)?;
-                let flags = agreed_flags(&messages.to.request.body, &messages.reply);
-                let at = self.note_reply(head.unique, flags);
-                Ok(Event::Answered {
-                    at,
-                    asked,
-                    messages,
-                })
-            }
+            Direction::ToServer => self.accept_to_server(packet),
+            Direction::FromServer => self.accept_from_server(packet),
         }
+    }
+
+    /// Takes the next message, one to the server, as [`accept`](Session::accept) does.
+    fn accept_to_server(&mut self, packet: &Packet<'a>) -> Result<Event<'a>, SessionError>
+        requires few { self.old.messages < MAX_MESSAGES }
+        requires direction { packet.now.direction ≡ ToServer }
+        ensures passes { OnOk result ((c : List Message) → Shows c self.old → IsAllowed c (message packet.now)) }
+        ensures shows { OnOk result ((c : List Message) → Shows c self.old → Shows (c ++ message packet.now ∷ []) self.new) }
+        ensures event { IfOk result (λ event. (c : List Message) → Shows c self.old → IsEvent c (message packet.now) (event_shown event)) }
+        ensures bytes { IfOk result (HasBytes packet.now.bytes.now) }
+        ensures refused { IfErr result (λ error. (c : List Message) → Shows c self.old → IsRefusal c (message packet.now) error) }
+        ensures unchanged { OnErr result (self.new ≡ self.old) }
+    {
+        let message = RequestMessage {
+            bytes: packet.bytes,
+            request: request(packet)?,
+        };
+        self.check_request(&message.request)?;
+        let at = self.note_request(&message)?;
+        Ok(Event::Asked { at, message })
+    }
+
+    /// Takes the next message, one from the server, as [`accept`](Session::accept) does.
+    fn accept_from_server(&mut self, packet: &Packet<'a>) -> Result<Event<'a>, SessionError>
+        requires few { self.old.messages < MAX_MESSAGES }
+        requires direction { packet.now.direction ≡ FromServer }
+        ensures passes { OnOk result ((c : List Message) → Shows c self.old → IsAllowed c (message packet.now)) }
+        ensures shows { OnOk result ((c : List Message) → Shows c self.old → Shows (c ++ message packet.now ∷ []) self.new) }
+        ensures event { IfOk result (λ event. (c : List Message) → Shows c self.old → IsEvent c (message packet.now) (event_shown event)) }
+        ensures bytes { IfOk result (HasBytes packet.now.bytes.now) }
+        ensures refused { IfErr result (λ error. (c : List Message) → Shows c self.old → IsRefusal c (message packet.now) error) }
+        ensures unchanged { OnErr result (self.new ≡ self.old) }
+    {
+        let head = reply_head(packet)?;
+        if self.is_empty() {
+            return Err(SessionError::Refused(codes::FIRST_NOT_INIT));
+        }
+        if head.unique == 0 {
+            let at = self.next_number();
+            return Ok(Event::Notice { at });
+        }
+        let Some((asked, message)) = self.waiting_for(head.unique) else {
+            return Err(SessionError::Refused(codes::NO_REQUEST_WAITS));
+        };
+        let messages = ReplyMessages {
+            to: message,
+            bytes: packet.bytes,
+            reply: reply_body(&message.request, packet)?,
+        };
+        check_reply(&messages.to.request, &messages.reply)?;
+        let flags = agreed_flags(&messages.to.request.body, &messages.reply);
+        let at = self.note_reply(head.unique, flags);
+        Ok(Event::Answered {
+            at,
+            asked,
+            messages,
+        })
     }
 
     /// How many messages came.
