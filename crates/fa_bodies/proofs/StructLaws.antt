@@ -14,7 +14,7 @@ use Rattle.fa_bodies.specs.declared.init.InitIn.{InitIn}
 use Rattle.fa_bodies.specs.declared.init.Negotiated.{Negotiated}
 use Rattle.fa_bodies.specs.Fields.{Field, BeginsWith}
 use Rattle.fa_bodies.specs.Fields.Field.{U32, U64, Unread}
-use Rattle.fa_bodies.specs.Structs.{entry_out, init_in, init_out, getattr_in, setattr_in, open_in, read_in, release_in, flush_in, attr_out, open_out, write_out}
+use Rattle.fa_bodies.specs.Structs.{attr, entry_out, init_in, init_out, getattr_in, setattr_in, open_in, read_in, release_in, flush_in, attr_out, open_out, write_out}
 use Rattle.fa_bodies.proofs.FieldLaws.{fields-one}
 
 -- Each struct from its fields; what other fields give is of no interest.
@@ -83,6 +83,9 @@ write_out_of _ = 0
 
 pub entry-one : (a b : EntryOut) (bytes r s : List ℕ) → BeginsWith bytes (entry_out a) r → BeginsWith bytes (entry_out b) s → a ≡ b
 entry-one a b bytes r s p q = ap (entry_of a) (fields-one (entry_out a) (entry_out b) bytes r s (refl, tt) p q).0
+
+pub attr-one : (a b : Attributes) (bytes r s : List ℕ) → BeginsWith bytes (attr a) r → BeginsWith bytes (attr b) s → a ≡ b
+attr-one a b bytes r s p q = ap (attr_of a) (fields-one (attr a) (attr b) bytes r s (refl, tt) p q).0
 
 pub init_in-one : (a b : InitIn) (bytes r s : List ℕ) → BeginsWith bytes (init_in a) r → BeginsWith bytes (init_in b) s → a ≡ b
 init_in-one a b bytes r s p q = ap (init_in_of a) (fields-one (init_in a) (init_in b) bytes r s tt p q).0

@@ -1,11 +1,13 @@
 -- What structs say that are read when they are asked for.
-use Rattle.std.proofs.Common.{◌≡◌, ℕ, ◌+◌, ◌<◌, ◌≤◌, ◌^◌, List, [], ◌∷◌, ◌++◌, length, take, drop, refl, sym, ap, ◌∙◌, subst, arith}
+use Rattle.std.proofs.Common.{◌≡◌, ℕ, ◌<◌, ◌≤◌, ◌^◌, List, [], ◌∷◌, ◌++◌, length, take, drop, refl, sym, ap, ◌∙◌, subst, arith}
 use Rattle.std.specs.Int.{w32, from_le_bytes}
 use Rattle.std.proofs.lemmas.List.{take_at, drop_at, length-drop, drop-drop, nil_from_length}
 use Rattle.std.proofs.lemmas.Nat.{from_le_bytes-to_le_bytes_4}
 use Rattle.fa_bodies.specs.declared.attributes.AttrOut.{AttrOut}
+use Rattle.fa_bodies.specs.declared.attributes.Attributes.{Attributes}
 use Rattle.fa_bodies.specs.declared.entry.EntryOut.{EntryOut}
 use Rattle.fa_bodies.specs.declared.flags.FattrFlags.{FattrFlags}
+use Rattle.fa_bodies.specs.declared.mode.Mode.{Mode}
 use Rattle.fa_bodies.specs.declared.setattr.SetattrIn.{SetattrIn}
 use Rattle.fa_bodies.specs.Fields.{Field, BeginsWith, IsSpelled, le32, le64}
 use Rattle.fa_bodies.specs.Fields.Field.{U32, U64, Unread}
@@ -13,7 +15,7 @@ use Rattle.fa_bodies.specs.Structs.{attr, attr_out, entry_out, setattr_in}
 use Rattle.fa_bodies.specs.Listing.{u32_in, u64_in, attributes_in, entry_out_in}
 use Rattle.fa_bodies.specs.Views.{attr_out_in, setattr_in_in}
 use Rattle.fa_bodies.proofs.FieldLaws.{IsBytes, then_fields, length-le32}
-use Rattle.fa_bodies.proofs.StructLaws.{entry-one, attr_out-one, setattr_in-one}
+use Rattle.fa_bodies.proofs.StructLaws.{entry-one, attr-one, attr_out-one, setattr_in-one}
 use Rattle.fa_bodies.proofs.ItemLaws.{IsBytes-drop, u64_in-le64}
 use Rattle.fa_bodies.proofs.ListingLaws.{values_at, values-begin, attributes_begin, entry_out_begins}
 
@@ -37,6 +39,9 @@ entry_read e bytes rest fits len is = entry-one e (entry_out_in bytes) bytes res
 
 pub attr_read : (a : AttrOut) (bytes rest : List ℕ) → IsBytes bytes → 104 ≤ length bytes → BeginsWith bytes (attr_out a) rest → a ≡ attr_out_in bytes
 attr_read a bytes rest fits len is = attr_out-one a (attr_out_in bytes) bytes rest (drop 104 bytes) is (attr_out_begins bytes fits len)
+
+pub attributes_read : (a : Attributes) (bytes rest : List ℕ) → IsBytes bytes → 88 ≤ length bytes → BeginsWith bytes (attr a) rest → a ≡ attributes_in bytes
+attributes_read a bytes rest fits len is = attr-one a (attributes_in bytes) bytes rest (drop 88 bytes) is (attributes_begin bytes fits len)
 
 pub setattr_read : (s : SetattrIn) (bytes rest : List ℕ) → IsBytes bytes → 88 ≤ length bytes → BeginsWith bytes (setattr_in s) rest → s ≡ setattr_in_in bytes
 setattr_read s bytes rest fits len is = setattr_in-one s (setattr_in_in bytes) bytes rest (drop 88 bytes) is (setattr_in_begins bytes fits len)
@@ -78,6 +83,26 @@ pub nodeid_in : (bytes : List ℕ) → (entry_out_in bytes).nodeid ≡ u64_in by
 unfolding entry_out_in
 nodeid_in bytes = refl
 
+pub entry_attributes_in : (bytes : List ℕ) → (entry_out_in bytes).attr ≡ attributes_in (drop 40 bytes)
+unfolding entry_out_in
+entry_attributes_in bytes = refl
+
+pub attr_attributes_in : (bytes : List ℕ) → (attr_out_in bytes).attr ≡ attributes_in (drop 16 bytes)
+unfolding attr_out_in
+attr_attributes_in bytes = refl
+
+pub file_size_in : (bytes : List ℕ) → (attributes_in bytes).size ≡ u64_in (drop 8 bytes)
+unfolding attributes_in
+file_size_in bytes = refl
+
+pub file_mode_in : (bytes : List ℕ) → (attributes_in bytes).mode.0 ≡ u32_in (drop 60 bytes)
+unfolding attributes_in
+file_mode_in bytes = refl
+
+pub nlink_in : (bytes : List ℕ) → (attributes_in bytes).nlink ≡ u32_in (drop 64 bytes)
+unfolding attributes_in
+nlink_in bytes = refl
+
 pub valid_in : (bytes : List ℕ) → (setattr_in_in bytes).valid.0 ≡ u32_in bytes
 unfolding setattr_in_in
 valid_in bytes = refl
@@ -90,9 +115,19 @@ pub size_in : (bytes : List ℕ) → (setattr_in_in bytes).size ≡ u64_in (drop
 unfolding setattr_in_in
 size_in bytes = refl
 
--- flags are known by their bits
+pub mode_in : (bytes : List ℕ) → (setattr_in_in bytes).mode.0 ≡ u32_in (drop 68 bytes)
+unfolding setattr_in_in
+mode_in bytes = refl
+
+-- flags and modes are known by their bits
 abbrev fattr_of : ℕ → FattrFlags
 fattr_of bits = record { 0 = bits }
 
 pub fattr-one : (a b : FattrFlags) → a.0 ≡ b.0 → a ≡ b
 fattr-one a b is = ap fattr_of is
+
+abbrev mode_of : ℕ → Mode
+mode_of bits = record { 0 = bits }
+
+pub mode-one : (a b : Mode) → a.0 ≡ b.0 → a ≡ b
+mode-one a b is = ap mode_of is

@@ -1,11 +1,13 @@
 -- The structs of fuse.h that a reply and a request hold by their bytes, computed from these. Nothing is to be learned
--- here: the readers ensure that the bytes spell them.
+-- here: the readers ensure that the bytes spell them, and attributes lie within an entry or an answer that gives attributes.
 use Rattle.std.specs.Prelude.{List, ℕ, drop}
 use Rattle.fa_bodies.specs.declared.attributes.AttrOut.{AttrOut}
+use Rattle.fa_bodies.specs.declared.attributes.Attributes.{Attributes}
 use Rattle.fa_bodies.specs.declared.entry.EntryOut.{EntryOut}
 use Rattle.fa_bodies.specs.declared.setattr.SetattrIn.{SetattrIn}
 use Rattle.fa_bodies.specs.declared.views.EntryBytes.{EntryBytes}
 use Rattle.fa_bodies.specs.declared.views.AttrBytes.{AttrBytes}
+use Rattle.fa_bodies.specs.declared.views.AttributesBytes.{AttributesBytes}
 use Rattle.fa_bodies.specs.declared.views.SetattrBytes.{SetattrBytes}
 use Rattle.fa_bodies.specs.Listing.{u32_in, u64_in, attributes_in, entry_out_in}
 
@@ -43,6 +45,9 @@ entry_shown e = entry_out_in e.bytes.now
 
 abbrev pub attr_shown : AttrBytes → AttrOut
 attr_shown a = attr_out_in a.bytes.now
+
+abbrev pub attributes_shown : AttributesBytes → Attributes
+attributes_shown a = attributes_in a.bytes.now
 
 abbrev pub setattr_shown : SetattrBytes → SetattrIn
 setattr_shown s = setattr_in_in s.bytes.now

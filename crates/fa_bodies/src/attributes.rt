@@ -2,12 +2,13 @@
 
 ghost use Rattle.std.specs.Prelude.{◌≡◌, ◌≤◌, length, refl};
 ghost use Rattle.fa_bodies.specs.Structs.{attr, attr_out};
+ghost use Rattle.fa_bodies.specs.Listing.{attributes_in};
 ghost use Rattle.fa_bodies.specs.Views.{attr_out_in};
 
 use crate::block::Block;
 use crate::fields::{skip, u32_at, u64_at};
 use crate::mode::Mode;
-use crate::views::AttrBytes;
+use crate::views::{AttrBytes, AttributesBytes};
 
 /// Attributes of a file (`struct fuse_attr`). Times are seconds and nanoseconds, `size` counts
 /// bytes, and `blocks` counts 512 of them.
@@ -109,8 +110,17 @@ impl Block for AttrOut {
     ghost sized = { λ block. refl };
 }
 
+/// The attributes at the front of bytes.
+fn attributes_at(bytes: &[u8]) -> Attributes
+    requires { 88 ≤ length bytes.now }
+    ensures { result ≡ attributes_in bytes.now }
+{
+    let (attributes, _rest) = Attributes::at(bytes);
+    attributes
+}
+
 /// The attributes at the front of bytes, and how long they stay valid.
-fn attributes_at(bytes: &[u8]) -> AttrOut
+fn attr_out_at(bytes: &[u8]) -> AttrOut
     requires { 104 ≤ length bytes.now }
     ensures { result ≡ attr_out_in bytes.now }
 {
@@ -121,7 +131,7 @@ fn attributes_at(bytes: &[u8]) -> AttrOut
 impl<'a> AttrBytes<'a> {
     ghost use Rattle.std.specs.Prelude.{◌≡◌, IfSome, IfNone};
     ghost use Rattle.fa_bodies.specs.Fields.{IsSpelled};
-    ghost use Rattle.fa_bodies.specs.Views.{attr_shown};
+    ghost use Rattle.fa_bodies.specs.Views.{attr_shown, attributes_shown};
 
     /// The attributes that bytes are as a whole.
     pub(crate) fn whole(bytes: &'a [u8]) -> Option<Self>
@@ -141,6 +151,65 @@ impl<'a> AttrBytes<'a> {
     pub fn read(&self) -> AttrOut
         ensures { result ≡ attr_shown self.now }
     {
+        attr_out_at(self.bytes)
+    }
+
+    /// The attributes of the file, where they lie.
+    ///
+    /// Takes no memory, in constant time.
+    #[inline(always)]
+    pub fn attributes(&self) -> AttributesBytes<'a>
+        ensures { attributes_shown result ≡ (attr_shown self.now).attr }
+    {
+        AttributesBytes {
+            bytes: skip(self.bytes, 16),
+        }
+    }
+}
+
+impl<'a> AttributesBytes<'a> {
+    ghost use Rattle.std.specs.Prelude.{◌≡◌};
+    ghost use Rattle.fa_bodies.specs.Views.{attributes_shown};
+
+    /// The whole struct, as [`Attributes`] has it.
+    ///
+    /// Takes no memory, in constant time.
+    pub fn read(&self) -> Attributes
+        ensures { result ≡ attributes_shown self.now }
+    {
         attributes_at(self.bytes)
+    }
+
+    /// How many bytes the reply says that the file has.
+    ///
+    /// Takes no memory, in constant time.
+    #[inline(always)]
+    pub fn size(&self) -> u64
+        ensures { result ≡ (attributes_shown self.now).size }
+    {
+        let (size, _rest) = u64_at(skip(self.bytes, 8));
+        size
+    }
+
+    /// The type and the permission bits that the reply says that the file has.
+    ///
+    /// Takes no memory, in constant time.
+    #[inline(always)]
+    pub fn mode(&self) -> Mode
+        ensures { result ≡ (attributes_shown self.now).mode }
+    {
+        let (mode, _rest) = u32_at(skip(self.bytes, 60));
+        Mode::from_bits(mode)
+    }
+
+    /// How many links the reply says that the file has; of a directory, as the server counts them.
+    ///
+    /// Takes no memory, in constant time.
+    #[inline(always)]
+    pub fn nlink(&self) -> u32
+        ensures { result ≡ (attributes_shown self.now).nlink }
+    {
+        let (nlink, _rest) = u32_at(skip(self.bytes, 64));
+        nlink
     }
 }

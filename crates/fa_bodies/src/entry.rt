@@ -6,8 +6,8 @@ ghost use Rattle.fa_bodies.specs.Listing.{entry_out_in};
 
 use crate::attributes::Attributes;
 use crate::block::Block;
-use crate::fields::{u32_at, u64_at};
-use crate::views::EntryBytes;
+use crate::fields::{skip, u32_at, u64_at};
+use crate::views::{AttributesBytes, EntryBytes};
 
 /// A file as a reply gives it for a name (`struct fuse_entry_out`): its node id, how long the name and the attributes
 /// stay valid, in seconds and nanoseconds, and the attributes.
@@ -67,7 +67,7 @@ fn entry_at(bytes: &[u8]) -> EntryOut
 impl<'a> EntryBytes<'a> {
     ghost use Rattle.std.specs.Prelude.{◌≡◌, ℕ, List, IfSome, IfNone};
     ghost use Rattle.fa_bodies.specs.Fields.{BeginsWith, IsSpelled};
-    ghost use Rattle.fa_bodies.specs.Views.{entry_shown};
+    ghost use Rattle.fa_bodies.specs.Views.{attributes_shown, entry_shown};
 
     /// The entry at the front of bytes, and what stands behind it, if there are bytes enough.
     pub(crate) fn front(bytes: &'a [u8]) -> Option<(Self, &'a [u8])>
@@ -111,5 +111,17 @@ impl<'a> EntryBytes<'a> {
     {
         let (nodeid, _rest) = u64_at(self.bytes);
         nodeid
+    }
+
+    /// The attributes of the file, where they lie.
+    ///
+    /// Takes no memory, in constant time.
+    #[inline(always)]
+    pub fn attributes(&self) -> AttributesBytes<'a>
+        ensures { attributes_shown result ≡ (entry_shown self.now).attr }
+    {
+        AttributesBytes {
+            bytes: skip(self.bytes, 40),
+        }
     }
 }

@@ -50,5 +50,5 @@ pub use rename_flags::RenameFlags;
 pub use replies::{Reply, ReplyHead};
 pub use requests::{ROOT_ID, Request, RequestBody};
 pub use setattr::SetattrIn;
-pub use views::{AttrBytes, EntryBytes, SetattrBytes};
+pub use views::{AttrBytes, AttributesBytes, EntryBytes, SetattrBytes};
 pub use walking::{entries, items};

@@ -142,4 +142,15 @@ impl<'a> SetattrBytes<'a> {
         let (size, _rest) = u64_at(skip(self.bytes, 16));
         size
     }
+
+    /// The mode, which counts only where `valid` has [`FattrFlags::MODE`], and may be anything otherwise.
+    ///
+    /// Takes no memory, in constant time.
+    #[inline(always)]
+    pub fn mode(&self) -> Mode
+        ensures { result ≡ (setattr_shown self.now).mode }
+    {
+        let (mode, _rest) = u32_at(skip(self.bytes, 68));
+        Mode::from_bits(mode)
+    }
 }

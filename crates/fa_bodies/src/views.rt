@@ -20,6 +20,15 @@ pub struct AttrBytes<'a> {
     pub(crate) ghost room: { 104 ≤ length bytes.now },
 }
 
+/// [`Attributes`](crate::Attributes) where they lie in their message (`struct fuse_attr`): a field is read when it is asked for.
+#[derive(Clone, Copy, Debug)]
+pub struct AttributesBytes<'a> {
+    // The message from there on.
+    pub(crate) bytes: &'a [u8],
+    // They are at least the 88 bytes of the struct.
+    pub(crate) ghost room: { 88 ≤ length bytes.now },
+}
+
 /// A [`SetattrIn`](crate::SetattrIn) where it lies in its message (`struct fuse_setattr_in`): a field is read when it is asked for.
 #[derive(Clone, Copy, Debug)]
 pub struct SetattrBytes<'a> {

@@ -3,8 +3,9 @@
 use crate::messages::{answer_code, asked_bytes, said, to_server};
 use bitflags::Flags;
 use fa_bodies::{
-    Attributes, EntryBytes, FattrFlags, FopenFlags, GetattrFlags, InitFlags, Kind, Mode, OpenFlags,
-    OpenOut, ReadIn, ReleaseIn, RenameFlags, Reply, RequestBody, SetattrBytes, request,
+    Attributes, AttributesBytes, EntryBytes, FattrFlags, FopenFlags, GetattrFlags, InitFlags, Kind,
+    Mode, OpenFlags, OpenOut, ReadIn, ReleaseIn, RenameFlags, Reply, RequestBody, SetattrBytes,
+    request,
 };
 use fa_capture::codes::REPLY_BODY;
 use std::alloc::{AllocError, Global};
@@ -64,9 +65,10 @@ fn of_setattr(setattr: &SetattrBytes<'_>) -> Numbers {
         u64::from(s.atimensec),
         u64::from(s.mtimensec),
         u64::from(s.ctimensec),
-        u64::from(s.mode.bits()),
+        u64::from(setattr.mode().bits()),
         u64::from(s.uid),
         u64::from(s.gid),
+        u64::from(s.mode.bits()),
     ])
 }
 
@@ -231,6 +233,7 @@ const SETATTR: &[Place] = &[
     (68, 4),
     (76, 4),
     (80, 4),
+    (68, 4),
 ];
 
 const READ: &[Place] = &[(0, 8), (8, 8), (16, 4), (20, 4), (24, 8), (32, 4)];
@@ -399,26 +402,42 @@ fn of_attributes(a: &Attributes) -> Numbers {
     ])
 }
 
+/// The same where they lie, with each field that is read alone read so.
+fn of_fields(attributes: &AttributesBytes<'_>) -> Numbers {
+    let mut a = attributes.read();
+    a.size = attributes.size();
+    a.mode = attributes.mode();
+    a.nlink = attributes.nlink();
+    of_attributes(&a)
+}
+
 fn of_open(o: &OpenOut) -> Numbers {
     numbers(&[o.fh, u64::from(o.open_flags.bits())])
 }
 
-/// The fields of a success before its attributes, its attributes, and those of an open handle.
-fn of_reply(reply: &Reply<'_>) -> [Numbers; 3] {
+/// The fields of a success before its attributes, its attributes, twice, and those of an open handle.
+fn of_reply(reply: &Reply<'_>) -> [Numbers; 4] {
     let none = [0; 15];
     match reply {
-        Reply::Entry(entry) => [of_entry(entry), of_attributes(&entry.read().attr), none],
+        Reply::Entry(entry) => [
+            of_entry(entry),
+            of_attributes(&entry.read().attr),
+            of_fields(&entry.attributes()),
+            none,
+        ],
         Reply::Created { entry, open } => [
             of_entry(entry),
             of_attributes(&entry.read().attr),
+            of_fields(&entry.attributes()),
             of_open(open),
         ],
         Reply::Attributes(attributes) => {
             let a = attributes.read();
             let valid = numbers(&[a.attr_valid, u64::from(a.attr_valid_nsec)]);
-            [valid, of_attributes(&a.attr), none]
+            let fields = of_fields(&attributes.attributes());
+            [valid, of_attributes(&a.attr), fields, none]
         }
-        Reply::Opened(o) => [none, none, of_open(o)],
+        Reply::Opened(o) => [none, none, none, of_open(o)],
         Reply::Negotiated(n) => {
             let flags = u64::from(n.flags.bits());
             let listed = [
@@ -427,9 +446,9 @@ fn of_reply(reply: &Reply<'_>) -> [Numbers; 3] {
                 u64::from(n.max_readahead),
                 flags,
             ];
-            [numbers(&listed), none, none]
+            [numbers(&listed), none, none, none]
         }
-        _ => [none, none, none],
+        _ => [none, none, none, none],
     }
 }
 
@@ -496,6 +515,7 @@ fn is_success_read(alloc: Global, opcode: u32, len: usize, places: [&[Place]; 3]
     let [before, attributes, behind] = places;
     let expected = [
         numbers_at(&body, before),
+        numbers_at(&body, attributes),
         numbers_at(&body, attributes),
         numbers_at(&body, behind),
     ];
