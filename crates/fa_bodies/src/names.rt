@@ -1,25 +1,27 @@
 //! Names and targets in requests.
 
 ghost use Rattle.std.specs.Prelude.{◌≡◌, ◌↔◌, ℕ, List, [], ◌∷◌, ◌++◌, IsTrue, IfSome, IfNone};
-ghost use Rattle.fa_bodies.specs.Names.{LacksByte, IsNameByte, IsFilename, IsName, IsTarget};
+ghost use Rattle.fa_bodies.specs.Names.{LacksByte, IsFilename, IsName, IsTarget};
 ghost use Rattle.fa_bodies.specs.Fields.{BeginsWith, IsSpelled};
 ghost use Rattle.fa_bodies.specs.Fields.Field.{Name, Target};
 
 /// The most bytes that a name may have (`FUSE_NAME_MAX` of Linux).
 pub const MAX_NAME: usize = 1024;
 
-/// Whether a byte may stand in a filename: it is neither zero nor a slash.
-fn is_name_byte(byte: u8) -> bool
-    ensures { IsTrue result ↔ IsNameByte byte }
+/// Whether none of the bytes is this one.
+#[inline(always)]
+fn lacks_byte(bytes: &[u8], byte: u8) -> bool
+    ensures { IsTrue result ↔ LacksByte byte bytes.now }
 {
-    byte != 0 && byte != b'/'
+    // `contains` looks at many bytes at a time, as a test of one's own in `all` or `any` does not.
+    !bytes.contains(&byte)
 }
 
 /// Whether bytes are a filename: 1 to 1,024 bytes without zero byte and slash.
 pub(crate) fn is_filename(bytes: &[u8]) -> bool
     ensures { IsTrue result ↔ IsFilename bytes.now }
 {
-    !bytes.is_empty() && bytes.len() <= MAX_NAME && bytes.iter().all(|b| is_name_byte(*b))
+    !bytes.is_empty() && bytes.len() <= MAX_NAME && lacks_byte(bytes, 0) && lacks_byte(bytes, b'/')
 }
 
 /// Whether bytes are a name as a request may have it: a filename of POSIX, which is 1 to 1,024 bytes without zero byte and
@@ -39,7 +41,7 @@ pub fn is_name(bytes: &[u8]) -> bool
 pub fn is_target(bytes: &[u8]) -> bool
     ensures { IsTrue result ↔ IsTarget bytes.now }
 {
-    !bytes.is_empty() && bytes.iter().all(|b| *b != 0)
+    !bytes.is_empty() && lacks_byte(bytes, 0)
 }
 
 /// The bytes before the first of this value, and those behind it.
