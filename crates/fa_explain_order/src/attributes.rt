@@ -372,7 +372,7 @@ fn size_origin(text: &mut Text, scene: &Scene<'_>, expected: &Expected) {
 /// Whether the request is a SETATTR that sets these.
 fn sets(scene: &Scene<'_>, flags: FattrFlags) -> bool {
     match scene.case.action() {
-        Some(Action::Setattr { setattr, .. }) => setattr.valid.contains(flags),
+        Some(Action::Setattr { setattr, .. }) => setattr.valid().contains(flags),
         _ => false,
     }
 }

@@ -279,7 +279,7 @@ fn cause_of_directory(action: &Action<'_>) -> Option<&'static str> {
             Some("the node is a directory")
         }
         Action::Setattr { setattr, .. } => {
-            if setattr.valid.contains(FattrFlags::SIZE) {
+            if setattr.valid().contains(FattrFlags::SIZE) {
                 Some("the node is a directory")
             } else {
                 None

@@ -8,11 +8,13 @@ use Rattle.fa_bodies.specs.declared.handles.OpenOut.{OpenOut}
 use Rattle.fa_bodies.specs.declared.mode.Mode.{Mode}
 use Rattle.fa_bodies.specs.declared.rename_flags.RenameFlags.{RenameFlags}
 use Rattle.fa_bodies.specs.declared.setattr.SetattrIn.{SetattrIn}
+use Rattle.fa_bodies.specs.declared.views.EntryBytes.{EntryBytes}
 use Rattle.fa_bodies.specs.Dirents.{PlainDirent}
 use Rattle.fa_bodies.specs.Listing.{entries_left}
 use Rattle.fa_bodies.specs.Replies.{PlainReply}
 use Rattle.fa_bodies.specs.Replies.PlainReply.{Refused, Empty, Entry, Created, Attributes, Opened, Written, Bytes, Listed}
 use Rattle.fa_bodies.specs.Requests.{PlainBody}
+use Rattle.fa_bodies.specs.Views.{entry_shown, attr_shown, setattr_shown}
 use Rattle.fa_ledger.specs.declared.operation.Action.{Action}
 use Rattle.fa_ledger.specs.declared.operation.Action.TheVariants as declared
 use Rattle.fa_ledger.specs.declared.operation.List.{List as ListRequest}
@@ -21,8 +23,8 @@ use Rattle.fa_ledger.specs.declared.operation.Operation.TheVariants as variants
 use Rattle.fa_ledger.specs.declared.operation.Outcome.{Outcome}
 use Rattle.fa_ledger.specs.declared.operation.Outcome.TheVariants.{Fails, Succeeds, Unanswered}
 
--- What a tree request that does not list asks for, without where its names and payloads lie in memory, each with what came of it: an
--- error, a success with what it says, or no answer.
+-- What a tree request that does not list asks for, without where its names, its payload and the structs of its messages lie in memory,
+-- each with what came of it: an error, a success with what it says, or no answer.
 pub data PlainAction : Type 0 where
   Lookup : (name : List ℕ) → Outcome EntryOut → PlainAction
   Getattr : Outcome AttrOut → PlainAction
@@ -159,24 +161,28 @@ ended (Acts a) = action_ended a
 
 -- ---- what the code's words show
 
+-- the entry that CREATE answers, with its open handle
+abbrev pub created_shown : EntryBytes × OpenOut → EntryOut × OpenOut
+created_shown made = (entry_shown made.0, made.1)
+
 abbrev pub action_shown : Action → PlainAction
-action_shown (declared.Lookup name o) = Lookup name.now o
-action_shown (declared.Getattr o) = Getattr o
-action_shown (declared.Setattr s o) = Setattr s o
+action_shown (declared.Lookup name o) = Lookup name.now (with_success entry_shown o)
+action_shown (declared.Getattr o) = Getattr (with_success attr_shown o)
+action_shown (declared.Setattr s o) = Setattr (setattr_shown s) (with_success attr_shown o)
 action_shown (declared.Readlink o) = Readlink (with_success (λ bytes. bytes.now) o)
-action_shown (declared.Symlink name target o) = Symlink name.now target.now o
-action_shown (declared.Mknod mode umask name o) = Mknod mode umask name.now o
-action_shown (declared.Mkdir mode umask name o) = Mkdir mode umask name.now o
+action_shown (declared.Symlink name target o) = Symlink name.now target.now (with_success entry_shown o)
+action_shown (declared.Mknod mode umask name o) = Mknod mode umask name.now (with_success entry_shown o)
+action_shown (declared.Mkdir mode umask name o) = Mkdir mode umask name.now (with_success entry_shown o)
 action_shown (declared.Unlink name o) = Unlink name.now o
 action_shown (declared.Rmdir name o) = Rmdir name.now o
 action_shown (declared.Rename old_name new_name o) = Rename old_name.now new_name.now o
 action_shown (declared.Rename2 flags old_name new_name o) = Rename2 flags old_name.now new_name.now o
-action_shown (declared.Link new_name o) = Link new_name.now o
+action_shown (declared.Link new_name o) = Link new_name.now (with_success entry_shown o)
 action_shown (declared.Open o) = Open o
 action_shown (declared.Read offset size o) = Read offset size (with_success (λ bytes. bytes.now) o)
 action_shown (declared.Write offset size payload o) = Write offset size payload.now o
 action_shown (declared.Opendir o) = Opendir o
-action_shown (declared.Create flags mode umask name o) = Create flags mode umask name.now o
+action_shown (declared.Create flags mode umask name o) = Create flags mode umask name.now (with_success created_shown o)
 
 abbrev pub list_shown : ListRequest → PlainList
 list_shown l = record { size = l.size; outcome = with_success entries_left l.outcome }

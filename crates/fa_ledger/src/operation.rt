@@ -5,12 +5,13 @@ ghost use Rattle.std.specs.Option.{option_map};
 ghost use Rattle.fa_bodies.specs.Listing.{entries_left};
 ghost use Rattle.fa_bodies.specs.Requests.{body_shown};
 ghost use Rattle.fa_bodies.specs.Replies.{reply_shown};
+ghost use Rattle.fa_bodies.specs.Views.{entry_shown, attr_shown, setattr_shown};
 ghost use Rattle.fa_ledger.specs.Operations.PlainAction.{Lookup, Getattr, Setattr, Readlink, Symlink, Mknod, Mkdir, Unlink, Rmdir, Rename, Rename2, Link, Open, Read, Write, Opendir, Create};
-ghost use Rattle.fa_ledger.specs.Operations.{action_shown, operation_shown, with_success, action_of, operation_of, action_ended, ended, bare, came_to, done_in, entry_in, created_in, attributes_in, handle_in, count_in, bytes_in, dirents_in};
+ghost use Rattle.fa_ledger.specs.Operations.{action_shown, created_shown, operation_shown, with_success, action_of, operation_of, action_ended, ended, bare, came_to, done_in, entry_in, created_in, attributes_in, handle_in, count_in, bytes_in, dirents_in};
 
 use fa_bodies::{
-    AttrOut, Entries, EntryOut, Mode, OpenFlags, OpenOut, RenameFlags, Reply, RequestBody,
-    SetattrIn,
+    AttrBytes, Entries, EntryBytes, Mode, OpenFlags, OpenOut, RenameFlags, Reply, RequestBody,
+    SetattrBytes,
 };
 
 /// What came of a request whose success says a `T`.
@@ -25,22 +26,23 @@ pub enum Outcome<T> {
 }
 
 /// What a tree request that does not list asks for, each with what came of it. Nodes and file handles stand by name in its
-/// [`Call`](crate::Call), and are not here.
+/// [`Call`](crate::Call), and are not here. Entries, attributes and what SETATTR asks for stay where they lie in their messages,
+/// and of them a field is read when it is asked for.
 #[derive(Clone, Copy, Debug)]
 pub enum Action<'a> {
     /// The file of a name in a directory. The node id 0 says that the name is not there.
     Lookup {
         name: &'a [u8],
-        outcome: Outcome<EntryOut>,
+        outcome: Outcome<EntryBytes<'a>>,
     },
     /// The attributes of a file.
     Getattr {
-        outcome: Outcome<AttrOut>,
+        outcome: Outcome<AttrBytes<'a>>,
     },
     /// A change of attributes of a file.
     Setattr {
-        setattr: SetattrIn,
-        outcome: Outcome<AttrOut>,
+        setattr: SetattrBytes<'a>,
+        outcome: Outcome<AttrBytes<'a>>,
     },
     /// The target of a symbolic link.
     Readlink {
@@ -50,21 +52,21 @@ pub enum Action<'a> {
     Symlink {
         name: &'a [u8],
         target: &'a [u8],
-        outcome: Outcome<EntryOut>,
+        outcome: Outcome<EntryBytes<'a>>,
     },
     /// A new file in a directory that is neither a directory nor a symbolic link.
     Mknod {
         mode: Mode,
         umask: u32,
         name: &'a [u8],
-        outcome: Outcome<EntryOut>,
+        outcome: Outcome<EntryBytes<'a>>,
     },
     /// A new directory in a directory. The type in its mode is of no meaning.
     Mkdir {
         mode: Mode,
         umask: u32,
         name: &'a [u8],
-        outcome: Outcome<EntryOut>,
+        outcome: Outcome<EntryBytes<'a>>,
     },
     /// A name of a file that is no directory goes.
     Unlink {
@@ -92,7 +94,7 @@ pub enum Action<'a> {
     /// A file, which is the call's `other`, gets a further name in a directory.
     Link {
         new_name: &'a [u8],
-        outcome: Outcome<EntryOut>,
+        outcome: Outcome<EntryBytes<'a>>,
     },
     /// A file is opened.
     Open {
@@ -121,7 +123,7 @@ pub enum Action<'a> {
         mode: Mode,
         umask: u32,
         name: &'a [u8],
-        outcome: Outcome<(EntryOut, OpenOut)>,
+        outcome: Outcome<(EntryBytes<'a>, OpenOut)>,
     },
 }
 
@@ -155,37 +157,37 @@ fn done_as(reply: Option<&Reply<'_>>) -> Option<Outcome<()>>
 }
 
 /// What an entry comes to.
-fn entry_as(reply: Option<&Reply<'_>>) -> Option<Outcome<EntryOut>>
-    ensures { result ≡ came_to entry_in (option_map (λ r. reply_shown r.now) reply.entry) }
+fn entry_as<'a>(reply: Option<&Reply<'a>>) -> Option<Outcome<EntryBytes<'a>>>
+    ensures { option_map (λ o. with_success entry_shown o) result ≡ came_to entry_in (option_map (λ r. reply_shown r.now) reply.entry) }
 {
     match reply {
         None => Some(Outcome::Unanswered),
         Some(Reply::Refused(error)) => Some(Outcome::Fails(*error)),
-        Some(Reply::Entry(entry)) => Some(Outcome::Succeeds(entry.read())),
+        Some(Reply::Entry(entry)) => Some(Outcome::Succeeds(*entry)),
         Some(_) => None,
     }
 }
 
 /// What an entry with an open handle comes to.
-fn created_as(reply: Option<&Reply<'_>>) -> Option<Outcome<(EntryOut, OpenOut)>>
-    ensures { result ≡ came_to created_in (option_map (λ r. reply_shown r.now) reply.entry) }
+fn created_as<'a>(reply: Option<&Reply<'a>>) -> Option<Outcome<(EntryBytes<'a>, OpenOut)>>
+    ensures { option_map (λ o. with_success created_shown o) result ≡ came_to created_in (option_map (λ r. reply_shown r.now) reply.entry) }
 {
     match reply {
         None => Some(Outcome::Unanswered),
         Some(Reply::Refused(error)) => Some(Outcome::Fails(*error)),
-        Some(Reply::Created { entry, open }) => Some(Outcome::Succeeds((entry.read(), *open))),
+        Some(Reply::Created { entry, open }) => Some(Outcome::Succeeds((*entry, *open))),
         Some(_) => None,
     }
 }
 
 /// What attributes come to.
-fn attributes_as(reply: Option<&Reply<'_>>) -> Option<Outcome<AttrOut>>
-    ensures { result ≡ came_to attributes_in (option_map (λ r. reply_shown r.now) reply.entry) }
+fn attributes_as<'a>(reply: Option<&Reply<'a>>) -> Option<Outcome<AttrBytes<'a>>>
+    ensures { option_map (λ o. with_success attr_shown o) result ≡ came_to attributes_in (option_map (λ r. reply_shown r.now) reply.entry) }
 {
     match reply {
         None => Some(Outcome::Unanswered),
         Some(Reply::Refused(error)) => Some(Outcome::Fails(*error)),
-        Some(Reply::Attributes(attributes)) => Some(Outcome::Succeeds(attributes.read())),
+        Some(Reply::Attributes(attributes)) => Some(Outcome::Succeeds(*attributes)),
         Some(_) => None,
     }
 }
@@ -260,7 +262,7 @@ impl<'a> Action<'a> {
         match body {
             RequestBody::Lookup { name } => Action::lookup(*name, reply),
             RequestBody::Getattr(_) => Action::getattr(reply),
-            RequestBody::Setattr(setattr) => Action::setattr(setattr.read(), reply),
+            RequestBody::Setattr(setattr) => Action::setattr(*setattr, reply),
             RequestBody::Readlink => Action::readlink(reply),
             RequestBody::Symlink { name, target } => Action::symlink(*name, *target, reply),
             RequestBody::Mknod {
@@ -331,8 +333,8 @@ impl<'a> Action<'a> {
     }
 
     /// What a SETATTR asks for that was answered so, or was not answered.
-    fn setattr(setattr: SetattrIn, reply: Option<&Reply<'a>>) -> Option<Action<'a>>
-        ensures { option_map action_shown result ≡ option_map (λ o. Setattr setattr o) (came_to attributes_in (option_map (λ r. reply_shown r.now) reply.entry)) }
+    fn setattr(setattr: SetattrBytes<'a>, reply: Option<&Reply<'a>>) -> Option<Action<'a>>
+        ensures { option_map action_shown result ≡ option_map (λ o. Setattr (setattr_shown setattr.entry) o) (came_to attributes_in (option_map (λ r. reply_shown r.now) reply.entry)) }
     {
         Some(Action::Setattr {
             setattr,

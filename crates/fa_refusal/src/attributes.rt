@@ -4,7 +4,7 @@ use crate::bindings::directory_listed;
 use crate::case::Case;
 use crate::listings::{gives_node, kind_number};
 use bitflags::Flags;
-use fa_bodies::{Attributes, Dirent, FattrFlags, Mode, SetattrIn};
+use fa_bodies::{Attributes, Dirent, FattrFlags, Mode, SetattrBytes};
 use fa_ledger::{Action, List, Operation, Outcome};
 use fa_tree::{FileFacts, FileId, Kind, Tree};
 
@@ -121,15 +121,15 @@ fn attributes_told(action: &Action<'_>) -> Option<Attributes> {
         | Action::Mknod { outcome, .. }
         | Action::Mkdir { outcome, .. }
         | Action::Link { outcome, .. } => match outcome {
-            Outcome::Succeeds(entry) => Some(entry.attr),
+            Outcome::Succeeds(entry) => Some(entry.attributes().read()),
             _ => None,
         },
         Action::Getattr { outcome } | Action::Setattr { outcome, .. } => match outcome {
-            Outcome::Succeeds(told) => Some(told.attr),
+            Outcome::Succeeds(told) => Some(told.attributes().read()),
             _ => None,
         },
         Action::Create { outcome, .. } => match outcome {
-            Outcome::Succeeds((entry, _)) => Some(entry.attr),
+            Outcome::Succeeds((entry, _)) => Some(entry.attributes().read()),
             _ => None,
         },
         _ => None,
@@ -195,12 +195,12 @@ fn made(kind: Kind, mode: Mode, umask: u32) -> Expected {
 
 impl Expected {
     /// The same behind a SETATTR.
-    fn behind_setattr(mut self, setattr: &SetattrIn) -> Self {
-        if setattr.valid.contains(FattrFlags::MODE) {
-            self.bits = setattr.mode.bits() & 0o777;
+    fn behind_setattr(mut self, setattr: &SetattrBytes<'_>) -> Self {
+        if setattr.valid().contains(FattrFlags::MODE) {
+            self.bits = setattr.mode().bits() & 0o777;
         }
-        if setattr.valid.contains(FattrFlags::SIZE) {
-            self.size = setattr.size;
+        if setattr.valid().contains(FattrFlags::SIZE) {
+            self.size = setattr.size();
         }
         self
     }

@@ -5,7 +5,7 @@ use crate::case::{Case, NamedPlace};
 use crate::paths::path_of;
 use bitflags::Flags;
 use fa_bodies::errno::{EEXIST, EISDIR, ENOENT, ENOTDIR, ENOTEMPTY};
-use fa_bodies::{Entries, FattrFlags, OpenFlags, RenameFlags, RequestBody, SetattrIn, request};
+use fa_bodies::{Entries, FattrFlags, OpenFlags, RenameFlags, RequestBody, SetattrBytes, request};
 use fa_capture::{Direction, Packet};
 use fa_ledger::{Action, NodeName, Operation, Outcome};
 use fa_tree::{FileId, Kind, Tree};
@@ -488,13 +488,13 @@ fn touched_by(
     match action {
         Action::Setattr { setattr, .. } => Touched {
             bits: sets_bits(tree, file, setattr),
-            bytes: if setattr.valid.contains(FattrFlags::SIZE) {
-                Some(parted(size, setattr.size))
+            bytes: if setattr.valid().contains(FattrFlags::SIZE) {
+                Some(parted(size, setattr.size()))
             } else {
                 None
             },
-            filled: setattr.size,
-            cuts: setattr.valid.contains(FattrFlags::SIZE) && setattr.size < size,
+            filled: setattr.size(),
+            cuts: setattr.valid().contains(FattrFlags::SIZE) && setattr.size() < size,
         },
         Action::Open { .. } | Action::Create { .. } => Touched {
             bits: false,
@@ -521,8 +521,8 @@ fn touched_by(
 }
 
 /// Whether a SETATTR sets the permission bits of a file: a symbolic link keeps its own.
-fn sets_bits(tree: &Tree, file: FileId, setattr: &SetattrIn) -> bool {
-    setattr.valid.contains(FattrFlags::MODE)
+fn sets_bits(tree: &Tree, file: FileId, setattr: &SetattrBytes<'_>) -> bool {
+    setattr.valid().contains(FattrFlags::MODE)
         && match tree.facts(file) {
             Some(facts) => facts.kind != Kind::Symlink,
             None => false,

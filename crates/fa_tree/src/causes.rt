@@ -1,6 +1,6 @@
 //! Whether an error that a tree determines has its cause.
 
-ghost use Rattle.std.specs.Prelude.{◌≡◌, ◌↔◌, ◌⊎◌, Option, IsTrue};
+ghost use Rattle.std.specs.Prelude.{◌↔◌, ◌⊎◌, Option, IsTrue};
 ghost use Rattle.fa_ledger.specs.Operations.{action_shown};
 ghost use Rattle.fa_tree.specs.State.{OpenDirectory, IsFree, IsDirectory, IsLinked, IsThere};
 ghost use Rattle.fa_tree.specs.Resolved.{OfOther};
@@ -266,7 +266,7 @@ impl Stored {
                 self.is_directory(node)
             }
             Action::Setattr { setattr, .. } => {
-                setattr.valid.contains(FattrFlags::SIZE) && self.is_directory(node)
+                setattr.valid().contains(FattrFlags::SIZE) && self.is_directory(node)
             }
             _ => false,
         }

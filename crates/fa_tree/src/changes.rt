@@ -4,6 +4,7 @@ ghost use Rattle.std.specs.Prelude.{◌≡◌, ◌∷◌, [], if◌then◌else�
 ghost use Rattle.std.specs.FinMap.{get};
 ghost use Rattle.fa_bodies.specs.FlagBits.{fattr_size};
 ghost use Rattle.fa_bodies.specs.Flags.{HasFlag, fattr_bits};
+ghost use Rattle.fa_bodies.specs.Views.{setattr_shown};
 ghost use Rattle.fa_ledger.specs.Operations.{action_shown};
 ghost use Rattle.fa_tree.specs.State.{OpenDirectory};
 ghost use Rattle.fa_tree.specs.Edits.Edit.{Removed};
@@ -25,7 +26,7 @@ use crate::making::{new_directory, new_node, new_regular, new_symlink};
 use crate::named::Named;
 use crate::stored::Stored;
 use bitflags::Flags;
-use fa_bodies::{FattrFlags, Mode, SetattrIn};
+use fa_bodies::{FattrFlags, Mode, SetattrBytes};
 use fa_ledger::Action;
 use std::alloc::AllocError;
 
@@ -39,13 +40,13 @@ impl Stored {
     }
 
     /// Sets attributes of a file.
-    fn set_attributes(&mut self, file: FileId, setattr: &SetattrIn) -> Result<(), AllocError>
-        ensures set { OnOk result (self.new ≡ stored_with (with_file self.old.store.files file (file_set setattr.now)) self.old) }
-        ensures grows { OnErr result (HasFlag (fattr_bits setattr.now.valid) fattr_size) }
+    fn set_attributes(&mut self, file: FileId, setattr: &SetattrBytes<'_>) -> Result<(), AllocError>
+        ensures set { OnOk result (self.new ≡ stored_with (with_file self.old.store.files file (file_set (setattr_shown setattr.now))) self.old) }
+        ensures grows { OnErr result (HasFlag (fattr_bits (setattr_shown setattr.now).valid) fattr_size) }
         ensures unchanged { OnErr result (self.new ≡ self.old) }
     {
-        if setattr.valid.contains(FattrFlags::SIZE) {
-            self.resize(file, setattr.size)?;
+        if setattr.valid().contains(FattrFlags::SIZE) {
+            self.resize(file, setattr.size())?;
         }
         self.set_mode(file, setattr);
         Ok(())
@@ -76,11 +77,11 @@ impl Stored {
     }
 
     /// Sets the permission bits of a file that SETATTR leaves.
-    fn set_mode(&mut self, file: FileId, setattr: &SetattrIn)
-        ensures { self.new ≡ stored_with (with_file self.old.store.files file (mode_set setattr.now)) self.old }
+    fn set_mode(&mut self, file: FileId, setattr: &SetattrBytes<'_>)
+        ensures { self.new ≡ stored_with (with_file self.old.store.files file (mode_set (setattr_shown setattr.now))) self.old }
     {
-        if setattr.valid.contains(FattrFlags::MODE) && !self.is_symlink(file) {
-            self.files.set_bits(file, permission_bits(setattr.mode));
+        if setattr.valid().contains(FattrFlags::MODE) && !self.is_symlink(file) {
+            self.files.set_bits(file, permission_bits(setattr.mode()));
         }
     }
 

@@ -3,6 +3,7 @@
 ghost use Rattle.std.specs.Prelude.{◌≡◌, ◌↔◌, ℕ, List, Option, Some, IsTrue};
 ghost use Rattle.std.specs.FinMap.{get};
 ghost use Rattle.fa_tree.specs.declared.id.FileId.{FileId};
+ghost use Rattle.fa_bodies.specs.Views.{setattr_shown};
 ghost use Rattle.fa_ledger.specs.Operations.{action_shown};
 ghost use Rattle.fa_tree.specs.State.{HasName, IsDirectory, IsBelow, OpenDirectory};
 ghost use Rattle.fa_tree.specs.Operations.{action_rule};
@@ -17,15 +18,15 @@ use crate::id::FileId;
 use crate::named::Named;
 use crate::stored::Stored;
 use bitflags::Flags;
-use fa_bodies::{FattrFlags, OpenFlags, SetattrIn};
+use fa_bodies::{FattrFlags, OpenFlags, SetattrBytes};
 use fa_ledger::Action;
 
 impl Stored {
     /// Whether SETATTR may succeed on a file.
-    pub(crate) fn may_be_set(&self, file: FileId, setattr: &SetattrIn) -> bool
-        ensures { IsTrue result ↔ MayBeSet self.now.store file setattr.now }
+    pub(crate) fn may_be_set(&self, file: FileId, setattr: &SetattrBytes<'_>) -> bool
+        ensures { IsTrue result ↔ MayBeSet self.now.store file (setattr_shown setattr.now) }
     {
-        !setattr.valid.contains(FattrFlags::SIZE) || self.is_regular(file)
+        !setattr.valid().contains(FattrFlags::SIZE) || self.is_regular(file)
     }
 
     /// Whether a file may be made in a directory under a name.

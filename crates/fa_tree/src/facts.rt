@@ -1,10 +1,11 @@
 //! What attributes of a file are judged by.
 
 ghost use Rattle.std.specs.Prelude.{◌≡◌, ◌↔◌, ◌+◌, if◌then◌else◌, IsTrue};
+ghost use Rattle.fa_bodies.specs.Views.{attributes_shown};
 ghost use Rattle.fa_tree.specs.parts.FactParts.{AreFit, AreNewFacts};
 
 use crate::file::permission_bits;
-use fa_bodies::{Attributes, Kind};
+use fa_bodies::{AttributesBytes, Kind};
 
 /// What attributes of a file are judged by.
 #[derive(Clone, Copy, Debug)]
@@ -36,13 +37,14 @@ impl Facts {
     }
 
     /// Whether the attributes of a reply are those of the file.
-    pub fn fit(&self, attr: &Attributes) -> bool
-        ensures { IsTrue result ↔ AreFit self.now attr.now }
+    pub fn fit(&self, attr: AttributesBytes<'_>) -> bool
+        ensures { IsTrue result ↔ AreFit self.now (attributes_shown attr.entry) }
     {
-        attr.mode.file_type() == Some(self.kind)
-            && (self.kind == Kind::Symlink || permission_bits(attr.mode) == self.bits)
-            && (self.kind != Kind::Regular || attr.size == self.size as u64)
-            && (self.kind == Kind::Directory || self.has_links(attr.nlink))
+        let mode = attr.mode();
+        mode.file_type() == Some(self.kind)
+            && (self.kind == Kind::Symlink || permission_bits(mode) == self.bits)
+            && (self.kind != Kind::Regular || attr.size() == self.size as u64)
+            && (self.kind == Kind::Directory || self.has_links(attr.nlink()))
     }
 
     /// Whether the file has so many names.

@@ -2,6 +2,7 @@
 
 ghost use Rattle.std.specs.Prelude.{◌≡◌, ◌↔◌, ℕ, List, Bool, Option, false, None, IsTrue, IfSome, IfNone};
 ghost use Rattle.std.specs.FinMap as map;
+ghost use Rattle.fa_bodies.specs.Views.{attributes_shown, setattr_shown};
 ghost use Rattle.fa_ledger.specs.Operations.{action_shown};
 ghost use Rattle.fa_ledger.specs.Operations.PlainOperation.{Acts};
 ghost use Rattle.fa_tree.specs.declared.id.FileId.{FileId};
@@ -20,26 +21,26 @@ use crate::making::{new_bits, node_kind};
 use crate::named::Named;
 use crate::stored::Stored;
 use bitflags::Flags;
-use fa_bodies::{Attributes, FattrFlags, Kind, SetattrIn};
+use fa_bodies::{AttributesBytes, FattrFlags, Kind, SetattrBytes};
 use fa_ledger::{Action, Outcome};
 
 /// The permission bits that SETATTR leaves.
-fn bits_set(setattr: &SetattrIn, kind: Kind, bits: u32) -> u32
-    ensures { result ≡ bits_set setattr.now kind bits }
+fn bits_set(setattr: &SetattrBytes<'_>, kind: Kind, bits: u32) -> u32
+    ensures { result ≡ bits_set (setattr_shown setattr.now) kind bits }
 {
-    if kind == Kind::Symlink || !setattr.valid.contains(FattrFlags::MODE) {
+    if kind == Kind::Symlink || !setattr.valid().contains(FattrFlags::MODE) {
         bits
     } else {
-        permission_bits(setattr.mode)
+        permission_bits(setattr.mode())
     }
 }
 
 /// How many bytes SETATTR leaves.
-fn size_set(setattr: &SetattrIn, size: usize) -> usize
-    ensures { result ≡ size_set setattr.now size }
+fn size_set(setattr: &SetattrBytes<'_>, size: usize) -> usize
+    ensures { result ≡ size_set (setattr_shown setattr.now) size }
 {
-    if setattr.valid.contains(FattrFlags::SIZE) {
-        setattr.size as usize
+    if setattr.valid().contains(FattrFlags::SIZE) {
+        setattr.size() as usize
     } else {
         size
     }
@@ -66,8 +67,8 @@ fn is_found_as(found: Option<FileId>, nodeid: u64) -> bool
 }
 
 /// Whether attributes fit what they are judged by.
-fn fit(facts: Option<Facts>, attr: &Attributes) -> bool
-    ensures { IsTrue result ↔ FitIfAny facts attr.now }
+fn fit(facts: Option<Facts>, attr: AttributesBytes<'_>) -> bool
+    ensures { IsTrue result ↔ FitIfAny facts (attributes_shown attr.entry) }
 {
     match facts {
         Some(facts) => facts.fit(attr),
@@ -127,8 +128,8 @@ impl Stored {
     }
 
     /// What attributes of a file are judged by after SETATTR.
-    fn facts_set(&self, file: FileId, setattr: &SetattrIn) -> Option<Facts>
-        ensures { AreSetFacts self.now.store setattr.now file result }
+    fn facts_set(&self, file: FileId, setattr: &SetattrBytes<'_>) -> Option<Facts>
+        ensures { AreSetFacts self.now.store (setattr_shown setattr.now) file result }
     {
         match self.facts(file) {
             Some(facts) => Some(Facts {
@@ -223,7 +224,7 @@ impl Stored {
             Action::Lookup {
                 outcome: Outcome::Succeeds(entry),
                 ..
-            } => is_found_as(named.file, entry.nodeid),
+            } => is_found_as(named.file, entry.nodeid()),
             _ => true,
         }
     }
@@ -248,21 +249,21 @@ impl Stored {
             Action::Lookup {
                 outcome: Outcome::Succeeds(entry),
                 ..
-            } => entry.nodeid == 0 || fit(self.facts_found(named.file), &entry.attr),
+            } => entry.nodeid() == 0 || fit(self.facts_found(named.file), entry.attributes()),
             Action::Getattr {
                 outcome: Outcome::Succeeds(out),
-            } => fit(self.facts(node), &out.attr),
+            } => fit(self.facts(node), out.attributes()),
             Action::Setattr {
                 setattr,
                 outcome: Outcome::Succeeds(out),
-            } => fit(self.facts_set(node, setattr), &out.attr),
+            } => fit(self.facts_set(node, setattr), out.attributes()),
             Action::Symlink {
                 target,
                 outcome: Outcome::Succeeds(entry),
                 ..
             } => {
                 let facts = Facts::new(Kind::Symlink, 0o777, target.len());
-                facts.fit(&entry.attr)
+                facts.fit(entry.attributes())
             }
             Action::Mknod {
                 mode,
@@ -271,7 +272,7 @@ impl Stored {
                 ..
             } => {
                 let facts = Facts::new(node_kind(*mode), new_bits(*mode, *umask), 0);
-                facts.fit(&entry.attr)
+                facts.fit(entry.attributes())
             }
             Action::Mkdir {
                 mode,
@@ -280,12 +281,12 @@ impl Stored {
                 ..
             } => {
                 let facts = Facts::new(Kind::Directory, new_bits(*mode, *umask), 0);
-                facts.fit(&entry.attr)
+                facts.fit(entry.attributes())
             }
             Action::Link {
                 outcome: Outcome::Succeeds(entry),
                 ..
-            } => fit(self.facts_further(named.other), &entry.attr),
+            } => fit(self.facts_further(named.other), entry.attributes()),
             Action::Create {
                 mode,
                 umask,
@@ -293,7 +294,7 @@ impl Stored {
                 ..
             } => {
                 let facts = self.facts_created(named.file, new_bits(*mode, *umask), truncates);
-                fit(facts, &entry.attr)
+                fit(facts, entry.attributes())
             }
             _ => true,
         }

@@ -1,5 +1,6 @@
 use Rattle.std.proofs.Common.{None, subst, ◌∙◌}
-use Rattle.fa_ledger.specs.Operations.{action_shown}
+use Rattle.fa_bodies.specs.Views.{attr_shown, setattr_shown}
+use Rattle.fa_ledger.specs.Operations.{action_shown, with_success}
 use Rattle.fa_tree.specs.Operations.{action_rule}
 use Rattle.fa_tree.specs.Renaming.{rename2_rule}
 use Rattle.fa_tree.specs.parts.NamedParts.{named_shown}
@@ -61,7 +62,7 @@ link-requires-clause-other c =
 pub returns-in_ok-set_attributes-in-Setattr-clause-changed : goal.returns-in_ok-set_attributes-in-Setattr-clause-changed
 returns-in_ok-set_attributes-in-Setattr-clause-changed c = λ handle.
     rw (c.in-Setattr.is)
-    (c.in_ok-set_attributes-in-Setattr.ensures.set ∙ setattr_changed c.args.self.now (named_shown c.args.named.now handle) c.args.truncates c.in-Setattr.setattr c.in-Setattr.outcome c.args.count)
+    (c.in_ok-set_attributes-in-Setattr.ensures.set ∙ setattr_changed c.args.self.now (named_shown c.args.named.now handle) c.args.truncates (setattr_shown c.in-Setattr.setattr) (with_success attr_shown c.in-Setattr.outcome) c.args.count)
 
 pub returns-in-Open-clause-changed : goal.returns-in-Open-clause-changed
 returns-in-Open-clause-changed c = λ handle.

@@ -1,5 +1,9 @@
+use Rattle.std.proofs.Common.{◌≡◌, refl, sym, subst, ◌∙◌}
+use Rattle.fa_bodies.specs.declared.flags.FattrFlags.{FattrFlags}
+use Rattle.fa_bodies.specs.FlagBits.{fattr_mode}
+use Rattle.fa_bodies.specs.Flags.{has_flag, fattr_bits}
+use Rattle.fa_bodies.specs.Views.{setattr_shown}
 use Rattle.fa_tree.specs.parts.FileParts.{with_bits}
-use Rattle.std.proofs.Common.{refl, sym, ◌∙◌}
 use Rattle.fa_tree.specs.parts.ParentParts.{parent_noted}
 use Rattle.fa_tree.specs.parts.StoredView.{stored_shown}
 use Rattle.fa_tree.proofs.ParentLemmas.{change_keeps_parents, change_keeps_notes}
@@ -18,9 +22,11 @@ invariant_of-self c = (
 
 pub returns-else-contains : goal.returns-else-contains
 returns-else-contains c =
+    let counts : has_flag (fattr_bits (setattr_shown c.args.setattr.now).valid) fattr_mode ≡ c.contains.result =
+    subst (λ (v : FattrFlags). has_flag (fattr_bits v) fattr_mode ≡ c.contains.result) c.valid.ensures (sym (c.contains.ensures _)) in
     elim c.else-contains.branch [
       | else-contains-via-then-contains+else-not-is_symlink w ↦
-          link_left c.args.self.now c.args.file c.args.setattr.now (w.is_symlink.ensures.0 w.if-not-is_symlink.false)
+          link_left c.args.self.now c.args.file (setattr_shown c.args.setattr.now) (w.is_symlink.ensures.0 w.if-not-is_symlink.false)
       | else-contains-via-else-contains w ↦
-          mode_left c.args.self.now c.args.file c.args.setattr.now (sym (c.contains.ensures _) ∙ w.if-contains.false)
+          mode_left c.args.self.now c.args.file (setattr_shown c.args.setattr.now) (counts ∙ w.if-contains.false)
     ]
