@@ -42,6 +42,8 @@ pub use Rattle.fa_ledger.proofs.NamingLemmas.{IsTreeAnswer, IsNamedSince, IsOpen
 -- operations, and what comes of those that are answered
 pub use Rattle.fa_ledger.proofs.OperationLemmas.{operation_asked, lost, lost_made, lost_ended, ended_by, not_unanswered, listed_nodes, gives, ComesTo, WroteWithin, reply_comes}
 pub use Rattle.fa_ledger.proofs.OperationLawLemmas.{operation_made, answer_comes, calls_end_where_answered}
+-- entries of a READDIR
+pub use Rattle.fa_ledger.proofs.GivingLemmas.{readdir_gives_none}
 -- items one after the other
 pub use Rattle.fa_ledger.proofs.TakingLemmas.{moved_on}
 

@@ -1,16 +1,18 @@
 -- The entries of a listing: what holds of all that are judged, and the nodes that they give.
-use Rattle.std.proofs.Common.{append_assoc, ◌≡◌, ◌≢◌, ℕ, Bool, true, false, List, [], ◌∷◌, ◌++◌, length, Option, None, Some, refl, sym, ap, subst, ◌∙◌, ◌<◌}
-use Rattle.std.specs.Prelude.{◌↔◌, All, IsTrue, if◌then◌else◌, not, option_map}
+use Rattle.std.proofs.Common.{append_assoc, arith, ◌≡◌, ◌≢◌, ℕ, Bool, true, false, List, [], ◌∷◌, ◌++◌, length, Option, None, Some, refl, sym, ap, subst, ◌∙◌, ◌<◌}
+use Rattle.std.specs.Prelude.{◌↔◌, ◌==◌, All, IsTrue, if◌then◌else◌, not, option_map}
 use Rattle.std.specs.FinMap.{FinMap, get}
 use Rattle.std.proofs.lemmas.List.{append-nil}
 use Rattle.std.specs.Bool.{MatchBool}
 use Rattle.std.specs.List.{AllWithin, HoldsAt}
 use Rattle.std.proofs.lemmas.Bool.{MatchBool-at_true}
+use Rattle.std.proofs.lemmas.Bool.Decides.{nat_tests}
 use Rattle.std.proofs.lemmas.Iterator.Search.{true_from_All}
 use Rattle.std.proofs.lemmas.List.Elements.{All-nil, All-cons, All-head, All-tail, All-filter, All-from_all_within, filter_passes}
 use Rattle.fa_bodies.specs.declared.mode.Kind.{Kind}
 use Rattle.fa_bodies.specs.Dirents.{PlainDirent}
-use Rattle.fa_ledger.specs.Counts.{is_dots, nodes_of_entry}
+use Rattle.fa_ledger.specs.Counts.{is_dots, nodes_of_entry, nodes_of_listing}
+use Rattle.fa_ledger.specs.Mentions.{node_of}
 use Rattle.fa_ledger.specs.declared.name.NodeName.{NodeName}
 use Rattle.fa_tree.specs.declared.id.FileId.{FileId}
 use Rattle.fa_tree.specs.State.{File, Store, OpenDirectory, file_cmp}
@@ -53,15 +55,18 @@ judged_each P (d ∷ ds) each = by (not (is_dots d.name)) refl each (judged_each
     by true own each rest = All-cons (HoldsIfJudged P) d ds (λ is. All-head P d (judged ds) each) (rest (All-tail P d (judged ds) each))
     by false own each rest = All-cons (HoldsIfJudged P) d ds (λ is. let no = sym own ∙ is in absurd cc) (rest each)
 
+-- and what holds of each entry, if it is judged
+all_judged : (P : PlainDirent → Type 0) (ds : List PlainDirent) → All (HoldsIfJudged P) ds → All P (judged ds)
+all_judged P ds each =
+    let held = All-filter (λ (d : PlainDirent). not (is_dots d.name)) (HoldsIfJudged P) ds each in
+    let passed = filter_passes (λ (d : PlainDirent). not (is_dots d.name)) ds in
+    λ k d within. held k d within (passed k d within)
+
 -- a run over the entries that stops at the first which is judged and of which it does not hold
 pub run_of_judged : (P : PlainDirent → Type 0) (ds : List PlainDirent) (b : Bool)
     → MatchBool b (AllWithin (HoldsIfJudged P) ds 0 (length ds)) ((k : ℕ) × (k < length ds) × HoldsAt (FailsJudged P) ds k) → IsTrue b ↔ All P (judged ds)
 run_of_judged P ds b ran = (
-  (λ all.
-      let each = All-from_all_within (HoldsIfJudged P) ds (MatchBool-at_true _ _ all ran) in
-      let held = All-filter (λ (d : PlainDirent). not (is_dots d.name)) (HoldsIfJudged P) ds each in
-      let passed = filter_passes (λ (d : PlainDirent). not (is_dots d.name)) ds in
-      λ k d within. held k d within (passed k d within)),
+  (λ all. all_judged P ds (All-from_all_within (HoldsIfJudged P) ds (MatchBool-at_true _ _ all ran))),
   (λ each. true_from_All (HoldsIfJudged P) (FailsJudged P) b ds (λ d holds fails. fails.1 (holds fails.0)) ran (judged_each P ds each)),
 )
 
@@ -72,6 +77,32 @@ all_typed_now s directory entries told is = (
   λ t k d within. (is.0 t k d within).typed,
   λ each. is.1 (λ k d within. record { typed = each k d within }),
 )
+
+-- an entry that is judged and gives no node looks nothing up, so it has no type to fit
+bare_typed : (s : Store) (directory : FileId) (d : PlainDirent) → nodes_of_entry d.entry d.name ≡ [] → HoldsIfJudged (IsTypedIfLookedUp s directory) d
+bare_typed s directory d none is_judged entry id file is some named found = absurd (gives (is_dots d.name) is_judged (subst (λ o. nodes_of_entry o d.name ≡ []) is none))
+  where
+    unlike : (n : ℕ) (zero : Bool) → (n == 0) ≡ zero → n ≢ 0 → (if zero then [] else n ∷ []) ≡ [] → ⊥
+    unlike n true is some none = some (grind (arith, nat_tests, is))
+    unlike n false is some none = absurd cc
+
+    gives : (dots : Bool) → not dots ≡ true → (if dots then [] else node_of entry) ≡ [] → ⊥
+    gives true is none = absurd cc
+    gives false is none = unlike entry.nodeid (entry.nodeid == 0) refl some none
+
+-- nor has any entry of a listing that gives no node, if it is judged
+pub bare_all_typed : (s : Store) (directory : FileId) (ds : List PlainDirent) → nodes_of_listing ds ≡ [] → All (IsTypedIfLookedUp s directory) (judged ds)
+bare_all_typed s directory ds none = all_judged (IsTypedIfLookedUp s directory) ds (each ds none)
+  where
+    apart : (a b : List ℕ) → a ++ b ≡ [] → (a ≡ []) × (b ≡ [])
+    apart [] b is = (refl, is)
+    apart (node ∷ a) b is = absurd cc
+
+    each : (ds : List PlainDirent) → nodes_of_listing ds ≡ [] → All (HoldsIfJudged (IsTypedIfLookedUp s directory)) ds
+    each [] none = All-nil (HoldsIfJudged (IsTypedIfLookedUp s directory))
+    each (d ∷ ds) none =
+        let both = apart (nodes_of_entry d.entry d.name) (nodes_of_listing ds) none in
+        All-cons (HoldsIfJudged (IsTypedIfLookedUp s directory)) d ds (bare_typed s directory d both.0) (each ds both.1)
 
 -- each entry that is judged is allowed: what its name, its type and its node say, apart
 pub allowed_each : (s : Store) (h : OpenDirectory) (entries : List PlainDirent) (told : Bool) → IsTrue told ↔ All (IsAllowed s h) (judged entries)

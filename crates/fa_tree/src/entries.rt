@@ -114,10 +114,13 @@ impl Stored {
         self.is_typed_if_looked_up(directory, dirent)
     }
 
-    /// Whether the types in the attributes of the entries fit.
+    /// Whether the types in the attributes of the entries fit. In constant time where they are those of a READDIR, which have none.
     pub(crate) fn all_typed(&self, directory: FileId, mut entries: Entries<'_>) -> bool
         ensures { IsTrue result ↔ All (IsTypedIfLookedUp self.now.store directory) (judged (entries_left entries.entry)) }
     {
+        if !entries.is_plus() {
+            return true;
+        }
         entries.all(|dirent| !is_judged(&dirent) || self.is_typed_now(directory, &dirent))
     }
 
