@@ -22,7 +22,7 @@ use Rattle.fa_tree.specs.Rules.{with_file}
 use Rattle.fa_tree.specs.Renaming.{rename2_rule}
 use Rattle.fa_tree.specs.Contents.{file_written}
 use Rattle.fa_tree.specs.Making.{MayBeMade, HasMadeNone, MayBeCreated, emptied, files_created}
-use Rattle.fa_tree.specs.parts.StoredParts.{StoredShown, stored_changed, stored_created, stored_with, stored_opened, stored_noted}
+use Rattle.fa_tree.specs.parts.StoredParts.{StoredShown, stored_changed, stored_created, stored_with, stored_opened, stored_left}
 use Rattle.fa_tree.proofs.EditedLemmas.{each_same}
 use Rattle.fa_tree.proofs.ShapeLemmas.{creates_new}
 
@@ -100,8 +100,8 @@ still_changed t x truncates other count reads = absurd reads
 
 -- ---- a directory that is opened
 
-pub opendir_noted : (t : StoredShown) (x : Resolved) (truncates : Bool) (o : Outcome OpenOut) (asked count : ℕ)
-    → stored_opened asked x.node t ≡ stored_noted x truncates (Opendir o) asked true count t
-opendir_noted t x truncates o asked count =
+pub opendir_left : (t : StoredShown) (x : Resolved) (truncates : Bool) (o : Outcome OpenOut) (asked count : ℕ)
+    → stored_opened asked x.node t ≡ stored_left x truncates (Opendir o) asked true count t
+opendir_left t x truncates o asked count =
     let with : FinMap nat_cmp OpenDirectory → StoredShown = λ handles. record { store = t.store; handles = insert handles asked (opened t.store.names x.node) } in
     ap with (sym (stays_open t.handles))

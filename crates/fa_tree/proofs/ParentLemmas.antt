@@ -15,7 +15,7 @@ use Rattle.fa_tree.specs.Renaming.{moved, exchanged}
 use Rattle.fa_tree.specs.Rules.{with_file}
 use Rattle.fa_tree.specs.Shape.{IsTree}
 use Rattle.fa_tree.specs.parts.FileIdLaws.{same_file, file_self, other_file, tested_apart}
-use Rattle.fa_tree.specs.parts.ParentParts.{AreParents, AreNoted}
+use Rattle.fa_tree.specs.parts.ParentParts.{AreParentsNoted, AreNotesParents}
 use Rattle.fa_tree.specs.parts.NameParts.{NamesShown, edited, opened_by}
 use Rattle.fa_tree.specs.parts.StoredParts.{StoredShown, IsMadeOrNext}
 use Rattle.fa_tree.proofs.PlaceOrderLemmas.{name_left, name_goes_first, added_here, added_elsewhere, removed_elsewhere}
@@ -38,27 +38,27 @@ own_of file w old new wrote = wrote file ∙ ap (λ b. cond b w (old file)) (fil
 
 -- it is of no matter for a file that is no directory with a name
 pub others_noted : (s : Store) (file : FileId) (old new : Notes) → (IsDirectory s file → (directory : FileId) → IsParent s directory file → ⊥) → AreOthers file old new
-    → AreParents s old → AreParents s new
+    → AreParentsNoted s old → AreParentsNoted s new
 others_noted s file old new unnamed others noted of directory kind is =
     others of (λ same. unnamed (subst (IsDirectory s) same kind) directory (subst (IsParent s directory) same is)) ∙ noted of directory kind is
 
 -- ---- files change
 
 -- where files stay, parents are noted still
-pub files_keep_parents : (s : Store) (files : FinMap file_cmp File) (noted : Notes) → Stay s.files files → IsTree s → AreParents s noted
-    → AreParents (record { names = s.names; files = files }) noted
+pub files_keep_parents : (s : Store) (files : FinMap file_cmp File) (noted : Notes) → Stay s.files files → IsTree s → AreParentsNoted s noted
+    → AreParentsNoted (record { names = s.names; files = files }) noted
 files_keep_parents s files noted stay tree are of directory kind is =
     let was = tree.there directory is.0 of is.1 in
     are of directory (was_of_kind s.files files stay of Directory was.0 was.1 kind) is
 
 -- of a root alone there is none
-pub no_parents : (bits : ℕ) (noted : Notes) → AreParents (empty_tree bits).store noted
+pub no_parents : (bits : ℕ) (noted : Notes) → AreParentsNoted (empty_tree bits).store noted
 no_parents bits noted of directory kind is =
     absurd (let free : get (empty_tree bits).store.names (directory, is.0) ≡ None = get-empty _ (directory, is.0) in let clash : None ≡ Some of = sym free ∙ is.1 in cc)
 
 -- ---- a name goes
 
-pub without_parents : (s : Store) (place : Place) (noted : Notes) → AreParents s noted → AreParents (without s place) noted
+pub without_parents : (s : Store) (place : Place) (noted : Notes) → AreParentsNoted s noted → AreParentsNoted (without s place) noted
 without_parents s place noted are of directory kind is = are of directory kind (is.0, (name_left s.names place (directory, is.0) of is.1).1)
 
 -- a directory has no name once its name went
@@ -71,7 +71,7 @@ unnamed_without s place file tree there kind directory is =
 
 -- what is noted for the file of the name goes too
 pub gone_parents : (s : Store) (place : Place) (file : FileId) (old new : Notes) → IsTree s → get s.names place ≡ Some file
-    → ((of : FileId) → new of ≡ cond (file_eq of file) None (old of)) → AreParents s old → AreParents (without s place) new
+    → ((of : FileId) → new of ≡ cond (file_eq of file) None (old of)) → AreParentsNoted s old → AreParentsNoted (without s place) new
 gone_parents s place file old new tree there wrote are =
     others_noted (without s place) file old new (unnamed_without s place file tree there) (others_of file None old new wrote) (without_parents s place old are)
 
@@ -79,7 +79,7 @@ gone_parents s place file old new tree there wrote are =
 
 -- for a file for which its directory is noted, if it is one
 pub with_parents : (s : Store) (directory : FileId) (name : List ℕ) (file : FileId) (noted : Notes) → (IsDirectory s file → noted file ≡ Some directory)
-    → AreParents s noted → AreParents (with_name s directory name file) noted
+    → AreParentsNoted s noted → AreParentsNoted (with_name s directory name file) noted
 with_parents s directory name file noted own are of parent kind is =
     elim (parent_then s directory name file parent of is) [
       | inl new ↦ ap noted new.1 ∙ own (subst (IsDirectory s) new.1 kind) ∙ ap (λ p. Some p) (sym new.0)
@@ -88,8 +88,8 @@ with_parents s directory name file noted own are of parent kind is =
 
 -- a file comes, and is noted if it is a directory
 pub made_parents : (s : Store) (id directory : FileId) (name : List ℕ) (file : File) (old new : Notes) → IsTree s → get s.files id ≡ None → IsMadeOrNext s.files id
-    → (file.kind ≡ Directory → new id ≡ Some directory) → AreOthers id old new → AreParents s old
-    → AreParents (record { names = insert s.names (directory, name) id; files = insert s.files id file }) new
+    → (file.kind ≡ Directory → new id ≡ Some directory) → AreOthers id old new → AreParentsNoted s old
+    → AreParentsNoted (record { names = insert s.names (directory, name) id; files = insert s.files id file }) new
 made_parents s id directory name file old new tree none comes own others are =
     let grown : Store = record { names = s.names; files = insert s.files id file } in
     with_parents grown directory name id new
@@ -98,7 +98,7 @@ made_parents s id directory name file old new tree none comes own others are =
     (files_keep_parents s (insert s.files id file) old (put_stay s.files id file none comes) tree are))
 
 -- one that is not there has no name
-pub refused_parents : (s : Store) (id : FileId) (old new : Notes) → get s.files id ≡ None → AreOthers id old new → AreParents s old → AreParents s new
+pub refused_parents : (s : Store) (id : FileId) (old new : Notes) → get s.files id ≡ None → AreOthers id old new → AreParentsNoted s old → AreParentsNoted s new
 refused_parents s id old new none others = others_noted s id old new (λ kind directory is. none_of_kind s id Directory none kind) others
 
 -- ---- RENAME
@@ -121,7 +121,7 @@ set_own file directory was old new set noted =
     own_of file (option_map (λ _. directory) (old file)) old new set ∙ ap (option_map (λ _. directory)) noted
 
 module _ (s : Store) (old_directory : FileId) (old_name : List ℕ) (new_directory : FileId) (new_name : List ℕ) (file : FileId) (tree : IsTree s)
-    (there : HasName s old_directory old_name file) (old between new : Notes) (are : AreParents s old) (set : IsSet file new_directory between new) where
+    (there : HasName s old_directory old_name file) (old between new : Notes) (are : AreParentsNoted s old) (set : IsSet file new_directory between new) where
   abbrev left : Store
   left = without s (old_directory, old_name)
 
@@ -131,7 +131,7 @@ module _ (s : Store) (old_directory : FileId) (old_name : List ℕ) (new_directo
 
   -- over the name of another
   moved_over : (other : FileId) → get s.names (new_directory, new_name) ≡ Some other → file ≢ other → AreGone (Some other) old between
-      → AreParents (with_name (without left (new_directory, new_name)) new_directory new_name file) new
+      → AreParentsNoted (with_name (without left (new_directory, new_name)) new_directory new_name file) new
   moved_over other is apart gone =
       with_parents last new_directory new_name file new (moved_own (others file apart))
       (others_noted last file between new (λ kind d has. unnamed_without s (old_directory, old_name) file tree there kind d (has.0, (before d has.0 file has.1).1))
@@ -155,7 +155,7 @@ module _ (s : Store) (old_directory : FileId) (old_name : List ℕ) (new_directo
           one.0 (λ i. (same.0 i, same.1 i))
 
   pub moved_parents : (found : Option FileId) → get s.names (new_directory, new_name) ≡ found → found ≢ Some file → AreGone found old between
-      → AreParents (record { names = names_after (moved old_directory old_name new_directory new_name file found) s.names; files = s.files }) new
+      → AreParentsNoted (record { names = names_after (moved old_directory old_name new_directory new_name file found) s.names; files = s.files }) new
   moved_parents None is apart gone =
       with_parents left new_directory new_name file new (moved_own (gone file))
       (others_noted left file between new (unnamed_without s (old_directory, old_name) file tree there) (set_others file new_directory between new set)
@@ -163,17 +163,17 @@ module _ (s : Store) (old_directory : FileId) (old_name : List ℕ) (new_directo
   moved_parents (Some other) is apart gone = by (file_eq other file) refl
     where
       by : (b : Bool) → file_eq other file ≡ b
-          → AreParents (record { names = names_after (if b then [] else Removed old_directory old_name ∷ Removed new_directory new_name ∷ Added new_directory new_name file ∷ []) s.names; files = s.files }) new
+          → AreParentsNoted (record { names = names_after (if b then [] else Removed old_directory old_name ∷ Removed new_directory new_name ∷ Added new_directory new_name file ∷ []) s.names; files = s.files }) new
       by true test = absurd (apart (ap (λ f. Some f) (same_file other file test)))
       by false test = moved_over other is (λ same. other_file other file test (sym same)) gone
 
 -- ---- an exchange
 
 module _ (s : Store) (old_directory : FileId) (old_name : List ℕ) (new_directory : FileId) (new_name : List ℕ) (file other : FileId) (tree : IsTree s)
-    (there : HasName s old_directory old_name file) (also : HasName s new_directory new_name other) (old between new : Notes) (are : AreParents s old)
+    (there : HasName s old_directory old_name file) (also : HasName s new_directory new_name other) (old between new : Notes) (are : AreParentsNoted s old)
     (first : IsSet file new_directory old between) (second : IsSet other old_directory between new) where
   -- where both are one file it has its directory
-  one_file : other ≡ file → AreParents s new
+  one_file : other ≡ file → AreParentsNoted s new
   one_file one of directory kind is = by (file_eq of other) refl
     where
       by : (b : Bool) → file_eq of other ≡ b → new of ≡ Some directory
@@ -193,7 +193,7 @@ module _ (s : Store) (old_directory : FileId) (old_name : List ℕ) (new_directo
   abbrev neither : Store
   neither = without (without s (old_directory, old_name)) (new_directory, new_name)
 
-  two_files : other ≢ file → AreParents (with_name (with_name neither old_directory old_name other) new_directory new_name file) new
+  two_files : other ≢ file → AreParentsNoted (with_name (with_name neither old_directory old_name other) new_directory new_name file) new
   two_files apart =
       with_parents (with_name neither old_directory old_name other) new_directory new_name file new own_file
       (with_parents neither old_directory old_name other new own_other
@@ -222,23 +222,23 @@ module _ (s : Store) (old_directory : FileId) (old_name : List ℕ) (new_directo
           let same = tree.one_name d new_directory has.0 new_name other (name_left s.names (old_directory, old_name) (d, has.0) other one.1).1 also kind in
           one.0 (λ i. (same.0 i, same.1 i))
 
-  pub exchanged_parents : AreParents (record { names = names_after (exchanged old_directory old_name new_directory new_name file other) s.names; files = s.files }) new
+  pub exchanged_parents : AreParentsNoted (record { names = names_after (exchanged old_directory old_name new_directory new_name file other) s.names; files = s.files }) new
   exchanged_parents = by (file_eq other file) refl
     where
       by : (b : Bool) → file_eq other file ≡ b
-          → AreParents (record { names = names_after (if b then [] else Removed old_directory old_name ∷ Added old_directory old_name other ∷ Removed new_directory new_name ∷ Added new_directory new_name file ∷ []) s.names; files = s.files }) new
+          → AreParentsNoted (record { names = names_after (if b then [] else Removed old_directory old_name ∷ Added old_directory old_name other ∷ Removed new_directory new_name ∷ Added new_directory new_name file ∷ []) s.names; files = s.files }) new
       by true test = one_file (same_file other file test)
       by false test =
           let apart : other ≢ file = other_file other file test in
           let places : ◌≢◌ {A = Place} (old_directory, old_name) (new_directory, new_name) =
           λ same. (let one : Some file ≡ Some other = sym there ∙ ap (get s.names) same ∙ also in let is : other ≡ file = cc in apart is) in
-          subst (λ names. AreParents (record { names = insert names (new_directory, new_name) file; files = s.files }) new)
+          subst (λ names. AreParentsNoted (record { names = insert names (new_directory, new_name) file; files = s.files }) new)
           (sym (name_goes_first (remove s.names (old_directory, old_name)) (old_directory, old_name) (new_directory, new_name) other places)) (two_files apart)
 
 -- ---- what is noted is so
 
 -- what is noted with fewer notes was noted before
-less_noted : (s : Store) (old new : Notes) → ((of directory : FileId) → new of ≡ Some directory → old of ≡ Some directory) → AreNoted s old → AreNoted s new
+less_noted : (s : Store) (old new : Notes) → ((of directory : FileId) → new of ≡ Some directory → old of ≡ Some directory) → AreNotesParents s old → AreNotesParents s new
 less_noted s old new fewer are of directory is = are of directory (fewer of directory is)
 
 -- where the note of a file went, what is noted is of another, and was noted before
@@ -262,40 +262,40 @@ note_set file directory old new set of d is = by (file_eq of file) refl (old fil
     by false test o there at = inr (other_file of file test, at)
 
 -- without a note
-pub no_notes : (s : Store) (noted : Notes) → ((of : FileId) → noted of ≡ None) → AreNoted s noted
+pub no_notes : (s : Store) (noted : Notes) → ((of : FileId) → noted of ≡ None) → AreNotesParents s noted
 no_notes s noted none of directory is = let clash : None ≡ Some directory = sym (none of) ∙ is in absurd cc
 
 -- where files stay
-files_keep_notes : (s : Store) (files : FinMap file_cmp File) (noted : Notes) → Stay s.files files → AreNoted s noted → AreNoted (record { names = s.names; files = files }) noted
+files_keep_notes : (s : Store) (files : FinMap file_cmp File) (noted : Notes) → Stay s.files files → AreNotesParents s noted → AreNotesParents (record { names = s.names; files = files }) noted
 files_keep_notes s files noted stay are of directory is =
     let was = are of directory is in
     (stay.kinds of Directory was.0, was.1)
 
 -- a name goes for which nothing is noted
 pub without_notes : (s : Store) (place : Place) (noted : Notes) → ((file directory : FileId) → get s.names place ≡ Some file → noted file ≡ Some directory → ⊥)
-    → AreNoted s noted → AreNoted (without s place) noted
+    → AreNotesParents s noted → AreNotesParents (without s place) noted
 without_notes s place noted none are of directory is =
     let was = are of directory is in
     (was.0, (was.1.0, removed_elsewhere s.names place (directory, was.1.0) (λ same. none of directory (sym (ap (get s.names) same) ∙ was.1.1) is) ∙ was.1.1))
 
 -- and one for which it goes too
 pub gone_notes : (s : Store) (place : Place) (file : FileId) (old new : Notes) → get s.names place ≡ Some file
-    → ((of : FileId) → new of ≡ cond (file_eq of file) None (old of)) → AreNoted s old → AreNoted (without s place) new
+    → ((of : FileId) → new of ≡ cond (file_eq of file) None (old of)) → AreNotesParents s old → AreNotesParents (without s place) new
 gone_notes s place file old new there wrote are =
     without_notes s place new
     (λ of directory at is. (note_left file old new wrote of directory is).0 (let one : Some of ≡ Some file = sym at ∙ there in cc))
     (less_noted s old new (λ of directory is. (note_left file old new wrote of directory is).1) are)
 
 -- the name of what is no directory goes
-pub unlinked_notes : (s : Store) (directory : FileId) (name : List ℕ) (noted : Notes) → MayBeUnlinked s directory name → AreNoted s noted
-    → AreNoted (without s (directory, name)) noted
+pub unlinked_notes : (s : Store) (directory : FileId) (name : List ℕ) (noted : Notes) → MayBeUnlinked s directory name → AreNotesParents s noted
+    → AreNotesParents (without s (directory, name)) noted
 unlinked_notes s directory name noted may are =
     without_notes s (directory, name) noted
     (λ file d at is. may.1.2 (let one : Some file ≡ Some may.1.0 = sym at ∙ may.1.1 in let same : file ≡ may.1.0 = cc in subst (IsDirectory s) same (are file d is).0)) are
 
 -- a name comes where none was
 with_notes : (s : Store) (directory : FileId) (name : List ℕ) (file : FileId) (noted : Notes) → IsFree s directory name
-    → AreNoted s noted → AreNoted (with_name s directory name file) noted
+    → AreNotesParents s noted → AreNotesParents (with_name s directory name file) noted
 with_notes s directory name file noted free are of d is =
     let was = are of d is in (
       was.0,
@@ -318,8 +318,8 @@ directory_or_not Socket = inr (λ same. cc)
 
 -- a file comes, and is noted if it is a directory
 pub made_notes : (s : Store) (id directory : FileId) (name : List ℕ) (file : File) (old new : Notes) → get s.files id ≡ None → IsMadeOrNext s.files id → IsFree s directory name
-    → (file.kind ≡ Directory → new id ≡ Some directory) → AreOthers id old new → (file.kind ≢ Directory → new id ≡ old id) → AreNoted s old
-    → AreNoted (record { names = insert s.names (directory, name) id; files = insert s.files id file }) new
+    → (file.kind ≡ Directory → new id ≡ Some directory) → AreOthers id old new → (file.kind ≢ Directory → new id ≡ old id) → AreNotesParents s old
+    → AreNotesParents (record { names = insert s.names (directory, name) id; files = insert s.files id file }) new
 made_notes s id directory name file old new none comes free own others otherwise are of d is = by (file_eq of id) refl
   where
     grown : Store
@@ -342,12 +342,12 @@ made_notes s id directory name file old new none comes free own others otherwise
 
 -- one that came and went leaves what was noted
 pub refused_notes : (s : Store) (id : FileId) (old between new : Notes) → AreOthers id old between → ((of : FileId) → new of ≡ cond (file_eq of id) None (between of))
-    → AreNoted s old → AreNoted s new
+    → AreNotesParents s old → AreNotesParents s new
 refused_notes s id old between new others wrote are =
     less_noted s old new (λ of directory is. let left = note_left id between new wrote of directory is in sym (others of left.0) ∙ left.1) are
 
 module _ (s : Store) (old_directory : FileId) (old_name : List ℕ) (new_directory : FileId) (new_name : List ℕ) (file : FileId)
-    (there : HasName s old_directory old_name file) (old between new : Notes) (are : AreNoted s old) where
+    (there : HasName s old_directory old_name file) (old between new : Notes) (are : AreNotesParents s old) where
   -- names that are as they were but at two places
   abbrev StayBut : FinMap place_cmp FileId → Type 0
   StayBut names = (q : Place) → q ≢ (old_directory, old_name) → q ≢ (new_directory, new_name) → get names q ≡ get s.names q
@@ -355,7 +355,7 @@ module _ (s : Store) (old_directory : FileId) (old_name : List ℕ) (new_directo
   -- the name is the file's, for which its directory was noted, and what is noted of others is neither of it nor of what had the name
   noted_then : (names : FinMap place_cmp FileId) → IsSet file new_directory between new → get names (new_directory, new_name) ≡ Some file → StayBut names
       → ((of d : FileId) → between of ≡ Some d → (old of ≡ Some d) × (get s.names (new_directory, new_name) ≢ Some of))
-      → AreNoted (record { names = names; files = s.files }) new
+      → AreNotesParents (record { names = names; files = s.files }) new
   noted_then names set here stay before of d is =
       elim (note_set file new_directory between new set of d is) [
         | inl own ↦
@@ -376,7 +376,7 @@ module _ (s : Store) (old_directory : FileId) (old_name : List ℕ) (new_directo
       ]
 
   pub moved_notes : (found : Option FileId) → IsSet file new_directory between new → get s.names (new_directory, new_name) ≡ found → found ≢ Some file → AreGone found old between
-      → AreNoted (record { names = names_after (moved old_directory old_name new_directory new_name file found) s.names; files = s.files }) new
+      → AreNotesParents (record { names = names_after (moved old_directory old_name new_directory new_name file found) s.names; files = s.files }) new
   moved_notes None set is apart gone =
       let left = remove s.names (old_directory, old_name) in
       noted_then (insert left (new_directory, new_name) file) set (added_here left (new_directory, new_name) file)
@@ -385,7 +385,7 @@ module _ (s : Store) (old_directory : FileId) (old_name : List ℕ) (new_directo
   moved_notes (Some other) set is apart gone = by (file_eq other file) refl
     where
       by : (b : Bool) → file_eq other file ≡ b
-          → AreNoted (record { names = names_after (if b then [] else Removed old_directory old_name ∷ Removed new_directory new_name ∷ Added new_directory new_name file ∷ []) s.names; files = s.files }) new
+          → AreNotesParents (record { names = names_after (if b then [] else Removed old_directory old_name ∷ Removed new_directory new_name ∷ Added new_directory new_name file ∷ []) s.names; files = s.files }) new
       by true test = absurd (apart (ap (λ f. Some f) (same_file other file test)))
       by false test =
           let left = remove s.names (old_directory, old_name) in
@@ -398,7 +398,7 @@ module _ (s : Store) (old_directory : FileId) (old_name : List ℕ) (new_directo
 
   module _ (other : FileId) (also : HasName s new_directory new_name other) (first : IsSet file new_directory old between) (second : IsSet other old_directory between new) where
     -- where both are one file it has its directory
-    one_noted : other ≡ file → AreNoted s new
+    one_noted : other ≡ file → AreNotesParents s new
     one_noted one of d is =
         elim (note_set other old_directory between new second of d is) [
           | inl own ↦ elim (note_set file new_directory old between first other own.2.0 own.2.1) [
@@ -414,7 +414,7 @@ module _ (s : Store) (old_directory : FileId) (old_name : List ℕ) (new_directo
         ]
 
     two_noted : other ≢ file → (names : FinMap place_cmp FileId) → get names (new_directory, new_name) ≡ Some file → get names (old_directory, old_name) ≡ Some other → StayBut names
-        → AreNoted (record { names = names; files = s.files }) new
+        → AreNotesParents (record { names = names; files = s.files }) new
     two_noted apart names here back stay of d is =
         elim (note_set other old_directory between new second of d is) [
           | inl own ↦ elim (note_set file new_directory old between first other own.2.0 own.2.1) [
@@ -440,11 +440,11 @@ module _ (s : Store) (old_directory : FileId) (old_name : List ℕ) (new_directo
           ]
         ]
 
-    pub exchanged_notes : AreNoted (record { names = names_after (exchanged old_directory old_name new_directory new_name file other) s.names; files = s.files }) new
+    pub exchanged_notes : AreNotesParents (record { names = names_after (exchanged old_directory old_name new_directory new_name file other) s.names; files = s.files }) new
     exchanged_notes = by (file_eq other file) refl
       where
         by : (b : Bool) → file_eq other file ≡ b
-            → AreNoted (record { names = names_after (if b then [] else Removed old_directory old_name ∷ Added old_directory old_name other ∷ Removed new_directory new_name ∷ Added new_directory new_name file ∷ []) s.names; files = s.files }) new
+            → AreNotesParents (record { names = names_after (if b then [] else Removed old_directory old_name ∷ Added old_directory old_name other ∷ Removed new_directory new_name ∷ Added new_directory new_name file ∷ []) s.names; files = s.files }) new
         by true test = one_noted (same_file other file test)
         by false test =
             let apart : other ≢ file = other_file other file test in
@@ -463,22 +463,22 @@ module _ (s : Store) (old_directory : FileId) (old_name : List ℕ) (new_directo
 
 -- a file changes, or nothing where memory was refused
 pub change_keeps_parents : (t : StoredShown) (files : FinMap file_cmp File) (file : FileId) (change : File → File) (noted : Notes) → ((f : File) → (change f).kind ≡ f.kind) → IsTree t.store
-    → AreParents t.store noted → files ≡ with_file t.store.files file change → AreParents (record { names = t.store.names; files = files }) noted
+    → AreParentsNoted t.store noted → files ≡ with_file t.store.files file change → AreParentsNoted (record { names = t.store.names; files = files }) noted
 change_keeps_parents t files file change noted kept tree are set =
     rw (set) (files_keep_parents t.store (with_file t.store.files file change) noted (with_stay t.store.files file change kept) tree are)
 
 pub parents_changed_or_not : {A E : Type 0} (r : Result A E) (t : StoredShown) (files : FinMap file_cmp File) (file : FileId) (change : File → File) (noted : Notes) → ((f : File) → (change f).kind ≡ f.kind) → IsTree t.store
-    → AreParents t.store noted → OnOk r (files ≡ with_file t.store.files file change) → OnErr r (files ≡ t.store.files) → AreParents (record { names = t.store.names; files = files }) noted
+    → AreParentsNoted t.store noted → OnOk r (files ≡ with_file t.store.files file change) → OnErr r (files ≡ t.store.files) → AreParentsNoted (record { names = t.store.names; files = files }) noted
 parents_changed_or_not (Ok v) t files file change noted kept tree are set same = change_keeps_parents t files file change noted kept tree are set
 parents_changed_or_not (Err e) t files file change noted kept tree are set same = rw (same) are
 
 pub change_keeps_notes : (t : StoredShown) (files : FinMap file_cmp File) (file : FileId) (change : File → File) (noted : Notes) → ((f : File) → (change f).kind ≡ f.kind)
-    → AreNoted t.store noted → files ≡ with_file t.store.files file change → AreNoted (record { names = t.store.names; files = files }) noted
+    → AreNotesParents t.store noted → files ≡ with_file t.store.files file change → AreNotesParents (record { names = t.store.names; files = files }) noted
 change_keeps_notes t files file change noted kept are set =
     rw (set) (files_keep_notes t.store (with_file t.store.files file change) noted (with_stay t.store.files file change kept) are)
 
 pub notes_changed_or_not : {A E : Type 0} (r : Result A E) (t : StoredShown) (files : FinMap file_cmp File) (file : FileId) (change : File → File) (noted : Notes) → ((f : File) → (change f).kind ≡ f.kind)
-    → AreNoted t.store noted → OnOk r (files ≡ with_file t.store.files file change) → OnErr r (files ≡ t.store.files) → AreNoted (record { names = t.store.names; files = files }) noted
+    → AreNotesParents t.store noted → OnOk r (files ≡ with_file t.store.files file change) → OnErr r (files ≡ t.store.files) → AreNotesParents (record { names = t.store.names; files = files }) noted
 notes_changed_or_not (Ok v) t files file change noted kept are set same = change_keeps_notes t files file change noted kept are set
 notes_changed_or_not (Err e) t files file change noted kept are set same = rw (same) are
 
@@ -490,21 +490,21 @@ names_stay (Err e) old new asked directory opens same = ap (λ (n : NamesShown).
 
 -- a name comes for a file that is no directory, or none where memory was refused
 pub parents_named_or_not : {A E : Type 0} (r : Result A E) (old new : NamesShown) (files : FinMap file_cmp File) (directory : FileId) (name : List ℕ) (file : FileId) (noted : Notes)
-    → (IsDirectory (record { names = old.names; files = files }) file → ⊥) → AreParents (record { names = old.names; files = files }) noted
-    → OnOk r (new ≡ edited (Added directory name file ∷ []) old) → OnErr r (new ≡ old) → AreParents (record { names = new.names; files = files }) noted
+    → (IsDirectory (record { names = old.names; files = files }) file → ⊥) → AreParentsNoted (record { names = old.names; files = files }) noted
+    → OnOk r (new ≡ edited (Added directory name file ∷ []) old) → OnErr r (new ≡ old) → AreParentsNoted (record { names = new.names; files = files }) noted
 parents_named_or_not (Ok v) old new files directory name file noted other are put same =
     rw (put) (with_parents (record { names = old.names; files = files }) directory name file noted (λ kind. absurd (other kind)) are)
 parents_named_or_not (Err e) old new files directory name file noted other are put same = rw (same) are
 
 pub notes_named_or_not : {A E : Type 0} (r : Result A E) (old new : NamesShown) (files : FinMap file_cmp File) (directory : FileId) (name : List ℕ) (file : FileId) (noted : Notes)
-    → IsFree (record { names = old.names; files = files }) directory name → AreNoted (record { names = old.names; files = files }) noted
-    → OnOk r (new ≡ edited (Added directory name file ∷ []) old) → OnErr r (new ≡ old) → AreNoted (record { names = new.names; files = files }) noted
+    → IsFree (record { names = old.names; files = files }) directory name → AreNotesParents (record { names = old.names; files = files }) noted
+    → OnOk r (new ≡ edited (Added directory name file ∷ []) old) → OnErr r (new ≡ old) → AreNotesParents (record { names = new.names; files = files }) noted
 notes_named_or_not (Ok v) old new files directory name file noted free are put same =
     rw (put) (with_notes (record { names = old.names; files = files }) directory name file noted free are)
 notes_named_or_not (Err e) old new files directory name file noted free are put same = rw (same) are
 
 -- what is noted for a file is a directory that has a name for it
-pub parent_there : (t u : StoredShown) (noted : Notes) (file : FileId) (result : Option Parent) → t ≡ u → AreNoted t.store noted
+pub parent_there : (t u : StoredShown) (noted : Notes) (file : FileId) (result : Option Parent) → t ≡ u → AreNotesParents t.store noted
     → option_map (λ (p : Parent). p.directory) result ≡ noted file → IfSome result (λ parent. IsParent u.store parent.directory file)
 parent_there t u noted file result same are told = subst (λ (v : StoredShown). IfSome result (λ parent. IsParent v.store parent.directory file)) same (by result told)
   where
@@ -513,7 +513,7 @@ parent_there t u noted file result same are told = subst (λ (v : StoredShown). 
     by (Some parent) is = (are file parent.directory (sym is)).1
 
 -- and of a directory for which none is noted no directory has a name
-pub parent_none : (t u : StoredShown) (noted : Notes) (file : FileId) (result : Option Parent) → t ≡ u → AreParents t.store noted → IsDirectory u.store file
+pub parent_none : (t u : StoredShown) (noted : Notes) (file : FileId) (result : Option Parent) → t ≡ u → AreParentsNoted t.store noted → IsDirectory u.store file
     → option_map (λ (p : Parent). p.directory) result ≡ noted file → IfNone result ((directory : FileId) → IsParent u.store directory file → ⊥)
 parent_none t u noted file result same are kind told =
     subst (λ (v : StoredShown). IsDirectory v.store file → IfNone result ((directory : FileId) → IsParent v.store directory file → ⊥)) same (by result told) kind

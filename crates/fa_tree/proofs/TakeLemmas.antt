@@ -16,12 +16,12 @@ use Rattle.fa_tree.specs.Operations.{action_said}
 use Rattle.fa_tree.specs.Bindings.{bound, nodes_after}
 use Rattle.fa_tree.specs.Steps.{opens_anew, setting, given_in, tree_done, tree_by}
 use Rattle.fa_tree.specs.Refusals.{DoneAnd, MayGrow}
-use Rattle.fa_tree.specs.parts.StoredParts.{StoredShown, stored_noted}
+use Rattle.fa_tree.specs.parts.StoredParts.{StoredShown, stored_left}
 
 -- what is stored after a success, with the nodes after it, is the tree that it leaves
 pub left_tree : (old stored : StoredShown) (before nodes : FinMap node_cmp FileId) (t : TreeState) (x : Resolved) (call : PlainCall) (a : PlainAction) (count : ℕ)
     (given : List (NodeName × FileId)) → ◌≡◌ {A = TreeState} (record { store = old.store; nodes = before; handles = old.handles }) t
-    → stored ≡ stored_noted x call.truncates a call.asked (opens_anew call) count old
+    → stored ≡ stored_left x call.truncates a call.asked (opens_anew call) count old
     → given_in (setting t.store x call (Acts a) count []) call (Acts a) ≡ given → nodes ≡ nodes_after given before
     → ◌≡◌ {A = TreeState} (record { store = stored.store; nodes = nodes; handles = stored.handles }) (tree_done t x call (Acts a) count)
 left_tree old stored before nodes t x call a count given same left is now =

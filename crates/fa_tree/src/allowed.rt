@@ -9,7 +9,7 @@ ghost use Rattle.fa_tree.specs.Resolved.{resolved};
 ghost use Rattle.fa_tree.specs.Rules.{HasCause};
 ghost use Rattle.fa_tree.specs.Steps.{OfCallAt};
 ghost use Rattle.fa_tree.specs.Telling.{OfRule};
-ghost use Rattle.fa_tree.specs.parts.NamedParts.{named_shown, HasItsFile};
+ghost use Rattle.fa_tree.specs.parts.NamedParts.{named_shown, HasFileOfName};
 
 use crate::named::Named;
 use crate::tree::Tree;
@@ -18,7 +18,7 @@ use fa_ledger::{Action, Call, Calls, List, Operation};
 impl Tree {
     /// Whether a success of an action has what it needs of the files that it names.
     fn may_be_done(&self, named: &Named, action: &Action<'_>) -> bool
-        requires { HasItsFile self.now.store named.now (action_shown action.now) }
+        requires { HasFileOfName self.now.store named.now (action_shown action.now) }
         ensures { IsTrue result ↔ (action_rule self.now.store (named_shown named.now None) (action_shown action.now)).needs }
     {
         self.stored.may_be_done(named, action)

@@ -8,7 +8,7 @@ ghost use Rattle.fa_tree.specs.Causes.{IsDirectoryThere, IsFullDirectoryThere, I
 ghost use Rattle.fa_tree.specs.Opening.{directory_rule};
 ghost use Rattle.fa_tree.specs.Operations.{action_rule};
 ghost use Rattle.fa_tree.specs.Rules.{HasCause};
-ghost use Rattle.fa_tree.specs.parts.NamedParts.{named_shown, HasItsFile};
+ghost use Rattle.fa_tree.specs.parts.NamedParts.{named_shown, HasFileOfName};
 
 use crate::id::FileId;
 use crate::named::Named;
@@ -89,7 +89,7 @@ impl Stored {
 
     /// Whether ENOENT has its cause, by the file of the name.
     fn is_missing(&self, named: &Named, action: &Action<'_>) -> bool
-        requires { HasItsFile self.now.store named.now (action_shown action.now) }
+        requires { HasFileOfName self.now.store named.now (action_shown action.now) }
         ensures { (handle : Option OpenDirectory) → IsTrue result ↔ (action_rule self.now.store (named_shown named.now handle) (action_shown action.now)).missing }
     {
         let node = named.node;
@@ -130,7 +130,7 @@ impl Stored {
 
     /// Whether EEXIST has its cause, by the file of the name.
     fn is_taken(&self, named: &Named, action: &Action<'_>) -> bool
-        requires { HasItsFile self.now.store named.now (action_shown action.now) }
+        requires { HasFileOfName self.now.store named.now (action_shown action.now) }
         ensures { (handle : Option OpenDirectory) → IsTrue result ↔ (action_rule self.now.store (named_shown named.now handle) (action_shown action.now)).taken }
     {
         let node = named.node;
@@ -274,7 +274,7 @@ impl Stored {
 
     /// Whether an error of an action has its cause, by the file of its name, or is one that may come at any time.
     pub(crate) fn has_cause(&self, named: &Named, action: &Action<'_>, error: i32) -> bool
-        requires { HasItsFile self.now.store named.now (action_shown action.now) }
+        requires { HasFileOfName self.now.store named.now (action_shown action.now) }
         ensures { (handle : Option OpenDirectory) → IsTrue result ↔ HasCause (action_rule self.now.store (named_shown named.now handle) (action_shown action.now)) error }
     {
         match error {

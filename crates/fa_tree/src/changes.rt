@@ -17,8 +17,8 @@ ghost use Rattle.fa_tree.specs.Making.{MayBeMade, HasMadeNone, emptied, new_regu
 ghost use Rattle.fa_tree.specs.parts.FileParts.{with_bytes};
 ghost use Rattle.fa_tree.specs.Operations.{action_rule};
 ghost use Rattle.fa_tree.specs.Refusals.{MayGrow};
-ghost use Rattle.fa_tree.specs.parts.NamedParts.{named_shown, HasItsFile};
-ghost use Rattle.fa_tree.specs.parts.StoredParts.{mode_set, stored_created, stored_changed, stored_edited, stored_with, stored_opened, stored_noted};
+ghost use Rattle.fa_tree.specs.parts.NamedParts.{named_shown, HasFileOfName};
+ghost use Rattle.fa_tree.specs.parts.StoredParts.{mode_set, stored_created, stored_changed, stored_edited, stored_with, stored_opened, stored_left};
 
 use crate::file::permission_bits;
 use crate::id::FileId;
@@ -165,7 +165,7 @@ impl Stored {
         Ok(())
     }
 
-    /// Makes the change of an action that may be done, by the file of its name: whether it empties a file that is there, and how many
+    /// Makes the change of an action that may be done, by the file of its name, by whether it empties a file that is there, and by how many
     /// bytes it wrote.
     #[tactic(auto, using(crate::proofs::ChangedLemmas::still_changed))]
     pub(crate) fn change(
@@ -175,7 +175,7 @@ impl Stored {
         truncates: bool,
         count: u32,
     ) -> Result<(), AllocError>
-        requires asked { HasItsFile self.old.store named.now (action_shown action.now) }
+        requires file { HasFileOfName self.old.store named.now (action_shown action.now) }
         requires needs { (handle : Option OpenDirectory) → (action_rule self.old.store (named_shown named.now handle) (action_shown action.now)).needs }
         ensures changed { OnOk result ((handle : Option OpenDirectory) → self.new ≡ stored_changed (named_shown named.now handle) truncates (action_shown action.now) count self.old) }
         ensures memory { OnErr result (MayGrow (action_shown action.now)) }
@@ -274,9 +274,9 @@ impl Stored {
         asked: u32,
         opens: bool,
     ) -> Result<(), AllocError>
-        requires asked { HasItsFile self.old.store named.now (action_shown action.now) }
+        requires file { HasFileOfName self.old.store named.now (action_shown action.now) }
         requires needs { (handle : Option OpenDirectory) → (action_rule self.old.store (named_shown named.now handle) (action_shown action.now)).needs }
-        ensures left { OnOk result ((handle : Option OpenDirectory) → self.new ≡ stored_noted (named_shown named.now handle) truncates (action_shown action.now) asked opens count self.old) }
+        ensures left { OnOk result ((handle : Option OpenDirectory) → self.new ≡ stored_left (named_shown named.now handle) truncates (action_shown action.now) asked opens count self.old) }
         ensures memory { OnErr result (MayGrow (action_shown action.now)) }
         ensures unchanged { OnErr result (self.new ≡ self.old) }
     {

@@ -5,9 +5,9 @@ ghost use Rattle.std.specs.FinMap.{get};
 ghost use Rattle.fa_tree.specs.declared.id.FileId.{FileId};
 ghost use Rattle.fa_bodies.specs.Views.{setattr_shown};
 ghost use Rattle.fa_ledger.specs.Operations.{action_shown};
-ghost use Rattle.fa_tree.specs.State.{HasName, IsDirectory, IsBelow, OpenDirectory};
+ghost use Rattle.fa_tree.specs.State.{IsDirectory, OpenDirectory};
 ghost use Rattle.fa_tree.specs.Operations.{action_rule};
-ghost use Rattle.fa_tree.specs.parts.NamedParts.{named_shown, HasItsFile};
+ghost use Rattle.fa_tree.specs.parts.NamedParts.{named_shown, HasFileOfName};
 ghost use Rattle.fa_tree.specs.Lookups.{MayBeSet};
 ghost use Rattle.fa_tree.specs.Making.{MayBeMade, HasMadeNone, MayBeCreated};
 ghost use Rattle.fa_tree.specs.Removing.{MayBeUnlinked, MayBeRemoved};
@@ -161,7 +161,7 @@ impl Stored {
 
     /// Whether a success of an action is allowed on the files that it names, by the file of its name.
     pub(crate) fn may_be_done(&self, named: &Named, action: &Action<'_>) -> bool
-        requires { HasItsFile self.now.store named.now (action_shown action.now) }
+        requires { HasFileOfName self.now.store named.now (action_shown action.now) }
         ensures { (handle : Option OpenDirectory) → IsTrue result ↔ (action_rule self.now.store (named_shown named.now handle) (action_shown action.now)).needs }
     {
         let node = named.node;

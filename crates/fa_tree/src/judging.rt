@@ -12,7 +12,7 @@ ghost use Rattle.fa_tree.specs.Lookups.{IsFoundAs, IsTargetOf, bits_set};
 ghost use Rattle.fa_tree.specs.Making.{node_kind, new_bits};
 ghost use Rattle.fa_tree.specs.Operations.{action_rule, action_said, changed};
 ghost use Rattle.fa_tree.specs.parts.FactParts.{size_set, AreOpenedFacts, AreFactsOf, AreFactsIfAny, AreFurtherFacts, AreSetFacts, AreCreatedFacts, IsFoundOrMade, FitIfAny, AreFilesGiven};
-ghost use Rattle.fa_tree.specs.parts.NamedParts.{named_shown, file_asked, HasItsFile};
+ghost use Rattle.fa_tree.specs.parts.NamedParts.{named_shown, file_of_name, HasFileOfName};
 
 use crate::facts::Facts;
 use crate::file::permission_bits;
@@ -96,11 +96,12 @@ impl Stored {
     }
 
     /// The file of the name that an action gives in the directory of its node, of RENAME and RENAME2 of the old name, if it gives one
-    /// and the name is there. All that is asked of the name is asked of this file.
+    /// and the name is there. Whether a success is allowed and what it says, ENOENT but of RENAME2, and EEXIST but of RMDIR, are judged
+    /// by this file.
     ///
     /// Takes no memory, in expected constant time but for reading the name.
-    pub(crate) fn file_asked(&self, node: FileId, action: &Action<'_>) -> Option<FileId>
-        ensures { result ≡ file_asked self.now.store node (action_shown action.now) }
+    pub(crate) fn file_of_name(&self, node: FileId, action: &Action<'_>) -> Option<FileId>
+        ensures { result ≡ file_of_name self.now.store node (action_shown action.now) }
     {
         match action {
             Action::Lookup { name, .. } => self.find(node, name),
@@ -182,7 +183,7 @@ impl Stored {
 
     /// The file for the node that an answer gives, if it gives one: that of the name of an entry, after the action.
     pub(crate) fn file_given(&self, named: &Named, action: &Action<'_>) -> Option<FileId>
-        requires { HasItsFile self.now.store named.now (action_shown action.now) }
+        requires { HasFileOfName self.now.store named.now (action_shown action.now) }
         ensures { (handle : Option OpenDirectory) (truncates direct : Bool) (count : ℕ) → (action_rule self.now.store (named_shown named.now handle) (action_shown action.now)).needs
             → AreFilesGiven (action_said self.now.store (changed self.now.store (named_shown named.now handle) truncates (Acts (action_shown action.now)) count) (named_shown named.now handle) direct (action_shown action.now)).files result }
     {
@@ -217,7 +218,7 @@ impl Stored {
 
     /// Whether an answer finds what it says.
     fn finds_as_said(&self, named: &Named, action: &Action<'_>) -> bool
-        requires { HasItsFile self.now.store named.now (action_shown action.now) }
+        requires { HasFileOfName self.now.store named.now (action_shown action.now) }
         ensures { (handle : Option OpenDirectory) (after : Store) (direct : Bool) → IsTrue result ↔ (action_said self.now.store after (named_shown named.now handle) direct (action_shown action.now)).found }
     {
         match action {
@@ -231,7 +232,7 @@ impl Stored {
 
     /// Whether an answer may be a success of the action, and finds what it says.
     pub(crate) fn may_succeed(&self, named: &Named, action: &Action<'_>) -> bool
-        requires { HasItsFile self.now.store named.now (action_shown action.now) }
+        requires { HasFileOfName self.now.store named.now (action_shown action.now) }
         ensures { (handle : Option OpenDirectory) (after : Store) (direct : Bool) → IsTrue result ↔ ((action_rule self.now.store (named_shown named.now handle) (action_shown action.now)).needs × (action_said self.now.store after (named_shown named.now handle) direct (action_shown action.now)).found) }
     {
         self.may_be_done(named, action) && self.finds_as_said(named, action)
@@ -239,10 +240,11 @@ impl Stored {
 
     /// Whether the attributes in an answer fit, after the action.
     pub(crate) fn attributes_fit(&self, named: &Named, action: &Action<'_>, truncates: bool) -> bool
-        requires { HasItsFile self.now.store named.now (action_shown action.now) }
+        requires { HasFileOfName self.now.store named.now (action_shown action.now) }
         ensures { (handle : Option OpenDirectory) (direct : Bool) (count : ℕ) → (action_rule self.now.store (named_shown named.now handle) (action_shown action.now)).needs
             → IsTrue result ↔ (action_said self.now.store (changed self.now.store (named_shown named.now handle) truncates (Acts (action_shown action.now)) count) (named_shown named.now handle) direct (action_shown action.now)).attributes }
     {
+        // A field is named for the invariant, by which no name is for a file that is not there.
         let _ = &self.names;
         let node = named.node;
         match action {

@@ -16,8 +16,8 @@ use std::alloc::{AllocError, Global};
 /// An entry of the table takes about so many bytes.
 const PARENT_WEIGHT: u64 = 72;
 
-/// The directory that a directory is in, and a hint: where its own entry stood in the table when this was noted. It may stand
-/// elsewhere by now, or nowhere, so no clause speaks of it.
+/// The directory that a directory is in, and a hint for the next step up: where the entry of that one stood in the table when this was
+/// noted. It may stand elsewhere by now, or have none, as the root, so no clause speaks of it.
 #[derive(Clone, Copy)]
 pub(crate) struct Parent {
     pub directory: FileId,
@@ -77,7 +77,7 @@ impl Parents {
         self.table.get_index_of(&file).unwrap_or(0)
     }
 
-    /// Notes the directory that a file of this type is in, if that is a directory. An error says that memory was refused, and
+    /// Notes for a file of this type, if it is a directory, the directory that it is in. An error says that memory was refused, and
     /// nothing is changed.
     ///
     /// Expected constant time but for growing, and for any other file nothing is done.

@@ -55,7 +55,8 @@ impl Stored {
         self.kind(file) == Some(Kind::Symlink)
     }
 
-    /// The directory that has a name for a directory, if one has, whatever the hint where the directory's own entry stands.
+    /// The directory that a directory is in, if it has a name. The hint says where its entry is looked for first, and changes the time
+    /// alone.
     ///
     /// Constant time where the hint is right, else expected constant time.
     fn parent(&self, file: FileId, hint: usize) -> Option<Parent>
@@ -103,13 +104,14 @@ impl Stored {
 
     /// Whether the directory `below` is below the file `above`.
     ///
-    /// As many steps as there are directories on the way up. Each takes constant time where no entry of a parent was moved since it
-    /// was noted, else expected constant time. The first and the last are look-ups by hash.
+    /// At most as many steps as there are directories on the way up. A step takes constant time where the entry of its directory stands
+    /// where it stood when it was noted as a parent; else, and at the first step and at the root, it is a look-up by hash.
     pub(crate) fn is_below(&self, above: FileId, below: FileId) -> bool
         requires directory { IsDirectory self.now.store below }
         ensures { IsTrue result ↔ IsBelow self.now.store above below }
     {
         let mut at = below;
+        // Nothing is known of where the first entry stands: any hint will do.
         let mut hint = 0;
         for _ in 0..self.files.len() {
             match self.parent(at, hint) {

@@ -3,7 +3,7 @@
 ghost use Rattle.std.specs.Prelude.{◌≡◌, ◌≢◌, ◌↔◌, ℕ, List, Option, Some, IsTrue, OnOk, OnErr};
 ghost use Rattle.fa_bodies.specs.declared.rename_flags.RenameFlags.TheVariants.{Exchange};
 ghost use Rattle.std.specs.FinMap.{get};
-ghost use Rattle.fa_tree.specs.State.{IsDirectory, IsFree, IsThere};
+ghost use Rattle.fa_tree.specs.State.{IsFree, IsThere};
 ghost use Rattle.fa_tree.specs.Resolved.{OfOther};
 ghost use Rattle.fa_tree.specs.Renaming.{MayBeExchanged, exchange_edits, rename2_rule};
 ghost use Rattle.fa_tree.specs.parts.StoredParts.{stored_edited};

@@ -1,6 +1,6 @@
 //! The table of places: for each place that a name was put at, the slot that says what is there.
 
-ghost use Rattle.std.specs.Prelude.{◌≡◌, ◌≢◌, ◌↔◌, ◌<◌, ◌^◌, [], ℕ, List, length, ◌==◌, IsTrue, Some, None, IfSome, IfNone, IfOk, OnOk, OnErr};
+ghost use Rattle.std.specs.Prelude.{◌≡◌, ◌≢◌, ◌↔◌, ◌<◌, ◌^◌, [], length, ◌==◌, IsTrue, Some, None, IfSome, IfNone, IfOk, OnOk, OnErr};
 ghost use Rattle.fa_tree.specs.declared.id.FileId.{FileId};
 ghost use Rattle.fa_tree.specs.declared.slots.Slot.TheVariants.{There};
 ghost use Rattle.std.specs.FinMap as map;

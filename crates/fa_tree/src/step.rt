@@ -17,7 +17,7 @@ ghost use Rattle.fa_tree.specs.Bindings.{AreBound};
 ghost use Rattle.fa_tree.specs.Operations.{action_rule, action_said, count_written, said};
 ghost use Rattle.fa_tree.specs.Steps.{OfCallAt, names_given, opens_anew, setting, given_in, operation_checks, step_checks, tree_done, tree_after, Steps};
 ghost use Rattle.fa_tree.specs.Refusals.{DoneAnd, MayGrow, TellsOf};
-ghost use Rattle.fa_tree.specs.parts.NamedParts.{named_shown, HasItsFile};
+ghost use Rattle.fa_tree.specs.parts.NamedParts.{named_shown, HasFileOfName};
 ghost use Rattle.fa_tree.specs.parts.StepParts.{done_checks};
 
 use crate::error::StepError;
@@ -145,7 +145,8 @@ impl Tree {
         }
     }
 
-    /// The files that the nodes of a call stand for, if the tree knows all of them.
+    /// The files that the nodes of a call stand for, if the tree knows all of them. Its file of a name is none yet: [`named`](Tree::named)
+    /// finds that.
     #[inline(always)]
     pub(crate) fn files_named(&self, call: &Call<'_>) -> Option<Named>
         ensures found { IfSome result (λ named. (file_of self.now call.now.node ≡ Some named.node) × (other_of self.now call.now.other ≡ Some named.other) × (named.asked ≡ call.now.asked)) }
@@ -176,13 +177,13 @@ impl Tree {
     pub(crate) fn named(&self, call: &Call<'_>, action: &Action<'_>) -> Option<Named>
         requires { call.now.listing ≡ None }
         ensures found { IfSome result (λ named. resolved self.now (call_shown call.now) ≡ Some (named_shown named None)) }
-        ensures asked { IfSome result (λ named. HasItsFile self.now.store named (action_shown action.now)) }
+        ensures file { IfSome result (λ named. HasFileOfName self.now.store named (action_shown action.now)) }
         ensures none { IfNone result (resolved self.now (call_shown call.now) ≡ None) }
     {
         match self.files_named(call) {
             None => None,
             Some(named) => Some(Named {
-                file: self.stored.file_asked(named.node, action),
+                file: self.stored.file_of_name(named.node, action),
                 ..named
             }),
         }
@@ -195,7 +196,7 @@ impl Tree {
         call: &Call<'_>,
         action: &Action<'_>,
     ) -> Option<(NodeName, FileId)>
-        requires { HasItsFile self.now.store named.now (action_shown action.now) }
+        requires { HasFileOfName self.now.store named.now (action_shown action.now) }
         ensures { (count : ℕ) (so_far : List PlainDirent) → (action_rule self.now.store (named_shown named.now None) (action_shown action.now)).needs
             → given_in (setting self.now.store (named_shown named.now None) (call_shown call.now) (Acts (action_shown action.now)) count so_far) (call_shown call.now) (Acts (action_shown action.now)) ≡ option_to_list result }
     {
@@ -221,7 +222,7 @@ impl Tree {
 
     /// Whether an action may succeed, and finds what its answer says.
     fn may_succeed(&self, named: &Named, action: &Action<'_>) -> bool
-        requires { HasItsFile self.now.store named.now (action_shown action.now) }
+        requires { HasFileOfName self.now.store named.now (action_shown action.now) }
         ensures { (after : Store) (direct : Bool) → IsTrue result ↔ ((action_rule self.now.store (named_shown named.now None) (action_shown action.now)).needs × (action_said self.now.store after (named_shown named.now None) direct (action_shown action.now)).found) }
     {
         self.stored.may_succeed(named, action)
@@ -229,7 +230,7 @@ impl Tree {
 
     /// Whether the attributes in an answer fit.
     fn attributes_fit(&self, named: &Named, call: &Call<'_>, action: &Action<'_>) -> bool
-        requires asked { HasItsFile self.now.store named.now (action_shown action.now) }
+        requires file { HasFileOfName self.now.store named.now (action_shown action.now) }
         requires needs { (action_rule self.now.store (named_shown named.now None) (action_shown action.now)).needs }
         ensures { (count : ℕ) (so_far : List PlainDirent) → IsTrue result ↔ (said (setting self.now.store (named_shown named.now None) (call_shown call.now) (Acts (action_shown action.now)) count so_far) (Acts (action_shown action.now))).attributes }
     {
@@ -238,7 +239,7 @@ impl Tree {
 
     /// Whether the names of nodes in an answer may be given for their files.
     fn nodes_fit(&self, named: &Named, call: &Call<'_>, action: &Action<'_>) -> bool
-        requires asked { HasItsFile self.now.store named.now (action_shown action.now) }
+        requires file { HasFileOfName self.now.store named.now (action_shown action.now) }
         requires needs { (action_rule self.now.store (named_shown named.now None) (action_shown action.now)).needs }
         ensures { (count : ℕ) (so_far : List PlainDirent) → IsTrue result ↔ AreBound self.now.nodes (given_in (setting self.now.store (named_shown named.now None) (call_shown call.now) (Acts (action_shown action.now)) count so_far) (call_shown call.now) (Acts (action_shown action.now))) }
     {
@@ -254,7 +255,7 @@ impl Tree {
 
     /// Judges an action that did not fail: a success, or one that an order takes as done though it was not answered.
     fn judge_done(&self, named: &Named, call: &Call<'_>, action: &Action<'_>) -> Result<(), u16>
-        requires { HasItsFile self.now.store named.now (action_shown action.now) }
+        requires { HasFileOfName self.now.store named.now (action_shown action.now) }
         ensures ok { OnOk result ((count : ℕ) (so_far : List PlainDirent) → AllHold (done_checks self.now.nodes (setting self.now.store (named_shown named.now None) (call_shown call.now) (Acts (action_shown action.now)) count so_far) (call_shown call.now) (Acts (action_shown action.now)))) }
         ensures fault { IfErr result (λ code. (count : ℕ) (so_far : List PlainDirent) → FirstFailure (done_checks self.now.nodes (setting self.now.store (named_shown named.now None) (call_shown call.now) (Acts (action_shown action.now)) count so_far) (call_shown call.now) (Acts (action_shown action.now))) code) }
     {
@@ -275,7 +276,7 @@ impl Tree {
 
     /// Whether an error has its cause.
     pub(crate) fn has_cause(&self, named: &Named, action: &Action<'_>, error: i32) -> bool
-        requires { HasItsFile self.now.store named.now (action_shown action.now) }
+        requires { HasFileOfName self.now.store named.now (action_shown action.now) }
         ensures { IsTrue result ↔ HasCause (action_rule self.now.store (named_shown named.now None) (action_shown action.now)) error }
     {
         self.stored.has_cause(named, action, error)
@@ -288,7 +289,7 @@ impl Tree {
         call: &Call<'_>,
         action: &Action<'_>,
     ) -> Result<(), u16>
-        requires { HasItsFile self.now.store named.now (action_shown action.now) }
+        requires { HasFileOfName self.now.store named.now (action_shown action.now) }
         ensures ok { OnOk result ((count : ℕ) (so_far : List PlainDirent) → AllHold (operation_checks self.now.nodes (setting self.now.store (named_shown named.now None) (call_shown call.now) (Acts (action_shown action.now)) count so_far) (call_shown call.now) (Acts (action_shown action.now)))) }
         ensures fault { IfErr result (λ code. (count : ℕ) (so_far : List PlainDirent) → FirstFailure (operation_checks self.now.nodes (setting self.now.store (named_shown named.now None) (call_shown call.now) (Acts (action_shown action.now)) count so_far) (call_shown call.now) (Acts (action_shown action.now))) code) }
     {
@@ -312,7 +313,7 @@ impl Tree {
         action: &Action<'_>,
         count: u32,
     ) -> Result<(), AllocError>
-        requires asked { HasItsFile self.old.store named.now (action_shown action.now) }
+        requires file { HasFileOfName self.old.store named.now (action_shown action.now) }
         requires needs { (action_rule self.old.store (named_shown named.now None) (action_shown action.now)).needs }
         ensures taken { OnOk result (self.new ≡ tree_done self.old (named_shown named.now None) (call_shown call.now) (Acts (action_shown action.now)) count) }
         ensures memory { OnErr result (MayGrow (action_shown action.now)) }
@@ -342,7 +343,7 @@ impl Tree {
         action: &Action<'_>,
         count: u32,
     ) -> Result<(), AllocError>
-        requires asked { HasItsFile self.old.store named.now (action_shown action.now) }
+        requires file { HasFileOfName self.old.store named.now (action_shown action.now) }
         requires judged { (count : ℕ) (so_far : List PlainDirent) → AllHold (operation_checks self.old.nodes (setting self.old.store (named_shown named.now None) (call_shown call.now) (Acts (action_shown action.now)) count so_far) (call_shown call.now) (Acts (action_shown action.now))) }
         ensures taken { OnOk result (self.new ≡ tree_after self.old (named_shown named.now None) (call_shown call.now) (Acts (action_shown action.now)) count) }
         ensures memory { OnErr result (DoneAnd (action_ended (action_shown action.now)) (MayGrow (action_shown action.now))) }

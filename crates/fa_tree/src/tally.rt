@@ -81,6 +81,7 @@ impl<'a> Tally<'a> {
         match self.names.insert(Listed { name }, false)? {
             None => Ok(()),
             Some(more) => {
+                // False stands there now: the name is marked again.
                 if !more {
                     self.again.push(Listed { name })?;
                 }

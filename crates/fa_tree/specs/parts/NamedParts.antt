@@ -10,7 +10,7 @@ use Rattle.fa_tree.specs.declared.named.Named.{Named}
 use Rattle.fa_tree.specs.declared.named.NamedDirectory.{NamedDirectory}
 use Rattle.fa_tree.specs.parts.OpenParts.{open_of}
 
--- the request and the files that it names, with an open directory if one is
+-- the request and the files that it names, with an open directory if it lists one
 abbrev pub named_shown : Named → Option OpenDirectory → Resolved
 named_shown n handle = record { asked = n.asked; node = n.node; other = n.other; handle = handle }
 
@@ -18,20 +18,21 @@ named_shown n handle = record { asked = n.asked; node = n.node; other = n.other;
 abbrev pub directory_shown : NamedDirectory → Resolved
 directory_shown at = named_shown at.named (Some (open_of at.names))
 
--- the file of the name that an action gives in this directory, of RENAME and RENAME2 of the old one; none where it gives none
-abbrev pub file_asked : Store → (directory : FileId) → PlainAction → Option FileId
-file_asked s directory (Lookup name o) = get s.names (directory, name)
-file_asked s directory (Symlink name target o) = get s.names (directory, name)
-file_asked s directory (Mknod mode umask name o) = get s.names (directory, name)
-file_asked s directory (Mkdir mode umask name o) = get s.names (directory, name)
-file_asked s directory (Unlink name o) = get s.names (directory, name)
-file_asked s directory (Rmdir name o) = get s.names (directory, name)
-file_asked s directory (Rename old_name new_name o) = get s.names (directory, old_name)
-file_asked s directory (Rename2 flags old_name new_name o) = get s.names (directory, old_name)
-file_asked s directory (Link new_name o) = get s.names (directory, new_name)
-file_asked s directory (Create flags mode umask name o) = get s.names (directory, name)
-file_asked s directory other = None
+-- the file of the name that an action gives in this directory, of RENAME and RENAME2 of the old one, if it gives one and the name is
+-- there
+abbrev pub file_of_name : Store → (directory : FileId) → PlainAction → Option FileId
+file_of_name s directory (Lookup name o) = get s.names (directory, name)
+file_of_name s directory (Symlink name target o) = get s.names (directory, name)
+file_of_name s directory (Mknod mode umask name o) = get s.names (directory, name)
+file_of_name s directory (Mkdir mode umask name o) = get s.names (directory, name)
+file_of_name s directory (Unlink name o) = get s.names (directory, name)
+file_of_name s directory (Rmdir name o) = get s.names (directory, name)
+file_of_name s directory (Rename old_name new_name o) = get s.names (directory, old_name)
+file_of_name s directory (Rename2 flags old_name new_name o) = get s.names (directory, old_name)
+file_of_name s directory (Link new_name o) = get s.names (directory, new_name)
+file_of_name s directory (Create flags mode umask name o) = get s.names (directory, name)
+file_of_name s directory other = None
 
 -- what a call names has the file of the name that its action gives
-abbrev pub HasItsFile : Store → Named → PlainAction → Type 0
-HasItsFile s named action = named.file ≡ file_asked s named.node action
+abbrev pub HasFileOfName : Store → Named → PlainAction → Type 0
+HasFileOfName s named action = named.file ≡ file_of_name s named.node action

@@ -10,10 +10,10 @@ use Rattle.fa_tree.specs.State.{Store, IsDirectory, IsParent}
 abbrev pub parent_noted : List (FileId × Parent) → FileId → Option FileId
 parent_noted table file = option_map (λ parent. parent.directory) (lookup (derived.eq-value.it file) table)
 
--- of each directory that has a name the directory that the name is in is noted
-abbrev pub AreParents : Store → (noted : FileId → Option FileId) → Type 0
-AreParents s noted = (file directory : FileId) → IsDirectory s file → IsParent s directory file → noted file ≡ Some directory
+-- parents are noted: for each directory that has a name the directory that the name is in
+abbrev pub AreParentsNoted : Store → (noted : FileId → Option FileId) → Type 0
+AreParentsNoted s noted = (file directory : FileId) → IsDirectory s file → IsParent s directory file → noted file ≡ Some directory
 
--- a directory is noted for directories alone, and has a name for each of these
-abbrev pub AreNoted : Store → (noted : FileId → Option FileId) → Type 0
-AreNoted s noted = (file directory : FileId) → noted file ≡ Some directory → IsDirectory s file × IsParent s directory file
+-- notes are parents: what is noted for a file is a directory that has a name for it, and the file is a directory
+abbrev pub AreNotesParents : Store → (noted : FileId → Option FileId) → Type 0
+AreNotesParents s noted = (file directory : FileId) → noted file ≡ Some directory → IsDirectory s file × IsParent s directory file

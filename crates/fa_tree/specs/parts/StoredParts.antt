@@ -63,9 +63,9 @@ stored_made id directory name new t = stored_with (map.insert t.store.files id n
 abbrev pub stored_opened : (asked : ℕ) (directory : FileId) → StoredShown → StoredShown
 stored_opened asked directory t = record { store = t.store; handles = map.insert t.handles asked (opened t.store.names directory) }
 
--- the same, with the directory that its answer opens
-abbrev pub stored_noted : Resolved → (truncates : Bool) → PlainAction → (asked : ℕ) → (opens : Bool) → (count : ℕ) → StoredShown → StoredShown
-stored_noted x truncates a asked opens count t = record {
+-- after the change of an action, with the directory that its answer opens, if it opens one anew
+abbrev pub stored_left : Resolved → (truncates : Bool) → PlainAction → (asked : ℕ) → (opens : Bool) → (count : ℕ) → StoredShown → StoredShown
+stored_left x truncates a asked opens count t = record {
   store = changed t.store x truncates (Acts a) count;
   handles = with_opened (changed t.store x truncates (Acts a) count).names (directory_opened x (Acts a)) asked opens
       (handles_after (action_rule t.store x a).edits t.handles);

@@ -1,7 +1,7 @@
 -- What the fields of what is stored show.
 use Rattle.fa_tree.specs.Shape.{IsTree}
 use Rattle.fa_tree.specs.declared.stored.Stored.TheInside.{Inside}
-use Rattle.fa_tree.specs.parts.ParentParts.{parent_noted, AreParents, AreNoted}
+use Rattle.fa_tree.specs.parts.ParentParts.{parent_noted, AreParentsNoted, AreNotesParents}
 use Rattle.fa_tree.specs.parts.StoredParts.{StoredShown}
 
 abbrev pub stored_shown : Inside → StoredShown
@@ -11,5 +11,5 @@ stored_shown t = record { store = record { names = t.names.names; files = t.file
 abbrev pub HoldsTree : Inside → Type 0
 HoldsTree t =
     IsTree (stored_shown t).store
-    × AreParents (stored_shown t).store (parent_noted t.parents.table.entries)
-    × AreNoted (stored_shown t).store (parent_noted t.parents.table.entries)
+    × AreParentsNoted (stored_shown t).store (parent_noted t.parents.table.entries)
+    × AreNotesParents (stored_shown t).store (parent_noted t.parents.table.entries)

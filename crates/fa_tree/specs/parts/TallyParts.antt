@@ -30,7 +30,7 @@ tally_of tally name = lookup (λ listed. bytes_eq name listed.name.now) tally.na
 abbrev pub IsAmong : List Listed → List ℕ → Type 0
 IsAmong names name = (k : ℕ) × (listed : Listed) × (slice_get names k ≡ Some listed) × (listed.name.now ≡ name)
 
--- The tally tells how many times each name was listed, and which of them more than once.
+-- The tally tells of each name whether it was listed never, once or more often, and lists those of the last kind.
 pub record Tallies (tally : Tally) (times : List ℕ → ℕ) : Type 0 where
   pub told : (name : List ℕ) → tally_of tally name ≡ tallied (times name)
   pub again : (name : List ℕ) → 1 < times name → IsAmong tally.again.items name
