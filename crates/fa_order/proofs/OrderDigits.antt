@@ -1,18 +1,16 @@
 -- A decimal that no digit follows is read in one way.
-use Rattle.std.proofs.Common.{◌≡◌, ℕ, suc, ◌+◌, ◌^◌, ◌<◌, ◌≤◌, Bool, true, false, cond, List, [], ◌∷◌, ◌++◌, length, get_or, take, drop, Result, Ok, Err, Some, None, Bor, refl, sym, ap, subst, ◌∙◌, inl, inr, arith}
-use Rattle.std.specs.Prelude.{IfSome, IfNone, MatchResult}
-use Rattle.std.specs.Result.{result_ok}
+use Rattle.std.proofs.Common.{◌≡◌, ℕ, zero, suc, ◌+◌, ◌*◌, ◌^◌, ◌<◌, ◌≤◌, Bool, true, false, cond, List, [], ◌∷◌, ◌++◌, length, get_or, take, drop, refl, sym, ap, subst, ◌∙◌, inl, inr, arith}
 use Rattle.std.specs.Char.{is_ascii_digit, digit_value}
 use Rattle.std.specs.Fmt.{decimal}
 use Rattle.std.specs.List.{prefix_len}
-use Rattle.std.specs.Str.Parse.{AllDigits, ParsesUnsigned, digits_value}
-use Rattle.std.specs.Str.{IsUtf8}
+use Rattle.std.specs.Str.Parse.{AllDigits, digits_value}
 use Rattle.std.proofs.lemmas.Bool.{cases_lt}
 use Rattle.std.proofs.lemmas.Bool.Decides.{nat_tests}
 use Rattle.std.proofs.lemmas.List.{take_at, drop_at}
-use Rattle.std.proofs.lemmas.Fmt.{decimal_is_IsNumeral, decimal_injective, decimal-digits_value, parse-decimal, decimal_digit, first_decimal, IsAscii-from_digits}
-use Rattle.std.proofs.lemmas.Str.{digit_value_digit, IsUtf8-from_ascii}
-use Rattle.std.proofs.lemmas.Str.Parse.{digit_from_value, IsNumeralModel, numerals_by_value, tells_digits, parse_digits}
+use Rattle.std.proofs.lemmas.Fmt.{decimal_is_IsNumeral, decimal_injective, decimal-digits_value, decimal_digit, first_decimal}
+use Rattle.std.proofs.lemmas.Str.{digit_value_digit}
+use Rattle.std.proofs.lemmas.Str.Parse.{digit_from_value, digits_value-take-le, IsNumeralModel, numerals_by_value, tells_digits}
+use Rattle.std.proofs.lemmas.Int.Digits.{digits_value_more}
 use Rattle.fa_order.specs.parts.Digits.{LacksDigit}
 
 -- ---- the digits at the front of bytes
@@ -102,42 +100,31 @@ no_decimal n s rest fits lacks e =
 own : IsNumeralModel (AllDigits 10) (digits_value 10)
 own = numerals_by_value (AllDigits 10) tells_digits
 
--- digits are text
-pub digits_utf8 : (ds : List ℕ) → AllDigits 10 ds → IsUtf8 ds
-digits_utf8 ds digits = IsUtf8-from_ascii ds (IsAscii-from_digits ds digits)
+-- each of them is a digit
+pub digit_at : (ds : List ℕ) (i : ℕ) → AllDigits 10 ds → i < length ds → (48 ≤ get_or ds i 0) × (get_or ds i 0 ≤ 57)
+digit_at [] i digits inside = omega (arith, inside)
+digit_at (c ∷ ds) zero digits inside = digit_from_value c digits.0
+digit_at (c ∷ ds) (suc i) digits inside = digit_at ds i digits.1 (omega (arith, inside))
 
--- what is parsed from digits with no leading zero prints them
-pub parsed_prints : (E : Type 0) (ds : List ℕ) (r : Result ℕ E) (n : ℕ) → AllDigits 10 ds → (get_or ds 0 0 ≡ 48 → length ds ≤ 1) → ParsesUnsigned 32 10 ds r → r ≡ Ok n → ds ≡ decimal n
-parsed_prints E ds r n digits no_zero parses is =
-    let p = parse_digits own {E = E} 32 ds (Ok n) (subst (λ (q : Result ℕ E). ParsesUnsigned 32 10 ds q) is parses) digits in
-    let some : 0 < length ds = p.0.0 in
-    let fits : digits_value 10 ds < 2 ^ 32 = p.0.1 in
-    let back : decimal (digits_value 10 ds) ≡ ds = decimal-digits_value own ds digits some (λ z. let short = no_zero z in omega arith) (omega arith) in
-    sym back ∙ ap decimal (sym p.1)
+-- those that are read first print no more than all of them
+pub front_fits : (ds : List ℕ) (n i : ℕ) → n < 2 ^ 32 → i < length ds → ds ≡ decimal n → digits_value 10 (take i ds) * 10 + digit_value (get_or ds i 0) ≤ n
+front_fits ds n i fits inside e =
+    let value : digits_value 10 ds ≡ n = ap (digits_value 10) e ∙ (decimal_is_IsNumeral n (omega arith)).1 in
+    omega (arith, digits_value_more 10 ds i inside, digits_value-take-le 10 ds (i + 1) (omega arith), value)
 
--- the same of what is passed on of it
-pub parsed_some : (E : Type 0) (ds : List ℕ) (r : Result ℕ E) → AllDigits 10 ds → (get_or ds 0 0 ≡ 48 → length ds ≤ 1) → ParsesUnsigned 32 10 ds r → IfSome (result_ok r) (λ n. ds ≡ decimal n)
-parsed_some E ds (Ok n) digits no_zero parses = parsed_prints E ds (Ok n) n digits no_zero parses refl
-parsed_some E ds (Err error) digits no_zero parses = tt
+-- digits with no leading zero print their number
+pub number_prints : (ds : List ℕ) → AllDigits 10 ds → 0 < length ds → (get_or ds 0 0 ≡ 48 → length ds ≤ 1) → digits_value 10 ds < 2 ^ 32 → ds ≡ decimal (digits_value 10 ds)
+number_prints ds digits some no_zero fits = sym (decimal-digits_value own ds digits some (λ z. let short = no_zero z in omega arith) (omega arith))
 
--- digits that are not parsed print no number
-pub parsed_none : (E : Type 0) (ds : List ℕ) (r : Result ℕ E) → ParsesUnsigned 32 10 ds r → IfNone (result_ok r) ((n : ℕ) → n < 2 ^ 32 → ds ≡ decimal n → ⊥)
-parsed_none E ds (Ok n) parses = tt
-parsed_none E ds (Err error) parses = λ n fits e. let is : Err error ≡ Ok n = parse-decimal 32 n ds (Err error) fits (omega arith) e parses in absurd cc
-
--- what is no text is no digits
-pub not_text : (E : Type 0) (ds : List ℕ) (r : Result (Bor (List ℕ)) E) (P : Bor (List ℕ) → Type 0) (Q : E → Type 0) → AllDigits 10 ds → None ≡ result_ok r → MatchResult r P (λ e. (¬ (IsUtf8 ds)) × Q e) → ⊥
-not_text E ds (Ok s) P Q digits e cases = cc
-not_text E ds (Err error) P Q digits e cases = cases.0 (digits_utf8 ds digits)
-
--- the text is the bytes
-pub same_text : (E : Type 0) (ds : List ℕ) (r : Result (Bor (List ℕ)) E) (s : Bor (List ℕ)) (Q : E → Type 0) → Some s ≡ result_ok r → MatchResult r (λ t. (t.now ≡ ds) × IsUtf8 ds) Q → s.now ≡ ds
-same_text E ds (Ok t) s Q e cases = let same : s ≡ t = cc in ap (λ (b : Bor (List ℕ)). b.now) same ∙ cases.0
-same_text E ds (Err error) s Q e cases = absurd cc
+-- no digits print no number
+pub none_prints : (ds : List ℕ) (n : ℕ) → n < 2 ^ 32 → length ds ≡ 0 → ds ≡ decimal n → ⊥
+none_prints ds n fits none e =
+    let some : 0 < length (decimal n) = (decimal_is_IsNumeral n (omega arith)).0.0 in
+    let same : length ds ≡ length (decimal n) = ap length e in omega arith
 
 -- nor do digits with a leading zero
 pub zero_first_prints : (ds : List ℕ) (n : ℕ) → n < 2 ^ 32 → 1 < length ds → get_or ds 0 0 ≡ 48 → ds ≡ decimal n → ⊥
-zero_first_prints ds n fits long zero e =
+zero_first_prints ds n fits long lead e =
     elim (cases_lt 0 n) [
       | inl above ↦ let first : 48 < get_or (decimal n) 0 0 = first_decimal n above (omega arith) in
           let same : get_or ds 0 0 ≡ get_or (decimal n) 0 0 = ap (λ (s : List ℕ). get_or s 0 0) e in omega arith

@@ -31,10 +31,19 @@ fn number_of(digits: &[u8]) -> Option<u32>
     ensures found { IfSome result (λ n. digits.now ≡ decimal n) }
     ensures none { IfNone result ((n : ℕ) → n < 2 ^ 32 → digits.now ≡ decimal n → ⊥) }
 {
+    if digits.is_empty() {
+        return None;
+    }
     if digits.len() > 1 && digits[0] == b'0' {
         return None;
     }
-    std::str::from_utf8(digits).ok()?.parse().ok()
+    let mut number: u32 = 0;
+    for digit in digits {
+        number = number
+            .checked_mul(10)?
+            .checked_add(u32::from(*digit - b'0'))?;
+    }
+    Some(number)
 }
 
 /// How many digits stand at the front.
