@@ -139,23 +139,41 @@ fn attributes_told(action: &Action<'_>) -> Option<Attributes> {
 /// What attributes an answer to an action has to tell.
 fn expected_of(tree: &Tree, case: &Case<'_>, action: &Action<'_>) -> Option<Expected> {
     match action {
+        Action::Create {
+            name,
+            mode,
+            umask,
+            ..
+        } => of_created(tree, case, name, made(Kind::Regular, *mode, *umask)),
+        Action::Symlink { .. } | Action::Mkdir { .. } | Action::Mknod { .. } => of_made(action),
+        _ => of_known(tree, case, action),
+    }
+}
+
+/// The same of an action on a file that is there.
+fn of_known(tree: &Tree, case: &Case<'_>, action: &Action<'_>) -> Option<Expected> {
+    match action {
         Action::Getattr { .. } => of_file(tree, case.node_in(tree)?),
         Action::Setattr { setattr, .. } => {
             Some(of_file(tree, case.node_in(tree)?)?.behind_setattr(setattr))
         }
         Action::Link { .. } => Some(of_file(tree, case.other_in(tree)?)?.with_a_link()),
         Action::Lookup { name, .. } => { of_file(tree, tree.find(case.node_in(tree)?, name)?) }
-        Action::Create {
-            name,
-            mode,
-            umask,
-            ..
-        } => {
-            match tree.find(case.node_in(tree)?, name) {
-                Some(file) => Some(of_file(tree, file)?.behind_open(case)),
-                None => Some(made(Kind::Regular, *mode, *umask)),
-            }
-        }
+        _ => None,
+    }
+}
+
+/// The same of a CREATE, which opens the file that has the name: of a new one, where there is none.
+fn of_created(tree: &Tree, case: &Case<'_>, name: &[u8], new: Expected) -> Option<Expected> {
+    match tree.find(case.node_in(tree)?, name) {
+        Some(file) => Some(of_file(tree, file)?.behind_open(case)),
+        None => Some(new),
+    }
+}
+
+/// The same of an action that makes a file, but for a CREATE.
+fn of_made(action: &Action<'_>) -> Option<Expected> {
+    match action {
         Action::Symlink { .. } => Some(made(Kind::Symlink, Mode::from_bits(0), 0)),
         Action::Mkdir { mode, umask, .. } => Some(made(Kind::Directory, *mode, *umask)),
         Action::Mknod { mode, umask, .. } => {

@@ -36,8 +36,7 @@ pub(crate) fn other_binding<'c>(
 
 /// The node that the answer to an action gives.
 fn given_by_action<'c>(tree: &Tree, case: &Case<'c>, action: &Action<'_>) -> Option<Binding<'c>> {
-    let answer = case.call.answer.as_ref()?;
-    let node = *answer.given.names().first()?;
+    let node = node_given(case, 0)?;
     let place = case.first_place()?;
     let file = match action {
         Action::Link { .. } => case.other_in(tree),

@@ -5,6 +5,7 @@ use crate::history::History;
 use crate::refused::Refused;
 use crate::replaying::{refused_by, take_step};
 use fa_ledger::{Action, Operation};
+use fa_order::Entry;
 use fa_tree::{Replay, Tree};
 use std::alloc::AllocError;
 
@@ -26,6 +27,8 @@ pub enum Earlier {
 #[derive(Clone, Copy)]
 struct Trial {
     place: usize,
+    /// Whether it is tried at all.
+    is_tried: bool,
     was_right: bool,
     until: Option<u32>,
     tries: u32,
@@ -34,6 +37,30 @@ struct Trial {
 }
 
 impl Trial {
+    /// Takes the step of an entry, notes in a history what it changes, and tries the answer behind it if that may be another then: whether
+    /// the step may be taken.
+    fn follow(
+        &mut self,
+        refused: &Refused<'_>,
+        tree: &mut Tree,
+        replay: &mut Replay<'_>,
+        entry: Entry,
+        history: &mut History,
+    ) -> Result<bool, AllocError> {
+        let Some(step) = Case::of(refused.calls, entry.at) else {
+            return Ok(false);
+        };
+        let before = history.before(tree, &step)?;
+        if !take_step(tree, replay, entry)? {
+            return Ok(false);
+        }
+        history.after(tree, &step, &before, entry.wrote);
+        if self.is_tried && may_change(&step) {
+            self.step(tree, replay, entry.at)?;
+        }
+        Ok(true)
+    }
+
     /// Tries the answer behind the step of a request.
     fn step(&mut self, tree: &Tree, replay: &mut Replay<'_>, asked: u32) -> Result<(), AllocError> {
         if self.tries >= MOST_TRIES {
@@ -51,7 +78,7 @@ impl Trial {
 
     /// What came of it.
     fn outcome(&self) -> Earlier {
-        if self.is_over {
+        if !self.is_tried || self.is_over {
             return Earlier::Unknown;
         }
         match self.until {
@@ -73,6 +100,7 @@ pub(crate) fn follow(
 ) -> Result<Earlier, AllocError> {
     let mut trial = Trial {
         place: case.place,
+        is_tried,
         was_right: false,
         until: None,
         tries: 0,
@@ -82,23 +110,11 @@ pub(crate) fn follow(
         trial.was_right = refused_by(tree, replay, case.place)?.is_none();
     }
     for entry in refused.before {
-        let Some(step) = Case::of(refused.calls, entry.at) else {
+        if !trial.follow(refused, tree, replay, *entry, history)? {
             break;
-        };
-        let before = history.before(tree, &step)?;
-        if !take_step(tree, replay, *entry)? {
-            break;
-        }
-        history.after(tree, &step, &before, entry.wrote);
-        if is_tried && may_change(&step) {
-            trial.step(tree, replay, entry.at)?;
         }
     }
-    Ok(if is_tried {
-        trial.outcome()
-    } else {
-        Earlier::Unknown
-    })
+    Ok(trial.outcome())
 }
 
 /// Whether the step of a request may change what a tree answers: it changes files or names, opens a directory, or gives nodes.

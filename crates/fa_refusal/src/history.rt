@@ -438,10 +438,9 @@ fn place_before<'c>(tree: &Tree, place: Option<NamedPlace<'c>>) -> Option<PlaceB
 
 /// The file whose bytes or bits a request may set, and how many bytes it has.
 fn file_before(tree: &Tree, case: &Case<'_>) -> Option<(FileId, u64)> {
-    let node = tree.file_of(&case.call.node)?;
     let file = match case.action()? {
-        Action::Create { name, .. } => tree.find(node, name)?,
-        _ => node,
+        Action::Create { .. } => file_named(tree, case)?,
+        _ => case.node_in(tree)?,
     };
     Some((file, tree.facts(file)?.size))
 }

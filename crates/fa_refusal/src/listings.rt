@@ -356,10 +356,20 @@ fn missing_names<'t>(
     so_far: &SoFar<'_>,
     opened: &OpenedDirectory<'t>,
 ) -> Result<Vec<&'t [u8]>, AllocError> {
-    let mut missing = Vec::new(alloc);
     let mut found = IndexMap::with_hasher(alloc, *so_far.names.hasher());
+    missing_besides(alloc, so_far, opened, &mut found)
+}
+
+/// The same with those lent that are found already, which are none.
+fn missing_besides<'t>(
+    alloc: Global,
+    so_far: &SoFar<'_>,
+    opened: &OpenedDirectory<'t>,
+    found: &mut IndexMap<&'t [u8], (), Seed>,
+) -> Result<Vec<&'t [u8]>, AllocError> {
+    let mut missing = Vec::new(alloc);
     for _ in 0..MOST_MISSING {
-        let Some(name) = next_missing(opened, so_far, &found) else {
+        let Some(name) = next_missing(opened, so_far, found) else {
             break;
         };
         missing.push(name)?;

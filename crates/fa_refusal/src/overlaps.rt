@@ -142,6 +142,16 @@ fn first_beside(
     case: &Case<'_>,
 ) -> Result<Vec<Beside>, AllocError> {
     let mut replay = Replay::new(refused.alloc, tree.seed(), refused.calls);
+    first_beside_along(refused, tree, &mut replay, case)
+}
+
+/// The same with what was listed so far lent, which is nothing.
+fn first_beside_along(
+    refused: &Refused<'_>,
+    tree: &Tree,
+    replay: &mut Replay<'_>,
+    case: &Case<'_>,
+) -> Result<Vec<Beside>, AllocError> {
     let mut beside = Vec::new(refused.alloc);
     for place in 0..refused.calls.list.len() {
         let Some(other) = Case::at(refused.calls, place) else {
@@ -150,7 +160,7 @@ fn first_beside(
         if beside.len() < FEW && is_beside(case, &other) {
             beside.push(Beside {
                 asked: other.call.asked,
-                next: next_of(refused, tree, &mut replay, &other)?,
+                next: next_of(refused, tree, replay, &other)?,
             })?;
         }
     }

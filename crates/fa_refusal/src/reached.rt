@@ -30,8 +30,17 @@ impl<'a> Refused<'a> {
     /// That of the steps, and where an answer is left out of a walk over the calls.
     pub fn reach(&self, tree: &mut Tree) -> Result<Option<Reached<'a>>, AllocError> {
         let mut replay = Replay::new(self.alloc, tree.seed(), self.calls);
-        if take_steps(tree, &mut replay, self.before)? {
-            self.judged(tree, &mut replay)
+        self.reach_along(tree, &mut replay)
+    }
+
+    /// The same with what was listed so far lent, which is nothing.
+    fn reach_along(
+        &self,
+        tree: &mut Tree,
+        replay: &mut Replay<'_>,
+    ) -> Result<Option<Reached<'a>>, AllocError> {
+        if take_steps(tree, replay, self.before)? {
+            self.judged(tree, replay)
         } else {
             Ok(None)
         }

@@ -3,7 +3,7 @@
 use crate::case::Case;
 use crate::paths::is_within;
 use bitflags::Flags;
-use fa_bodies::{EntryOut, FattrFlags, OpenFlags, RenameFlags, SetattrIn};
+use fa_bodies::{EntryBytes, FattrFlags, OpenFlags, RenameFlags, SetattrBytes};
 use fa_ledger::{Action, Operation, Outcome};
 use fa_tree::{FileId, Kind, Tree};
 
@@ -152,8 +152,8 @@ fn no_directory<'a>(tree: &Tree, file: FileId) -> Option<Unmet<'a>> {
 }
 
 /// That a size can't be set of a file.
-fn not_set<'a>(tree: &Tree, setattr: &SetattrIn, file: FileId) -> Option<Unmet<'a>> {
-    if setattr.valid.contains(FattrFlags::SIZE) {
+fn not_set<'a>(tree: &Tree, setattr: &SetattrBytes<'_>, file: FileId) -> Option<Unmet<'a>> {
+    if setattr.valid().contains(FattrFlags::SIZE) {
         if_not(tree, file, Kind::Regular, Part::NotRegular)
     } else {
         None
@@ -165,10 +165,10 @@ fn not_found<'a>(
     tree: &Tree,
     directory: FileId,
     name: &'a [u8],
-    outcome: &Outcome<EntryOut>,
+    outcome: &Outcome<EntryBytes<'_>>,
 ) -> Option<Unmet<'a>> {
     let says_none = match outcome {
-        Outcome::Succeeds(entry) => entry.nodeid == 0,
+        Outcome::Succeeds(entry) => entry.nodeid() == 0,
         _ => false,
     };
     match (tree.find(directory, name), says_none) {
