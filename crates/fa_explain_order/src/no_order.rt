@@ -103,19 +103,31 @@ pub fn no_order_reasons(
     coming: &Coming<'_>,
 ) -> Result<NoOrderReasons, AllocError> {
     let mut text = Text::new(alloc, ROOM, false)?;
-    let Some(case) = answered_by(calls, coming.at) else {
-        return Ok(NoOrderReasons { text, order: None });
+    let order = match answered_by(calls, coming.at) {
+        Some(case) => no_order_lines(alloc, &mut text, capture, calls, first, coming, &case)?,
+        None => None,
     };
-    exchange(alloc, &mut text, capture, &case)?;
-    let reasons = Reasons::of(alloc, calls, first, coming, case.call.asked)?;
-    reasons.rule_lines(&mut text);
-    beside_line(&mut text, calls, &case, coming.at);
-    trees_line(&mut text, coming);
-    reasons.tree_lines(&mut text);
-    reasons.earlier_line(&mut text);
-    reasons.look_at(&mut text, &case);
-    let order = reasons.least().map(|least| least.order);
     Ok(NoOrderReasons { text, order })
+}
+
+/// Writes why no order goes past the reply to a request: the place of the order that leads to the tree of which is told first, if there is
+/// one.
+fn no_order_lines(
+    alloc: Global,
+    text: &mut Text,
+    capture: &Capture<'_>,
+    calls: &Calls<'_>,
+    first: &Tree,
+    coming: &Coming<'_>,
+    case: &Case<'_>,
+) -> Result<Option<usize>, AllocError> {
+    exchange(alloc, text, capture, case)?;
+    let mut reasons = Reasons {
+        calls,
+        coming,
+        list: Vec::new(alloc),
+    };
+    reasons.tell(alloc, text, first, case)
 }
 
 /// What is known where a search gave up at a message, and what to do: the lines behind the line of a verdict that says so.
@@ -256,11 +268,22 @@ impl Reason {
         let Some(finding) = Finding::of(refused, tree, &reached.case, code)? else {
             return Ok(None);
         };
+        Reason::by(refused, tree, order, &reached.case, &finding)
+    }
+
+    /// The same by what was found.
+    fn by(
+        refused: &Refused<'_>,
+        tree: &Tree,
+        order: usize,
+        case: &Case<'_>,
+        finding: &Finding<'_, '_>,
+    ) -> Result<Option<Self>, AllocError> {
         let mut lines = Text::new(refused.alloc, ROOM_OF_A_TREE, false)?;
-        let looks = because(&mut lines, refused, tree, &reached.case, &finding)?;
+        let looks = because(&mut lines, refused, tree, case, finding)?;
         Ok(Some(Reason {
             order,
-            code,
+            code: finding.code(),
             looks,
             lines,
         }))
@@ -355,26 +378,35 @@ struct Reasons<'a> {
     list: Vec<Reason>,
 }
 
-impl<'a> Reasons<'a> {
-    /// Why each tree to which an order leads refuses the answer to a request.
-    fn of(
+impl Reasons<'_> {
+    /// Takes in why each tree to which an order leads refuses the answer to a request, and writes it: the place of the order that leads to
+    /// the tree of which is told first, if there is one.
+    fn tell(
+        &mut self,
         alloc: Global,
-        calls: &'a Calls<'a>,
+        text: &mut Text,
         first: &Tree,
-        coming: &'a Coming<'a>,
-        asked: u32,
-    ) -> Result<Self, AllocError> {
-        let mut list = Vec::new(alloc);
+        case: &Case<'_>,
+    ) -> Result<Option<usize>, AllocError> {
+        self.take(alloc, first, case.call.asked)?;
+        self.rule_lines(text);
+        beside_line(text, self.calls, case, self.coming.at);
+        trees_line(text, self.coming);
+        self.tree_lines(text);
+        self.earlier_line(text);
+        self.look_at(text, case);
+        Ok(self.least().map(|least| least.order))
+    }
+
+    /// Takes in why each tree to which an order leads refuses the answer to a request.
+    fn take(&mut self, alloc: Global, first: &Tree, asked: u32) -> Result<(), AllocError> {
+        let coming = self.coming;
         for (number, order) in coming.orders.iter().enumerate() {
-            if let Some(reason) = Reason::of(alloc, calls, first, order, number, asked)? {
-                list.push(reason)?;
+            if let Some(reason) = Reason::of(alloc, self.calls, first, order, number, asked)? {
+                self.list.push(reason)?;
             }
         }
-        Ok(Reasons {
-            calls,
-            coming,
-            list,
-        })
+        Ok(())
     }
 
     /// The first of those with the least code.
