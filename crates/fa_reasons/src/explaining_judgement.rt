@@ -237,17 +237,29 @@ fn stop_reasons(
         MOST_TREES,
         &mut Nobody,
     )?;
-    let Some(Alternatives { mut orders, trees }) = found else {
-        return Ok(Reasons::without_entries(alloc, Text::new(alloc, 0, false)?));
-    };
+    match found {
+        Some(mut found) => reasons_of_orders(alloc, capture, calls, first, &mut found, at),
+        None => Ok(Reasons::without_entries(alloc, Text::new(alloc, 0, false)?)),
+    }
+}
+
+/// What differs on the trees to which these orders lead: that to the first of which is told is taken out of them.
+fn reasons_of_orders(
+    alloc: Global,
+    capture: &Capture<'_>,
+    calls: &Calls<'_>,
+    first: &Tree,
+    found: &mut Alternatives,
+    at: u32,
+) -> Result<Reasons, AllocError> {
     let coming = Coming {
-        orders: &orders,
-        trees,
+        orders: &found.orders,
+        trees: found.trees,
         at,
     };
     let NoOrderReasons { text, order } = no_order_reasons(alloc, capture, calls, first, &coming)?;
     let entries = match order {
-        Some(place) if place < orders.len() => orders.swap_remove(place),
+        Some(place) if place < found.orders.len() => found.orders.swap_remove(place),
         _ => Vec::new(alloc),
     };
     Ok(Reasons { text, entries })
