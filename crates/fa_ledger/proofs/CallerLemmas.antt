@@ -42,8 +42,9 @@ pub use Rattle.fa_ledger.proofs.NamingLemmas.{IsTreeAnswer, IsNamedSince, IsOpen
 -- operations, and what comes of those that are answered
 pub use Rattle.fa_ledger.proofs.OperationLemmas.{operation_asked, lost, lost_made, lost_ended, ended_by, not_unanswered, listed_nodes, gives, ComesTo, WroteWithin, reply_comes}
 pub use Rattle.fa_ledger.proofs.OperationLawLemmas.{operation_made, answer_comes, calls_end_where_answered}
--- entries of a READDIR
+-- entries of a READDIR, and that a listing has no more entries than bytes
 pub use Rattle.fa_ledger.proofs.GivingLemmas.{readdir_gives_none}
+pub use Rattle.fa_ledger.proofs.PlaceLemmas.{few_entries}
 -- items one after the other
 pub use Rattle.fa_ledger.proofs.TakingLemmas.{moved_on}
 
