@@ -24,6 +24,7 @@ use fa_capture::codes;
 pub const MAX_FILE_BYTES: u64 = 1_099_511_627_776;
 
 /// The body of a request with this opcode. The error is the code of the first check that fails.
+#[inline(always)]
 pub(crate) fn request_body(opcode: u32, body: &[u8]) -> Result<RequestBody<'_>, u16>
     ensures found { IfOk result (λ b. IsRequestBody opcode body.now (body_shown b)) }
     ensures limit { IfOk result (λ b. IsWithinLimit (body_shown b)) }
@@ -41,6 +42,7 @@ pub(crate) fn request_body(opcode: u32, body: &[u8]) -> Result<RequestBody<'_>, 
 }
 
 /// The body of a request with this opcode, if the bytes are one.
+#[inline(always)]
 fn body_of(opcode: u32, body: &[u8]) -> Option<RequestBody<'_>>
     ensures found { IfSome result (λ b. IsRequestBody opcode body.now (body_shown b)) }
     ensures none { IfNone result ((b : PlainBody) → IsRequestBody opcode body.now b → ⊥) }

@@ -67,6 +67,7 @@ impl Block for DirentHead {
 }
 
 /// The name of so many bytes at the front of bytes, and what stands behind its padding.
+#[inline(always)]
 fn padded_name(count: u32, bytes: &[u8]) -> Option<(&[u8], &[u8])>
     ensures found { IfSome result
         (λ r. (length r.0.now ≡ count) × IsPaddedName bytes.now r.0.now r.1.now) }
@@ -83,6 +84,7 @@ fn padded_name(count: u32, bytes: &[u8]) -> Option<(&[u8], &[u8])>
 }
 
 /// What READDIRPLUS puts before a directory entry, and what stands behind it.
+#[inline(always)]
 fn entry_before(plus: bool, bytes: &[u8]) -> Option<(Option<EntryOut>, &[u8])>
     ensures found { IfSome result (λ r. HasEntry plus bytes.now r.0 r.1.now) }
     ensures none { IfNone result
@@ -96,6 +98,7 @@ fn entry_before(plus: bool, bytes: &[u8]) -> Option<(Option<EntryOut>, &[u8])>
 }
 
 /// The directory entry at the front of bytes, and what stands behind its padding.
+#[inline(always)]
 pub(crate) fn dirent_at(plus: bool, bytes: &[u8]) -> Option<(Dirent<'_>, &[u8])>
     ensures found { IfSome result (λ r. IsDirent plus bytes.now (dirent_shown r.0) r.1.now) }
     ensures none { IfNone result
@@ -138,6 +141,7 @@ impl<'a> Iterator for Entries<'a> {
     ghost remaining = { item_count entries_left };
 
     /// The next entry, in time linear in its name.
+    #[inline(always)]
     fn next(&mut self) -> Option<Dirent<'a>> {
         let (dirent, rest) = dirent_at(self.plus, self.bytes)?;
         self.bytes = rest;

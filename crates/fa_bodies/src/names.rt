@@ -31,7 +31,7 @@ pub(crate) fn is_filename(bytes: &[u8]) -> bool
 pub fn is_name(bytes: &[u8]) -> bool
     ensures { IsTrue result ↔ IsName bytes.now }
 {
-    is_filename(bytes) && bytes != b".".as_slice() && bytes != b"..".as_slice()
+    is_filename(bytes) && !matches!(bytes, [b'.'] | [b'.', b'.'])
 }
 
 /// Whether bytes are the target of a symbolic link (POSIX `symlink`): one byte or more, none of them zero. Slashes, `.` and

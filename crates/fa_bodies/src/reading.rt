@@ -154,6 +154,7 @@ pub fn known_reply<'a>(asked: &Request<'_>, p: &Packet<'a>) -> Reply<'a>
 }
 
 /// What a reply with this error and body says to a request.
+#[inline(always)]
 fn said<'a>(asked: &Request<'_>, error: i32, body: &'a [u8]) -> Option<Reply<'a>>
     ensures found { IfSome result
         (λ reply. Says (request_shown asked.now) error body.now (reply_shown reply)) }

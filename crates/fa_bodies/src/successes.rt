@@ -14,6 +14,7 @@ use crate::views::{AttrBytes, EntryBytes};
 use crate::walking::listing;
 
 /// What the body of a success says to a request with this opcode and body.
+#[inline(always)]
 pub(crate) fn success<'a>(opcode: u32, asked: &RequestBody<'_>, body: &'a [u8]) -> Option<Reply<'a>>
     ensures found { IfSome result
         (λ reply. IsSuccessBody opcode (body_shown asked.now) body.now (reply_shown reply)) }
