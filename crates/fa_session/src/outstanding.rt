@@ -76,6 +76,7 @@ impl<'a> Outstanding<'a> {
     /// there is none, and nothing is changed.
     ///
     /// Expected constant time but for growing.
+    #[inline(always)]
     pub fn insert(&mut self, waiting: Waiting<'a>) -> Result<(), SessionError>
         ensures inserted { OnOk result ((unique : ℕ) → lookup (nat_eq unique) self.new ≡ cond (nat_eq waiting.entry.unique unique) (Some waiting.entry) (lookup (nat_eq unique) self.old)) }
         ensures memory { IfErr result (λ error. (error ≡ Memory) × (lookup (nat_eq waiting.entry.unique) self.old ≡ None)) }
@@ -99,6 +100,7 @@ impl<'a> Outstanding<'a> {
     /// Takes the request with this unique away, if there is one.
     ///
     /// Takes no memory, in expected constant time.
+    #[inline(always)]
     pub fn remove(&mut self, unique: u64)
         ensures { (other : ℕ) → lookup (nat_eq other) self.new ≡ cond (nat_eq unique other) None (lookup (nat_eq other) self.old) }
     {
