@@ -1,21 +1,17 @@
 -- Names that were listed once, or at all, and what that says of a listing.
-use Rattle.std.proofs.Common.{◌≡◌, ℕ, zero, suc, ◌+◌, ◌<◌, ◌≤◌, Bool, true, false, cond, List, [], ◌∷◌, ◌++◌, get_or, Option, None, Some, Bor, refl, sym, ap, subst, ◌∙◌, inl, inr, arith}
-use Rattle.std.specs.Prelude.{◌↔◌, All, Contains, not, is_some, IsTrue, IsFalse, IfSome, IfNone}
+use Rattle.std.proofs.Common.{◌≡◌, ℕ, zero, suc, ◌+◌, ◌<◌, ◌≤◌, Bool, true, false, cond, List, [], ◌∷◌, ◌++◌, Option, None, Some, Bor, refl, sym, ap, subst, ◌∙◌, arith}
+use Rattle.std.specs.Prelude.{◌↔◌, Contains, not, is_some, IsTrue, IsFalse, IfSome, IfNone}
 use Rattle.std.specs.Bool.{MatchBool}
 use Rattle.std.specs.Cmp.Lexicographic.{bytes_decides}
 use Rattle.std.specs.Fn.{Shared, FnReturnsAt}
 use Rattle.std.specs.FinMap.{get}
 use Rattle.std.specs.Str.{bytes_eq}
-use Rattle.std.proofs.lemmas.List.Sums.{sum_by-cons, sum_by-append, get_or-le-sum_by}
-use Rattle.std.proofs.lemmas.Bool.{cases_lt}
-use Rattle.std.proofs.lemmas.List.Elements.{All-contains, Contains-get_or}
+use Rattle.std.proofs.lemmas.List.Sums.{sum_by-cons, get_or-le-sum_by}
+use Rattle.std.proofs.lemmas.List.{append-nil}
 use Rattle.fa_bodies.specs.Dirents.{PlainDirent}
 use Rattle.fa_tree.specs.declared.id.FileId.{FileId}
 use Rattle.fa_tree.specs.Directories.{times_listed, room_for_any, IsOrderly}
 use Rattle.fa_tree.specs.State.{OpenDirectory}
-use Rattle.fa_tree.specs.declared.tally.Tally.{Tally}
-use Rattle.fa_tree.specs.parts.ListingParts.{IsFirstTime}
-use Rattle.fa_tree.specs.parts.TallyParts.{tallied, tally_of, Tallies}
 
 -- what is told of each answer of a closure, at a value
 pub told_at : {F T R : Type 0} {g : Shared F (Bor T × Unit {0}) R} {f : F} {x : T} {r : R} → FnReturnsAt g f x r
@@ -104,81 +100,36 @@ module _ (h : OpenDirectory) where
       (λ each. absurd (let no : true ≡ false = (told_at some.2 (λ name b. IsFalse b ↔ (1 ≤ times name)) tells).1 (each name.now some.0 some.1) in cc)),
     )
 
--- ---- entries after what was listed so far
-
-module _ (h : OpenDirectory) (so_far : Tally) (times : List ℕ → ℕ) (are : Tallies so_far times) (entries : List PlainDirent) where
-  -- no name that stayed was listed more than once, so far and by these entries together
-  abbrev pub IsOnce : Type 0
-  IsOnce = (name : List ℕ) (file : FileId) → get h.stayed name ≡ Some file → times name + times_listed name entries ≤ 1
-
-  -- what is listed now and was not before
-  not_before : (n now : ℕ) → n + now ≤ 1 → 1 ≤ now → tallied n ≡ None
-  not_before zero now once listed = refl
-  not_before (suc n) now once listed = absurd (omega (arith, once, listed))
-
-  pub listed_before : IsTrue false ↔ All (IsFirstTime h so_far) entries → IsTrue false ↔ IsOnce
-  listed_before told = (
-    (λ no. absurd cc),
-    (λ once. told.1 (λ k d within. record {
-      first = λ file stayed.
-          let e = get_or entries k d in
-          let listed = lists_its_name e.name entries e (Contains-get_or entries k d within) refl in
-          are.told e.name ∙ not_before (times e.name) (times_listed e.name entries) (once e.name file stayed) listed;
-    })),
-  )
-
-  -- a name that was listed so far is none of those listed now
-  not_now : (name : List ℕ) (file : FileId) → get h.stayed name ≡ Some file → All (IsFirstTime h so_far) entries → (n : ℕ) → times name ≡ n → n ≤ 1 → times_listed name entries ≤ 1
-      → n + times_listed name entries ≤ 1
-  not_now name file stayed first zero is before now = omega (arith, now)
-  not_now name file stayed first (suc n) is before now =
-      elim (cases_lt 0 (times_listed name entries)) [
-        | inl some ↦
-            let d = listed_by name entries some in
-            let own : IsFirstTime h so_far d.0 = All-contains (IsFirstTime h so_far) entries d.0 first d.1 in
-            let none : tallied (suc n) ≡ None = ap tallied (sym is) ∙ sym (are.told name) ∙ ap (tally_of so_far) (sym d.2) ∙ own.first file (ap (get h.stayed) d.2 ∙ stayed) in
-            absurd (listed_some n none)
-        | inr none ↦ omega (arith, before, none)
-      ]
-    where
-      listed_some : (n : ℕ) → tallied (suc n) ≡ None → ⊥
-      listed_some zero none = cc
-      listed_some (suc n) none = cc
-
-  pub once_so : (r : Bool) → NoneTwice h times → All (IsFirstTime h so_far) entries → IsTrue r ↔ NoneTwice h (λ name. 0 + times_listed name entries) → IsTrue r ↔ IsOnce
-  once_so r before first now = (
-    (λ t name file stayed.
-        let once = now.0 t name file stayed in
-        let both : times_listed name entries ≤ 1 = omega (arith, once) in
-        not_now name file stayed first (times name) refl (before name file stayed) both),
-    (λ once. now.1 (λ name file stayed. let one = once name file stayed in omega (arith, one))),
-  )
-
 -- ---- orderly listings
 
 module _ (h : OpenDirectory) (so_far entries : List PlainDirent) (size : ℕ) where
-  -- what was listed so far is whole, if this is the end
+  -- how often a name is listed, so far and by these entries together
+  abbrev pub times_in_all : List ℕ → ℕ
+  times_in_all name = times_listed name (so_far ++ entries)
+
+  -- all that stayed is listed, if this is the end
   abbrev pub IsWhole : Type 0
-  IsWhole = entries ≡ [] → room_for_any ≤ size → AllListed h (λ name. times_listed name so_far)
+  IsWhole = entries ≡ [] → room_for_any ≤ size → AllListed h times_in_all
 
-  pub not_whole : IsTrue false ↔ IsWhole → IsTrue false ↔ IsOrderly h so_far entries size
-  not_whole told = (
-    (λ no. absurd cc),
-    (λ orderly. told.1 (λ none room name file stayed.
-        let d = orderly.whole none room name file stayed in
-        lists_its_name name so_far d.0 d.1 d.2)),
-  )
+  -- at the end nothing is listed but what was listed so far
+  at_end : entries ≡ [] → (name : List ℕ) → times_in_all name ≡ times_listed name so_far
+  at_end none name = ap (λ ds. times_listed name (so_far ++ ds)) none ∙ ap (times_listed name) (append-nil so_far)
 
-  pub whole_and_once : (r : Bool) → IsTrue true ↔ IsWhole
-      → IsTrue r ↔ ((name : List ℕ) (file : FileId) → get h.stayed name ≡ Some file → times_listed name so_far + times_listed name entries ≤ 1)
-      → IsTrue r ↔ IsOrderly h so_far entries size
-  whole_and_once r whole once = (
-    (λ t. record {
-      once = λ name file stayed. omega (arith, both name, once.0 t name file stayed);
-      whole = λ none room name file stayed. listed_by name so_far (whole.0 refl none room name file stayed);
-    }),
-    (λ orderly. once.1 (λ name file stayed. omega (arith, both name, orderly.once name file stayed))),
-  )
-    where
-      both : (name : List ℕ) → times_listed name (so_far ++ entries) ≡ times_listed name so_far + times_listed name entries
-      both name = sum_by-append (λ (e : PlainDirent). times_if (bytes_eq e.name name)) so_far entries
+  orderly : NoneTwice h times_in_all → IsWhole → IsOrderly h so_far entries size
+  orderly once whole = record {
+    once = once;
+    whole = λ none room name file stayed. listed_by name so_far (let listed = whole none room name file stayed in omega (arith, listed, at_end none name));
+  }
+
+  whole_of : IsOrderly h so_far entries size → IsWhole
+  whole_of is none room name file stayed =
+      let d = is.whole none room name file stayed in
+      omega (arith, lists_its_name name so_far d.0 d.1 d.2, at_end none name)
+
+  -- what stayed is listed twice: it is not orderly
+  pub not_once : (once : Bool) → once ≡ false → IsTrue once ↔ NoneTwice h times_in_all → IsTrue once ↔ IsOrderly h so_far entries size
+  not_once once fails twice = ((λ t. absurd (let clash : true ≡ false = sym t ∙ fails in cc)), (λ is. twice.1 is.once))
+
+  -- none is: it is orderly where it is whole
+  pub once_and : (whole : Bool) → IsTrue true ↔ NoneTwice h times_in_all → IsTrue whole ↔ IsWhole → IsTrue whole ↔ IsOrderly h so_far entries size
+  once_and whole once is = ((λ t. orderly (once.0 refl) (is.0 t)), (λ so. is.1 (whole_of so)))

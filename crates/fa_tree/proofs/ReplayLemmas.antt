@@ -1,6 +1,6 @@
 -- What was listed so far for a call, after what was for the one that it goes on from, and after what was for one that goes on from the same.
-use Rattle.std.proofs.Common.{◌≡◌, ◌⊎◌, ℕ, zero, suc, ◌+◌, ◌<◌, ◌≤◌, Bool, true, false, cond, nat_eq, List, [], ◌∷◌, ◌++◌, length, take, Option, None, Some, Result, Ok, Err, refl, sym, ap, subst, ◌∙◌, inl, inr, arith}
-use Rattle.std.specs.Prelude.{◌==◌, slice_get, option_map, option_and_then, OnOk, OnErr}
+use Rattle.std.proofs.Common.{◌≡◌, ◌⊎◌, ℕ, zero, suc, ◌+◌, ◌<◌, ◌≤◌, Bool, true, false, cond, nat_eq, List, [], ◌∷◌, ◌++◌, length, take, Option, None, Some, refl, sym, ap, subst, ◌∙◌, inl, inr, arith}
+use Rattle.std.specs.Prelude.{◌==◌, slice_get, option_map, option_and_then}
 use Rattle.std.specs.Map.{lookup}
 use Rattle.std.specs.Str.{bytes_eq}
 use Rattle.std.specs.Option.{option_map_or}
@@ -8,7 +8,7 @@ use Rattle.std.proofs.Math.Bridge.{le_prop}
 use Rattle.std.proofs.Math.Logic.{∥∥₁_elim}
 use Rattle.std.proofs.lemmas.Bool.{cases_Bool, cases_order}
 use Rattle.std.proofs.lemmas.Bool.Decides.{nat_tests, eqb_tells}
-use Rattle.std.proofs.lemmas.List.{length-take}
+use Rattle.std.proofs.lemmas.List.{length-take, take_all}
 use Rattle.std.proofs.lemmas.List.Sums.{sum_by-append}
 use Rattle.std.proofs.lemmas.Option.{slice_get_within, same_Some}
 use Rattle.fa_capture.specs.Message.{Message}
@@ -27,6 +27,7 @@ use Rattle.fa_ledger.proofs.CallerLemmas.{call_at, asked_later}
 use Rattle.fa_tree.specs.Directories.{times_listed}
 use Rattle.fa_tree.specs.declared.tally.Tally.{Tally}
 use Rattle.fa_tree.specs.declared.kept.ListedSoFar.{ListedSoFar}
+use Rattle.fa_tree.specs.parts.KeptParts.{AreAmong}
 use Rattle.fa_tree.specs.parts.ReplayParts.{IsTold}
 use Rattle.fa_tree.specs.parts.TallyParts.{going_on_from, Tallies, Notes}
 use Rattle.fa_tree.proofs.SoFarLemmas.{Rise, listed_more, listed_none, left_at}
@@ -173,21 +174,27 @@ tally_after old new ds es all is are notes =
     (tallies_so new (λ name. times_listed name ds + times_listed name es) (λ name. times_listed name (ds ++ es))
     (λ name. sym (sum_by-append (λ (e : PlainDirent). cond (bytes_eq e.name name) 1 0) ds es)) (notes (λ name. times_listed name ds) are))
 
+-- where at least all entries of an answer count, all do
+pub counted_all : (tally : Tally) (so_far entries answered : List PlainDirent) (count : ℕ) → answered ≡ entries → length entries ≤ count → Tallies tally (λ name. times_listed name (so_far ++ entries))
+    → Tallies tally (λ name. times_listed name (so_far ++ take count answered))
+counted_all tally so_far entries answered count same most are =
+    tally_same tally (so_far ++ entries) (so_far ++ take count answered)
+    (ap (λ ds. so_far ++ ds) (sym (ap (take count) same ∙ take_all count entries most))) are
+
 -- ---- what is kept
 
 -- all that a table has is so
 abbrev pub AreToldIn : Calls → List (ℕ × ListedSoFar) → Type 0
 AreToldIn calls table = (handle : ℕ) (kept : ListedSoFar) → lookup (nat_eq handle) table ≡ Some kept → IsTold calls kept
 
--- what a table has after an entry was put in, or was not, is that entry or was there
-pub put_or_there : {A E : Type 0} (r : Result A E) (old new : List (ℕ × ListedSoFar)) (handle : ℕ) (listed : ListedSoFar) (Wrote : Type 0)
-    → (Wrote → (q : ℕ) → lookup (nat_eq q) new ≡ cond (nat_eq handle q) (Some listed) (lookup (nat_eq q) old)) → OnOk r Wrote → OnErr r (new ≡ old)
+-- what a table has after an entry was put in is that entry or was there
+pub put_or_there : (old between new : List (ℕ × ListedSoFar)) (handle : ℕ) (listed : ListedSoFar)
+    → ((q : ℕ) → lookup (nat_eq q) new ≡ cond (nat_eq handle q) (Some listed) (lookup (nat_eq q) between)) → AreAmong between old
     → (q : ℕ) (kept : ListedSoFar) → lookup (nat_eq q) new ≡ Some kept → ((handle ≡ q) × (listed ≡ kept)) ⊎ (lookup (nat_eq q) old ≡ Some kept)
-put_or_there (Ok a) old new handle listed Wrote says wrote stays q kept found = elim (eqb_tells handle q) [
-  | inl same ↦ inl (same.1, same_Some listed kept (sym (says wrote q ∙ ap (λ b. cond b (Some listed) (lookup (nat_eq q) old)) same.0) ∙ found))
-  | inr other ↦ inr (sym (says wrote q ∙ ap (λ b. cond b (Some listed) (lookup (nat_eq q) old)) other.0) ∙ found)
+put_or_there old between new handle listed wrote among q kept found = elim (eqb_tells handle q) [
+  | inl same ↦ inl (same.1, same_Some listed kept (sym (wrote q ∙ ap (λ b. cond b (Some listed) (lookup (nat_eq q) between)) same.0) ∙ found))
+  | inr other ↦ inr (among q kept (sym (wrote q ∙ ap (λ b. cond b (Some listed) (lookup (nat_eq q) between)) other.0) ∙ found))
 ]
-put_or_there (Err e) old new handle listed Wrote says wrote stays q kept found = inr (ap (lookup (nat_eq q)) (sym stays) ∙ found)
 
 -- what a table has after an entry was taken away was there
 pub left_there : (old new : List (ℕ × ListedSoFar)) (handle : ℕ) → ((q : ℕ) → lookup (nat_eq q) new ≡ cond (nat_eq handle q) None (lookup (nat_eq q) old))

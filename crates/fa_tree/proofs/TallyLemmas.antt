@@ -1,163 +1,137 @@
 -- What a tally tells once a name was noted, and once entries were.
-use Rattle.std.proofs.Common.{◌≡◌, ℕ, zero, suc, ◌+◌, ◌<◌, ◌⊎◌, Bool, true, false, cond, List, [], ◌∷◌, ◌++◌, length, Option, None, Some, Result, Ok, Err, refl, sym, ap, subst, ◌∙◌, inl, inr, arith}
-use Rattle.std.specs.Prelude.{slice_get, option_map, OnErr}
+use Rattle.std.proofs.Common.{◌≡◌, ℕ, zero, suc, ◌+◌, ◌<◌, Bool, true, false, cond, List, [], ◌∷◌, ◌++◌, length, take, refl, sym, ap, subst, ◌∙◌, arith, append_assoc}
+use Rattle.std.specs.Prelude.{◌↔◌, ◌≤◌, get_or, not, IsTrue}
 use Rattle.std.specs.Bool.{MatchBool}
 use Rattle.std.specs.Cmp.Lexicographic.{bytes_decides}
 use Rattle.std.specs.List.{AllWithin, HoldsAt}
 use Rattle.std.specs.Str.{bytes_eq}
+use Rattle.std.proofs.lemmas.List.{append-nil}
+use Rattle.std.proofs.lemmas.List.Folds.{Any-from_list_any, list_any_at}
 use Rattle.std.proofs.lemmas.List.Sums.{sum_by-append, sum_by_push}
-use Rattle.std.proofs.lemmas.Option.{get_or_from_slice_get, slice_get_within}
+use Rattle.std.proofs.lemmas.Option.{get_or_from_slice_get}
 use Rattle.fa_bodies.specs.Dirents.{PlainDirent}
 use Rattle.fa_ledger.proofs.CallerLemmas.{element_at}
 use Rattle.fa_tree.specs.declared.tally.Listed.{Listed}
+use Rattle.fa_tree.specs.declared.tally.Reach.{Reach}
 use Rattle.fa_tree.specs.declared.tally.Tally.{Tally}
 use Rattle.fa_tree.specs.Directories.{times_listed}
-use Rattle.fa_tree.specs.parts.TallyParts.{tallied, tally_of, IsAmong, Tallies, Notes}
-
--- a refusal says what holds anyway
-pub on_error : {A E : Type 0} (r : Result A E) (Says : Type 0) → Says → OnErr r Says
-on_error (Ok a) Says holds = tt
-on_error (Err e) Says holds = holds
+use Rattle.fa_tree.specs.parts.TallyParts.{was_listed, was_repeated, is_among, AreListed, Tallies, TalliesAt, Grows, Notes}
 
 -- ---- one name more
 
--- what stands for a name that had nothing, and for one that had something, once it is listed again
-pub listed_first : (n : ℕ) → tallied n ≡ None → tallied (n + 1) ≡ Some false
-listed_first zero is = refl
-listed_first (suc zero) is = absurd cc
-listed_first (suc (suc n)) is = absurd cc
+-- names among which one is put stand among them, and no others
+abbrev pub IsPut : (name : List ℕ) → (old new : List Listed) → Type 0
+IsPut name old new = (other : List ℕ) → is_among new other ≡ cond (bytes_eq name other) true (is_among old other)
 
-pub listed_again : (n : ℕ) (more : Bool) → tallied n ≡ Some more → tallied (n + 1) ≡ Some true
-listed_again zero more is = absurd cc
-listed_again (suc zero) more is = refl
-listed_again (suc (suc n)) more is = let next : suc (suc n) + 1 ≡ suc (suc (n + 1)) = omega arith in ap tallied next
+pub is_put : (name : List ℕ) (old new : List Listed)
+    → ((listed : Listed) → is_among new listed.name.now ≡ cond (bytes_eq name listed.name.now) true (is_among old listed.name.now)) → IsPut name old new
+is_put name old new wrote other = wrote (record { name = record { ref_ptr = (0, 0); now = other } })
 
--- a write that is seen at each listed name is seen at each name
-pub wrote_each : (old new : Tally) (name : List ℕ) (w : Option Bool)
-    → ((listed : Listed) → tally_of new listed.name.now ≡ cond (bytes_eq name listed.name.now) w (tally_of old listed.name.now))
-    → (other : List ℕ) → tally_of new other ≡ cond (bytes_eq name other) w (tally_of old other)
-wrote_each old new name w wrote other = wrote (record { name = record { ref_ptr = (0, 0); now = other } })
+-- what is put in says whether it was there
+pub was_there : (fresh there : Bool) → fresh ≡ not there → fresh ≡ false → there ≡ true
+was_there fresh true is old = refl
+was_there fresh false is old = absurd cc
 
--- a name for which something was written is marked
-pub marked_over : (old between new : Tally) (name : List ℕ)
-    → ((other : List ℕ) → tally_of between other ≡ cond (bytes_eq name other) (Some false) (tally_of old other))
-    → ((other : List ℕ) → tally_of new other ≡ cond (bytes_eq name other) (option_map (λ more. true) (tally_of between name)) (tally_of between other))
-    → (other : List ℕ) → tally_of new other ≡ cond (bytes_eq name other) (Some true) (tally_of old other)
-marked_over old between new name wrote marked other =
-    marked other ∙ ap (λ w. cond (bytes_eq name other) w (tally_of between other)) own ∙ by (bytes_eq name other) (wrote other)
-  where
-    own : option_map {T = Bool} {U = Bool} (λ more. true) (tally_of between name) ≡ Some true
-    own = ap (λ (o : Option Bool). option_map {T = Bool} {U = Bool} (λ more. true) o) (wrote name ∙ ap (λ b. cond b (Some false) (tally_of old name)) ((bytes_decides name name).1 refl))
+pub was_not_there : (fresh there : Bool) → fresh ≡ not there → fresh ≡ true → there ≡ false
+was_not_there fresh true is new = absurd cc
+was_not_there fresh false is new = refl
 
-    by : (b : Bool) → tally_of between other ≡ cond b (Some false) (tally_of old other) → cond b (Some true) (tally_of between other) ≡ cond b (Some true) (tally_of old other)
-    by true is = refl
-    by false is = is
+-- so often is a name listed once it is noted again
+abbrev pub once_more : (name : List ℕ) → (times : List ℕ → ℕ) → List ℕ → ℕ
+once_more name times other = times other + cond (bytes_eq name other) 1 0
 
--- what was listed once, and is listed again, was listed more than once
-pub once_again : (n : ℕ) (more : Bool) → tallied n ≡ Some more → 1 < n + 1
-once_again zero more is = absurd cc
-once_again (suc n) more is = omega arith
+-- a name that was not listed is listed now
+now_listed : (n : ℕ) → was_listed (n + 1) ≡ true
+now_listed zero = refl
+now_listed (suc n) = let next : suc n + 1 ≡ suc (n + 1) = omega arith in ap was_listed next
 
--- what was listed for the first time was not
-pub first_alone : (n : ℕ) → tallied n ≡ None → 1 < n + 1 → ⊥
-first_alone zero is more = omega (arith, more)
-first_alone (suc zero) is more = absurd cc
-first_alone (suc (suc n)) is more = absurd cc
+-- and is not listed more than once
+first_alone : (n : ℕ) → was_listed n ≡ false → was_repeated (n + 1) ≡ was_repeated n
+first_alone zero never = refl
+first_alone (suc n) never = absurd cc
 
--- what is marked was listed more than once
-pub marked_more : (n : ℕ) (more : Bool) → tallied n ≡ Some more → more ≡ true → 1 < n
-marked_more zero more is marked = absurd cc
-marked_more (suc zero) more is marked = absurd cc
-marked_more (suc (suc n)) more is marked = omega arith
+-- one that was listed is
+now_repeated : (n : ℕ) → was_listed n ≡ true → was_repeated (n + 1) ≡ true
+now_repeated zero was = absurd cc
+now_repeated (suc n) was = let next : suc n + 1 ≡ suc (suc n) = omega arith in ap was_repeated next
 
--- ---- names that stand among others
+none_more : (n : ℕ) → n + 0 ≡ n
+none_more n = omega arith
 
-among_more : {X : Type 0} (xs : List X) (y x : X) (k : ℕ) → slice_get xs k ≡ Some x → slice_get (xs ++ y ∷ []) k ≡ Some x
-among_more [] y x k there = absurd cc
-among_more (z ∷ xs) y x zero there = there
-among_more (z ∷ xs) y x (suc k) there = among_more xs y x k there
+module _ (name : List ℕ) (times : List ℕ → ℕ) where
+  -- the names that were listed, with the one that is listed now
+  listed_now : (old new : List Listed) → IsPut name old new → ((other : List ℕ) → is_among old other ≡ was_listed (times other))
+      → (other : List ℕ) → is_among new other ≡ was_listed (once_more name times other)
+  listed_now old new put are other = put other ∙ by (bytes_eq name other) (are other)
+    where
+      by : (same : Bool) → is_among old other ≡ was_listed (times other) → cond same true (is_among old other) ≡ was_listed (times other + cond same 1 0)
+      by true is = sym (now_listed (times other))
+      by false is = is ∙ ap was_listed (sym (none_more (times other)))
 
-among_last : {X : Type 0} (xs : List X) (y : X) → slice_get (xs ++ y ∷ []) (length xs) ≡ Some y
-among_last [] y = refl
-among_last (z ∷ xs) y = among_last xs y
+  -- a name that is listed for the first time
+  pub listed_first : (old new again : List Listed) → is_among old name ≡ false → IsPut name old new → AreListed old again times → AreListed new again (once_more name times)
+  listed_first old new again never put are = record {
+    listed = listed_now old new put are.listed;
+    repeated = λ other. are.repeated other ∙ by other (bytes_eq name other) refl;
+  }
+    where
+      by : (other : List ℕ) (same : Bool) → bytes_eq name other ≡ same → was_repeated (times other) ≡ was_repeated (times other + cond same 1 0)
+      by other true is = sym (first_alone (times other) (sym (are.listed other) ∙ ap (is_among old) (sym ((bytes_decides name other).0 is)) ∙ never))
+      by other false is = ap was_repeated (sym (none_more (times other)))
 
-among_push : {X : Type 0} (xs : List X) (y x : X) (k : ℕ) → slice_get (xs ++ y ∷ []) k ≡ Some x → (slice_get xs k ≡ Some x) ⊎ (y ≡ x)
-among_push [] y x zero there = inr cc
-among_push [] y x (suc k) there = absurd cc
-among_push (z ∷ xs) y x zero there = inl there
-among_push (z ∷ xs) y x (suc k) there = among_push xs y x k there
+  -- and one that is listed again
+  pub listed_again : (old new again repeated : List Listed) → is_among old name ≡ true → new ≡ old → IsPut name again repeated → AreListed old again times
+      → AreListed new repeated (once_more name times)
+  listed_again old new again repeated was same put are = record {
+    listed = λ other. ap (λ names. is_among names other) same ∙ are.listed other ∙ stays other (bytes_eq name other) refl;
+    repeated = λ other. put other ∙ by other (bytes_eq name other) refl;
+  }
+    where
+      is_listed : (other : List ℕ) → bytes_eq name other ≡ true → was_listed (times other) ≡ true
+      is_listed other is = sym (are.listed other) ∙ ap (is_among old) (sym ((bytes_decides name other).0 is)) ∙ was
 
--- the names that were listed more than once stay so, with this one among them, if it now was
-pub record AreAgain (old new : List Listed) (name : List ℕ) (now : Type 0) : Type 0 where
-  pub kept : (other : List ℕ) → IsAmong old other → IsAmong new other
-  pub this : now → IsAmong new name
-  pub only : (k : ℕ) (listed : Listed) → slice_get new k ≡ Some listed → (slice_get old k ≡ Some listed) ⊎ (now × (listed.name.now ≡ name))
+      stays : (other : List ℕ) (same : Bool) → bytes_eq name other ≡ same → was_listed (times other) ≡ was_listed (times other + cond same 1 0)
+      stays other true is = is_listed other is ∙ sym (now_listed (times other))
+      stays other false is = ap was_listed (sym (none_more (times other)))
 
-pub again_kept : (names : List Listed) (name : List ℕ) (now : Type 0) → (now → IsAmong names name) → AreAgain names names name now
-again_kept names name now this = record { kept = λ other there. there; this = this; only = λ k listed there. inl there }
+      by : (other : List ℕ) (same : Bool) → bytes_eq name other ≡ same → cond same true (is_among again other) ≡ was_repeated (times other + cond same 1 0)
+      by other true is = sym (now_repeated (times other) (is_listed other is))
+      by other false is = are.repeated other ∙ ap was_repeated (sym (none_more (times other)))
 
-pub again_pushed : (old new : List Listed) (listed : Listed) (now : Type 0) → new ≡ old ++ listed ∷ [] → now → AreAgain old new listed.name.now now
-again_pushed old new listed now pushed holds =
-    subst (λ (names : List Listed). AreAgain old names listed.name.now now) (sym pushed) (record {
-      kept = λ other there. (there.0, there.1, among_more old listed there.1 there.0 there.2, there.3);
-      this = λ holds. (length old, listed, among_last old listed, refl);
-      only = λ k other there. elim (among_push old listed other k there) [
-        | inl before ↦ inl before
-        | inr same ↦ inr (holds, sym (ap (λ x. x.name.now) same))
-      ];
-    })
+-- ---- how far a tally reached
 
-abbrev once_if : Bool → ℕ
-once_if same = cond same 1 0
+pub grows_none : (tally : Tally) → Grows tally tally
+grows_none tally = record { names = ([], sym (append-nil tally.names.keys)); again = ([], sym (append-nil tally.again.keys)) }
 
--- a tally after something was written for one name, which that name's times ask for
-pub tallies_more : (old new : Tally) (name : List ℕ) (w : Option Bool) (times : List ℕ → ℕ)
-    → ((other : List ℕ) → tally_of new other ≡ cond (bytes_eq name other) w (tally_of old other))
-    → w ≡ tallied (times name + 1) → AreAgain old.again.items new.again.items name (1 < times name + 1)
-    → Tallies old times → Tallies new (λ other. times other + cond (bytes_eq name other) 1 0)
-tallies_more old new name w times wrote fits repeated are = record {
-  told = λ other. wrote other ∙ told other (bytes_eq name other) refl;
-  again = λ other more. again other (bytes_eq name other) refl more;
-  only = λ k listed there. elim (repeated.only k listed there) [
-    | inl before ↦ let once = are.only k listed before in omega (arith, once)
-    | inr now ↦
-        let one : cond (bytes_eq name listed.name.now) 1 0 ≡ 1 = ap once_if ((bytes_decides name listed.name.now).1 (sym now.1)) in
-        let times_now = ap times now.1 in
-        let more = now.0 in
-        omega (arith, one, times_now, more)
-  ];
+grown_on : {X : Type 0} (xs ys zs : List X) → (more : List X) × (ys ≡ xs ++ more) → (more : List X) × (zs ≡ ys ++ more) → (more : List X) × (zs ≡ xs ++ more)
+grown_on xs ys zs first next = (first.0 ++ next.0, next.1 ∙ ap (λ l. l ++ next.0) first.1 ∙ append_assoc xs first.0 next.0)
+
+pub grows_on : (old now new : Tally) → Grows old now → Grows now new → Grows old new
+grows_on old now new first next = record {
+  names = grown_on old.names.keys now.names.keys new.names.keys first.names next.names;
+  again = grown_on old.again.keys now.again.keys new.again.keys first.again next.again;
 }
-  where
-    told : (other : List ℕ) (same : Bool) → bytes_eq name other ≡ same → cond same w (tally_of old other) ≡ tallied (times other + cond same 1 0)
-    told other true is = fits ∙ ap (λ x. tallied (times x + 1)) ((bytes_decides name other).0 is)
-    told other false is = are.told other ∙ ap tallied (let none : times other ≡ times other + 0 = omega arith in none)
 
-    again : (other : List ℕ) (same : Bool) → bytes_eq name other ≡ same → 1 < times other + cond same 1 0 → IsAmong new.again.items other
-    again other true is more =
-        let same = (bytes_decides name other).0 is in
-        subst (IsAmong new.again.items) same (repeated.this (subst (λ x. 1 < times x + 1) (sym same) more))
-    again other false is more = repeated.kept other (are.again other (let more : 1 < times other = omega (arith, more) in more))
+front_of : {X : Type 0} (xs more : List X) → take (length xs) (xs ++ more) ≡ xs
+front_of [] [] = refl
+front_of [] (y ∷ more) = refl
+front_of (x ∷ xs) more = ap (λ l. x ∷ l) (front_of xs more)
 
--- a tally in which something was written for a name that it had already
-pub tallies_still : (old new : Tally) (name : List ℕ) (w : Option Bool) (times : List ℕ → ℕ)
-    → ((other : List ℕ) → tally_of new other ≡ cond (bytes_eq name other) w (tally_of old other))
-    → w ≡ tally_of old name → new.again.items ≡ old.again.items → Tallies old times → Tallies new times
-tallies_still old new name w times wrote fits same are = record {
-  told = λ other. wrote other ∙ told other (bytes_eq name other) refl ∙ are.told other;
-  again = λ other more. subst (λ (names : List Listed). IsAmong names other) (sym same) (are.again other more);
-  only = λ k listed there. are.only k listed (ap (λ names. slice_get names k) (sym same) ∙ there);
-}
-  where
-    told : (other : List ℕ) (same : Bool) → bytes_eq name other ≡ same → cond same w (tally_of old other) ≡ tally_of old other
-    told other true is = fits ∙ ap (tally_of old) ((bytes_decides name other).0 is)
-    told other false is = refl
+front_is : {X : Type 0} (xs ys : List X) (n : ℕ) → n ≡ length xs → (more : List X) × (ys ≡ xs ++ more) → take n ys ≡ xs
+front_is xs ys n len grown = ap (λ m. take m ys) len ∙ ap (take (length xs)) grown.1 ∙ front_of xs grown.0
+
+-- what a tally told when it reached so far, it told so
+pub told_before : (old new : Tally) (reach : Reach) → reach.names ≡ length old.names.keys → reach.again ≡ length old.again.keys → Grows old new
+    → (times : List ℕ → ℕ) → Tallies old times → TalliesAt new reach times
+told_before old new reach names again grown times are =
+    subst (λ (xs : List Listed). AreListed xs (take reach.again new.again.keys) times) (sym (front_is old.names.keys new.names.keys reach.names names grown.names))
+    (subst (λ (xs : List Listed). AreListed old.names.keys xs times) (sym (front_is old.again.keys new.again.keys reach.again again grown.again)) are)
 
 -- names that were listed as often
 pub tallies_so : (tally : Tally) (times so : List ℕ → ℕ) → ((name : List ℕ) → times name ≡ so name) → Tallies tally times → Tallies tally so
 tallies_so tally times so same are = record {
-  told = λ name. are.told name ∙ ap tallied (same name);
-  again = λ name more. are.again name (subst (λ n. 1 < n) (sym (same name)) more);
-  only = λ k listed there. subst (λ n. 1 < n) (same listed.name.now) (are.only k listed there);
+  listed = λ name. are.listed name ∙ ap was_listed (same name);
+  repeated = λ name. are.repeated name ∙ ap was_repeated (same name);
 }
 
 -- ---- entries
@@ -188,7 +162,25 @@ notes_both old now new behind front first later times are =
 
 -- ---- names that were listed more than once
 
+more_than_once : (n : ℕ) → was_repeated n ≡ true → 1 < n
+more_than_once zero is = absurd cc
+more_than_once (suc zero) is = absurd cc
+more_than_once (suc (suc n)) is = omega arith
+
+once_repeated : (n : ℕ) → 1 < n → was_repeated n ≡ true
+once_repeated zero more = absurd (omega (arith, more))
+once_repeated (suc zero) more = absurd (omega (arith, more))
+once_repeated (suc (suc n)) more = refl
+
+-- what was listed was so at least once
+pub at_least_once : (n : ℕ) (was : Bool) → was ≡ was_listed n → IsTrue was ↔ (1 ≤ n)
+at_least_once zero was is = ((λ t. absurd (let no : true ≡ false = sym t ∙ is in cc)), (λ once. absurd (omega (arith, once))))
+at_least_once (suc n) was is = ((λ t. omega arith), (λ once. is))
+
 module _ (tally : Tally) (times : List ℕ → ℕ) (are : Tallies tally times) (Holds Fails : List ℕ → Type 0) where
+  abbrev names : List Listed
+  names = tally.again.keys
+
   abbrev Passes : Listed → Type 0
   Passes listed = Holds listed.name.now
 
@@ -196,24 +188,26 @@ module _ (tally : Tally) (times : List ℕ → ℕ) (are : Tallies tally times) 
   Stops listed = Fails listed.name.now
 
   -- what each of them passes holds of each such name
-  each_holds : AllWithin Passes tally.again.items 0 (length tally.again.items) → (name : List ℕ) → 1 < times name → Holds name
+  each_holds : AllWithin Passes names 0 (length names) → (name : List ℕ) → 1 < times name → Holds name
   each_holds all name more =
-      let names = tally.again.items in
-      let found = are.again name more in
-      let there = get_or_from_slice_get names found.0 found.1 found.1 found.2 in
-      let passes : Passes found.1 = subst Passes there (all found.0 found.1 (omega arith) (slice_get_within names found.0 found.1 found.2)) in
-      subst Holds found.3 passes
+      let found = Any-from_list_any (λ listed. bytes_eq name listed.name.now) names (are.repeated name ∙ once_repeated (times name) more) in
+      let same : name ≡ found.1.name.now = (bytes_decides name found.1.name.now).0 found.4 in
+      let passes : Passes found.1 = subst Passes found.3 (all found.0 found.1 (omega arith) found.2) in
+      subst Holds (sym same) passes
 
   -- one that stops is such a name
-  one_fails : (k : ℕ) × (k < length tally.again.items) × HoldsAt Stops tally.again.items k → (name : List ℕ) × (1 < times name) × Fails name
+  one_fails : (k : ℕ) × (k < length names) × HoldsAt Stops names k → (name : List ℕ) × (1 < times name) × Fails name
   one_fails at =
-      let names = tally.again.items in
       let listed = element_at names at.0 at.1 in
-      let stops : Stops listed.0 = subst Stops (get_or_from_slice_get names at.0 listed.0 listed.0 listed.1) (at.2 listed.0) in
-      (listed.0.name.now, are.only at.0 listed.0 listed.1, stops)
+      let is : get_or names at.0 listed.0 ≡ listed.0 = get_or_from_slice_get names at.0 listed.0 listed.0 listed.1 in
+      let stops : Stops listed.0 = subst Stops is (at.2 listed.0) in
+      let name = listed.0.name.now in
+      let own : bytes_eq name (get_or names at.0 listed.0).name.now ≡ true = ap (λ (x : Listed). bytes_eq name x.name.now) is ∙ (bytes_decides name name).1 refl in
+      let among = list_any_at (λ other. bytes_eq name other.name.now) names at.0 listed.0 at.1 own in
+      (name, more_than_once (times name) (sym (are.repeated name) ∙ among), stops)
 
   pub repeated_all : (r : Bool)
-      → MatchBool r (AllWithin Passes tally.again.items 0 (length tally.again.items)) ((k : ℕ) × (k < length tally.again.items) × HoldsAt Stops tally.again.items k)
+      → MatchBool r (AllWithin Passes names 0 (length names)) ((k : ℕ) × (k < length names) × HoldsAt Stops names k)
       → MatchBool r ((name : List ℕ) → 1 < times name → Holds name) ((name : List ℕ) × (1 < times name) × Fails name)
   repeated_all true all = each_holds all
   repeated_all false some = one_fails some

@@ -1,11 +1,12 @@
 //! What was listed so far on the handles that are being listed.
 
-ghost use Rattle.std.specs.Prelude.{◌≡◌, ◌⊎◌, ◌+◌, ◌<◌, ◌≤◌, ℕ, nat_eq, [], Some, length};
+ghost use Rattle.std.specs.Prelude.{◌≡◌, ◌⊎◌, ◌+◌, ◌≤◌, ℕ, List, nat_eq, [], Some};
 ghost use Rattle.std.specs.Map.{lookup};
 ghost use Rattle.fa_tree.specs.declared.kept.ListedSoFar.{ListedSoFar as TheListed};
 ghost use Rattle.fa_tree.specs.parts.KeptParts.{AreAmong, size_of_listing, size_of_listings};
+ghost use Rattle.fa_tree.specs.parts.TallyParts.{Tallies, TalliesAt};
 
-use crate::tally::Tally;
+use crate::tally::{Reach, Tally};
 use fa_capture::Seed;
 use indexmap::IndexMap;
 use std::alloc::Global;
@@ -13,15 +14,28 @@ use std::alloc::Global;
 /// A listing takes as much memory as so many names, beside its own.
 const PER_LISTING: usize = 16;
 
-/// What was listed so far for a call, without its own answer.
+/// What was listed so far for a call, and then by its own answer.
 #[derive(Drop)]
 pub(crate) struct ListedSoFar<'c> {
     /// The place of the call.
     pub at: usize,
     pub tally: Tally<'c>,
+    /// How far the tally reached before the answer.
+    pub before: Reach,
+    /// How many entries the answer has.
+    pub count: usize,
 }
 
-impl ListedSoFar<'_> {
+impl<'c> ListedSoFar<'c> {
+    /// What was listed so far for the call, without its answer. Takes no memory, and time in the names that the answer listed.
+    pub fn without_answer(self) -> Tally<'c>
+        ensures { (times : List ℕ → ℕ) → TalliesAt self.entry.tally self.entry.before times → Tallies result times }
+    {
+        let mut tally = self.tally;
+        tally.go_back(self.before);
+        tally
+    }
+
     /// For how many names it takes room: its own, and [`PER_LISTING`]. Takes no memory, in constant time.
     fn size(&self) -> usize
         ensures { result ≡ size_of_listing self.now }

@@ -1,12 +1,13 @@
 //! The rule of listings.
 
-ghost use Rattle.std.specs.Prelude.{◌≡◌, ◌↔◌, ◌<◌, length, All, IsTrue, IfOk};
+ghost use Rattle.std.specs.Prelude.{◌≡◌, ◌↔◌, All, IsTrue, IfOk};
 ghost use Rattle.fa_bodies.specs.Dirents.{dirent_shown};
 ghost use Rattle.fa_bodies.specs.Listing.{entries_left};
 ghost use Rattle.fa_ledger.specs.SoFar.{listing_so_far};
 ghost use Rattle.fa_tree.specs.Directories.{judged, WasThere, IsTypedAsStayed, IsThereIfLookedUp, IsListed};
 ghost use Rattle.fa_tree.specs.parts.ListingParts.{IsTypedAs, IsAllowed};
 ghost use Rattle.fa_tree.specs.parts.OpenParts.{open_of};
+ghost use Rattle.fa_tree.specs.parts.TallyParts.{ListsAt};
 
 use crate::entries::is_judged;
 use crate::id::FileId;
@@ -45,21 +46,21 @@ impl Stored {
         entries.all(|dirent| !is_judged(&dirent) || self.is_allowed(names, &dirent))
     }
 
-    /// Whether the entries are what the rule of listings allows, for the call at this place. An error says that memory was
+    /// Whether the entries, which answer the call at this place, are what the rule of listings allows. An error says that memory was
     /// refused.
     ///
     /// Expected time in the entries; for a listing that began at the start, without gaps, on a handle of its own, also as
     /// [`is_orderly`].
-    pub(crate) fn is_listed(
+    pub(crate) fn is_listed<'c>(
         &self,
         names: &OpenNames<'_>,
-        replay: &mut Replay<'_>,
+        replay: &mut Replay<'c>,
         k: usize,
         listing: &Listing,
-        entries: Entries<'_>,
+        entries: Entries<'c>,
         size: u32,
     ) -> Result<bool, AllocError>
-        requires { k < length replay.old.list }
+        requires { ListsAt replay.old.list k (entries_left entries) }
         ensures listed { IfOk result (λ is. IsTrue is ↔ IsListed self.now.store (open_of names.now) listing.now size (listing_so_far replay.old.list k) (entries_left entries.entry)) }
         ensures same { replay.new ≡ replay.old }
     {
@@ -69,6 +70,6 @@ impl Stored {
         if listing.adrift || listing.shared {
             return Ok(true);
         }
-        is_orderly(self.alloc, names, replay, k, entries, size)
+        is_orderly(names, replay, k, entries, size)
     }
 }

@@ -1,6 +1,6 @@
 //! One step of a call that lists: READDIR and READDIRPLUS.
 
-ghost use Rattle.std.specs.Prelude.{◌≡◌, ◌≢◌, ◌↔◌, ◌<◌, ℕ, Option, None, Some, length, [], All, IsTrue, IsFalse, IfOk, IfSome, IfNone, IfErr, OnOk, OnErr};
+ghost use Rattle.std.specs.Prelude.{◌≡◌, ◌≢◌, ◌↔◌, ℕ, Option, None, Some, slice_get, [], All, IsTrue, IsFalse, IfOk, IfSome, IfNone, IfErr, OnOk, OnErr};
 ghost use Rattle.std.specs.FinMap.{get};
 ghost use Rattle.std.specs.Option.{option_map};
 ghost use Rattle.fa_capture.specs.Checks.{AllHold, FirstFailure};
@@ -21,6 +21,7 @@ ghost use Rattle.fa_tree.specs.declared.error.StepError.TheVariants.{Refused};
 ghost use Rattle.fa_tree.specs.parts.OpenParts.{open_of};
 ghost use Rattle.fa_tree.specs.parts.NamedParts.{named_shown, directory_shown};
 ghost use Rattle.fa_tree.specs.parts.ListingParts.{entries_checks, settled, TellsSuch};
+ghost use Rattle.fa_tree.specs.parts.TallyParts.{ListsAt};
 
 use crate::error::StepError;
 use crate::id::FileId;
@@ -57,16 +58,16 @@ impl Tree {
     }
 
     /// Whether entries are what the rule of listings allows for a call.
-    fn entries_are(
+    fn entries_are<'c>(
         &self,
         at: &NamedDirectory<'_>,
-        replay: &mut Replay<'_>,
+        replay: &mut Replay<'c>,
         k: usize,
         call: &Call<'_>,
         size: u32,
-        entries: Entries<'_>,
+        entries: Entries<'c>,
     ) -> Result<bool, AllocError>
-        requires { k < length replay.old.list }
+        requires { ListsAt replay.old.list k (entries_left entries) }
         ensures are { IfOk result (λ are. IsTrue are ↔ EntriesAre self.now.store size (Some (open_of at.now.names)) call.now.listing (listing_so_far replay.old.list k) (entries_left entries.entry)) }
         ensures same { replay.new ≡ replay.old }
     {
@@ -120,16 +121,16 @@ impl Tree {
     }
 
     /// Judges entries that answer a call which lists: the names of nodes that they give, each with its file.
-    fn judge_entries(
+    fn judge_entries<'c>(
         &self,
         at: &NamedDirectory<'_>,
-        replay: &mut Replay<'_>,
+        replay: &mut Replay<'c>,
         k: usize,
         call: &Call<'_>,
         size: u32,
-        entries: Entries<'_>,
+        entries: Entries<'c>,
     ) -> Result<Vec<(NodeName, FileId)>, StepError>
-        requires { k < length replay.old.list }
+        requires { ListsAt replay.old.list k (entries_left entries) }
         ensures ok { IfOk result (λ nodes. AllHold (entries_checks self.now.nodes self.now.store (directory_shown at.now) call.now.listing size (listing_so_far replay.old.list k) (names_given (call_shown call.now)) (entries_left entries.entry)) × (nodes.items ≡ bound (names_given (call_shown call.now)) (files_listed self.now.store (open_of at.now.names).directory (entries_left entries.entry)))) }
         ensures refused { IfErr result (λ e. TellsSuch e (FirstFailure (entries_checks self.now.nodes self.now.store (directory_shown at.now) call.now.listing size (listing_so_far replay.old.list k) (names_given (call_shown call.now)) (entries_left entries.entry))) (Unit {0})) }
         ensures same { replay.new ≡ replay.old }
@@ -163,15 +164,16 @@ impl Tree {
     }
 
     /// Judges what came of a call that lists: the names of nodes that come with it, each with its file.
-    fn judge_listing(
+    fn judge_listing<'c>(
         &self,
         at: &NamedDirectory<'_>,
-        replay: &mut Replay<'_>,
+        replay: &mut Replay<'c>,
         k: usize,
         call: &Call<'_>,
-        list: &List<'_>,
+        list: &List<'c>,
     ) -> Result<Vec<(NodeName, FileId)>, StepError>
-        requires { k < length replay.old.list }
+        requires there { slice_get replay.old.list k ≡ Some (call_shown call.now) }
+        requires asks { (call_shown call.now).operation ≡ Lists (list_shown list.now) }
         ensures ok { IfOk result (λ nodes. AllHold (operation_checks self.now.nodes (settled self.now.store (directory_shown at.now) call.now.listing (listing_so_far replay.old.list k)) (call_shown call.now) (Lists (list_shown list.now))) × (nodes.items ≡ given_in (settled self.now.store (directory_shown at.now) call.now.listing (listing_so_far replay.old.list k)) (call_shown call.now) (Lists (list_shown list.now)))) }
         ensures refused { IfErr result (λ e. TellsSuch e (FirstFailure (operation_checks self.now.nodes (settled self.now.store (directory_shown at.now) call.now.listing (listing_so_far replay.old.list k)) (call_shown call.now) (Lists (list_shown list.now)))) (DoneAnd (bare (list_shown list.now).outcome) (Unit {0}))) }
         ensures same { replay.new ≡ replay.old }
@@ -190,14 +192,14 @@ impl Tree {
     }
 
     /// Judges a call that lists, whether the tree knows what it names too: the names of nodes that come with it, each with its file.
-    pub(crate) fn judge_named(
+    pub(crate) fn judge_named<'c>(
         &self,
-        replay: &mut Replay<'_>,
+        replay: &mut Replay<'c>,
         k: usize,
         call: &Call<'_>,
-        list: &List<'_>,
+        list: &List<'c>,
     ) -> Result<Vec<(NodeName, FileId)>, StepError>
-        requires there { k < length replay.old.list }
+        requires there { slice_get replay.old.list k ≡ Some (call_shown call.now) }
         requires asks { (call_shown call.now).operation ≡ Lists (list_shown list.now) }
         requires listing { call.now.listing ≢ None }
         ensures ok { IfOk result (λ nodes. (x : Resolved) × (resolved self.now (call_shown call.now) ≡ Some x) × AllHold (operation_checks self.now.nodes (settled self.now.store x call.now.listing (listing_so_far replay.old.list k)) (call_shown call.now) (Lists (list_shown list.now))) × (nodes.items ≡ given_in (settled self.now.store x call.now.listing (listing_so_far replay.old.list k)) (call_shown call.now) (Lists (list_shown list.now)))) }
@@ -211,14 +213,14 @@ impl Tree {
     }
 
     /// One step, of a call that lists.
-    pub(crate) fn list(
+    pub(crate) fn list<'c>(
         &mut self,
-        replay: &mut Replay<'_>,
+        replay: &mut Replay<'c>,
         k: usize,
         call: &Call<'_>,
-        list: &List<'_>,
+        list: &List<'c>,
     ) -> Result<(), StepError>
-        requires there { k < length replay.old.list }
+        requires there { slice_get replay.old.list k ≡ Some (call_shown call.now) }
         requires asks { (call_shown call.now).operation ≡ Lists (list_shown list.now) }
         requires listing { call.now.listing ≢ None }
         ensures steps { OnOk result ((wrote : Option ℕ) → Steps self.old self.new (call_shown call.now) wrote (listing_so_far replay.old.list k)) }

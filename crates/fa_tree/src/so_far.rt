@@ -1,10 +1,10 @@
 //! What a call's listing goes on from: the names that were listed so far.
 
-ghost use Rattle.std.specs.Prelude.{◌≡◌, ◌<◌, length, take, slice_get, Some, None, OnOk, IfSome, IfNone};
+ghost use Rattle.std.specs.Prelude.{◌≡◌, ◌<◌, length, take, slice_get, Some, None, IfOk, OnOk, IfSome, IfNone};
 ghost use Rattle.fa_bodies.specs.Listing.{entries_left};
 ghost use Rattle.fa_ledger.specs.Calls.{PlainCall, call_shown};
 ghost use Rattle.fa_ledger.specs.SoFar.{entries_answered, listing_so_far};
-ghost use Rattle.fa_tree.specs.parts.TallyParts.{going_on_from, Notes};
+ghost use Rattle.fa_tree.specs.parts.TallyParts.{going_on_from, Grows, Notes};
 
 use crate::tally::Tally;
 use fa_bodies::Entries;
@@ -25,16 +25,20 @@ fn note_entries<'a>(
     Ok(())
 }
 
-/// Notes all entries. An error says that memory was refused; part of them may be noted then.
+/// Notes all entries, and answers how many these are. An error says that memory was refused; part of them may be noted then.
 ///
 /// Expected time in the bytes of the entries, but for what growing costs.
-pub(crate) fn note_all<'a>(tally: &mut Tally<'a>, entries: Entries<'a>) -> Result<(), AllocError>
+pub(crate) fn note_all<'a>(tally: &mut Tally<'a>, entries: Entries<'a>) -> Result<usize, AllocError>
+    ensures count { IfOk result (λ count. count ≡ length (entries_left entries.entry)) }
     ensures noted { OnOk result (Notes tally.old tally.new (entries_left entries.entry)) }
+    ensures grows { OnOk result (Grows tally.old tally.new) }
 {
+    let mut count = 0;
     for dirent in entries {
         tally.note(dirent.name)?;
+        count += 1;
     }
-    Ok(())
+    Ok(count)
 }
 
 /// Notes the first so many entries of what the answer to a call lists. Expected time in all its entries: it is read again.

@@ -1,14 +1,15 @@
 //! How often names were listed.
 
-ghost use Rattle.std.specs.Prelude.{◌≡◌, ◌↔◌, ◌≤◌, ◌<◌, ◌+◌, ◌^◌, cond, ℕ, true, false, List, length, None, is_some, option_map, IsTrue, OnOk, OnErr};
+ghost use Rattle.std.specs.Prelude.{◌≡◌, ◌↔◌, ◌≤◌, ◌<◌, ◌+◌, ◌^◌, cond, ℕ, true, false, List, length, IsTrue, OnOk, OnErr};
 ghost use Rattle.std.specs.Bool.{MatchBool};
 ghost use Rattle.std.specs.Fn.{FnReturnsAt};
 ghost use Rattle.std.specs.Str.{bytes_eq};
-ghost use Rattle.fa_tree.specs.parts.TallyParts.{Tallies, tally_of};
+ghost use Rattle.fa_tree.specs.declared.tally.Tally.{Tally as TheTally};
+ghost use Rattle.fa_tree.specs.parts.TallyParts.{Tallies, TalliesAt, Grows};
 
 use crate::name_hash::feed_name;
 use fa_capture::Seed;
-use indexmap::IndexMap;
+use indexmap::IndexSet;
 use std::alloc::{AllocError, Global};
 use std::hash::{Hash, Hasher};
 
@@ -34,10 +35,19 @@ impl Hash for Listed<'_> {
 /// Names that were listed.
 #[derive(Drop)]
 pub(crate) struct Tally<'a> {
-    /// Each, with whether that was more than once.
-    pub names: IndexMap<Listed<'a>, bool, Seed>,
-    /// Those that were listed more than once.
-    pub again: Vec<Listed<'a>>,
+    /// Each, in the order in which they were listed first.
+    pub names: IndexSet<Listed<'a>, Seed>,
+    /// Those that were listed more than once, in the order in which they were listed again first.
+    pub again: IndexSet<Listed<'a>, Seed>,
+}
+
+/// How far a tally reached at some time, to go back there.
+#[derive(Clone, Copy, Drop)]
+pub(crate) struct Reach {
+    /// So many names were listed.
+    pub names: usize,
+    /// So many of them more than once.
+    pub again: usize,
 }
 
 impl<'a> Tally<'a> {
@@ -46,29 +56,35 @@ impl<'a> Tally<'a> {
         ensures { Tallies result (λ name. 0) }
     {
         Tally {
-            names: IndexMap::with_hasher(alloc, seed),
-            again: Vec::new(alloc),
+            names: IndexSet::with_hasher(alloc, seed),
+            again: IndexSet::with_hasher(alloc, seed),
         }
-    }
-
-    /// What its table is hashed with.
-    pub fn seed(&self) -> Seed {
-        *self.names.hasher()
     }
 
     /// How many names were listed, each counted once. Takes no memory, in constant time.
     pub fn len(&self) -> usize
-        ensures len { result ≡ length self.now.names.entries }
+        ensures len { result ≡ length self.now.names.keys }
         ensures small { result < 2 ^ 63 }
     {
         self.names.len()
     }
 
-    /// Whether no name was listed.
-    pub fn is_empty(&self) -> bool
-        ensures { IsTrue result → (name : List ℕ) → tally_of self.now name ≡ None }
+    /// How far this reaches. Takes no memory, in constant time.
+    pub fn reach(&self) -> Reach
+        ensures { (new : TheTally) (times : List ℕ → ℕ) → Grows self.now new → Tallies self.now times → TalliesAt new result times }
     {
-        self.names.is_empty()
+        Reach {
+            names: self.names.len(),
+            again: self.again.len(),
+        }
+    }
+
+    /// Forgets what was noted since this reached so far. Takes no memory, and time in the names that were listed since.
+    pub fn go_back(&mut self, reach: Reach)
+        ensures { (times : List ℕ → ℕ) → TalliesAt self.old reach times → Tallies self.new times }
+    {
+        self.names.truncate(reach.names);
+        self.again.truncate(reach.again);
     }
 
     /// Notes that the name was listed once more. An error says that memory was refused, and nothing is changed.
@@ -76,38 +92,20 @@ impl<'a> Tally<'a> {
     /// Expected time in the bytes of the name, but for what growing costs.
     pub fn note(&mut self, name: &'a [u8]) -> Result<(), AllocError>
         ensures noted { OnOk result ((times : List ℕ → ℕ) → Tallies self.old times → Tallies self.new (λ other. times other + cond (bytes_eq name.now other) 1 0)) }
+        ensures grows { OnOk result (Grows self.old self.new) }
         ensures unchanged { OnErr result ((times : List ℕ → ℕ) → Tallies self.old times → Tallies self.new times) }
     {
-        match self.names.insert(Listed { name }, false)? {
-            None => Ok(()),
-            Some(more) => {
-                // False stands there now: the name is marked again.
-                if !more {
-                    self.again.push(Listed { name })?;
-                }
-                self.mark(name);
-                Ok(())
-            }
+        if !self.names.insert(Listed { name })? {
+            self.again.insert(Listed { name })?;
         }
-    }
-
-    /// Marks a name as listed more than once, if it was listed. Takes no memory, in expected time of the bytes of the name.
-    fn mark(&mut self, name: &'a [u8])
-        ensures marked { (other : List ℕ) → tally_of self.new other ≡ cond (bytes_eq name.now other) (option_map (λ more. true) (tally_of self.old name.now)) (tally_of self.old other) }
-        ensures again { self.new.again.items ≡ self.old.again.items }
-    {
-        match self.names.get_mut(&Listed { name }) {
-            Some(more) => *more = true,
-            None => {}
-        }
+        Ok(())
     }
 
     /// Whether the name was listed. Takes no memory, in expected time of the bytes of the name.
     pub fn has(&self, name: &[u8]) -> bool
-        ensures listed { (times : List ℕ → ℕ) → Tallies self.now times → IsTrue result ↔ (1 ≤ times name.now) }
-        ensures told { result ≡ is_some (tally_of self.now name.now) }
+        ensures { (times : List ℕ → ℕ) → Tallies self.now times → IsTrue result ↔ (1 ≤ times name.now) }
     {
-        self.names.contains_key(&Listed { name })
+        self.names.contains(&Listed { name })
     }
 
     /// Whether this holds of each name that was listed more than once. Takes no memory, in time of those names and of what it asks.

@@ -1,6 +1,6 @@
 //! What a step would answer, of a tree that stays as it is.
 
-ghost use Rattle.std.specs.Prelude.{◌≡◌, ◌≢◌, ◌<◌, ℕ, List, Option, None, length, IfErr, OnOk};
+ghost use Rattle.std.specs.Prelude.{◌≡◌, ◌≢◌, ◌<◌, ℕ, List, Option, None, Some, length, slice_get, IfErr, OnOk};
 ghost use Rattle.fa_capture.specs.Checks.{AllHold, FirstFailure};
 ghost use Rattle.fa_bodies.specs.Dirents.{PlainDirent};
 ghost use Rattle.fa_ledger.specs.Calls.{call_shown};
@@ -54,14 +54,14 @@ impl Tree {
     }
 
     /// The same of a call that lists.
-    fn would_list(
+    fn would_list<'c>(
         &self,
-        replay: &mut Replay<'_>,
+        replay: &mut Replay<'c>,
         k: usize,
         call: &Call<'_>,
-        list: &fa_ledger::List<'_>,
+        list: &fa_ledger::List<'c>,
     ) -> Result<(), StepError>
-        requires there { k < length replay.old.list }
+        requires there { slice_get replay.old.list k ≡ Some (call_shown call.now) }
         requires asks { (call_shown call.now).operation ≡ Lists (list_shown list.now) }
         requires listing { call.now.listing ≢ None }
         ensures allowed { OnOk result ((wrote : Option ℕ) → AllHold (step_checks self.now (call_shown call.now) wrote (listing_so_far replay.old.list k))) }

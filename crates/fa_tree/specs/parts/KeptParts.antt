@@ -10,7 +10,7 @@ AreAmong now before = (handle : ℕ) (kept : ListedSoFar) → lookup (nat_eq han
 
 -- for how many names a listing takes room: its own, and as many as it takes memory beside them
 abbrev pub size_of_listing : ListedSoFar → ℕ
-size_of_listing listed = length listed.tally.names.entries + 16
+size_of_listing listed = length listed.tally.names.keys + 16
 
 -- for how many names all of them take room
 abbrev pub size_of_listings : List (ℕ × ListedSoFar) → ℕ

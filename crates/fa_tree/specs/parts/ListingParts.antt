@@ -12,8 +12,6 @@ use Rattle.fa_tree.specs.Directories.{IsTypeOf, IsTypedIfLookedUp, IsTypedAsStay
 use Rattle.fa_tree.specs.Operations.{Setting}
 use Rattle.fa_tree.specs.Resolved.{Resolved}
 use Rattle.fa_tree.specs.declared.error.StepError.{StepError}
-use Rattle.fa_tree.specs.declared.tally.Tally.{Tally}
-use Rattle.fa_tree.specs.parts.TallyParts.{tally_of}
 use Rattle.fa_tree.specs.declared.error.StepError.TheVariants.{Refused, Memory}
 
 -- what a call that lists is judged by, which leaves the store
@@ -47,7 +45,3 @@ pub record IsAllowed (s : Store) (h : OpenDirectory) (d : PlainDirent) : Type 0 
   pub there : WasThere h d
   pub typed : IsTypedAsStayed s h d
   pub now : IsThereIfLookedUp s h.directory d
-
--- an entry names nothing that stayed and was listed so far, as one fact
-pub record IsFirstTime (h : OpenDirectory) (so_far : Tally) (d : PlainDirent) : Type 0 where
-  pub first : (file : FileId) → get h.stayed d.name ≡ Some file → tally_of so_far d.name ≡ None

@@ -1,13 +1,14 @@
 -- What a replay keeps of what was listed so far.
-use Rattle.std.specs.Prelude.{◌≡◌, ◌<◌, ℕ, nat_eq, length, Some}
+use Rattle.std.specs.Prelude.{◌≡◌, ◌++◌, ℕ, nat_eq, List, length, Some}
 use Rattle.std.specs.Map.{lookup}
+use Rattle.fa_bodies.specs.Dirents.{PlainDirent}
 use Rattle.fa_ledger.specs.declared.calls.Calls.{Calls}
 use Rattle.fa_ledger.specs.SoFar.{listing_so_far}
 use Rattle.fa_tree.specs.Directories.{times_listed}
 use Rattle.fa_tree.specs.declared.kept.ListedSoFar.{ListedSoFar}
 use Rattle.fa_tree.specs.declared.replay.Replay.TheInside.{Inside}
 use Rattle.fa_tree.specs.declared.tally.Tally.{Tally}
-use Rattle.fa_tree.specs.parts.TallyParts.{Tallies}
+use Rattle.fa_tree.specs.parts.TallyParts.{Tallies, TalliesAt, ListsAt}
 
 -- the calls that it goes along, which is all that it shows
 abbrev pub calls_of : Inside → Calls
@@ -17,10 +18,17 @@ calls_of r = r.calls.now
 abbrev pub IsTallyAt : Calls → (place : ℕ) → Tally → Type 0
 IsTallyAt calls place tally = Tallies tally (λ name. times_listed name (listing_so_far calls.list place))
 
--- what is kept is that of the call at its place
-pub record IsTold (calls : Calls) (kept : ListedSoFar) : Type 0 where
-  pub within : kept.at < length calls.list
-  pub tally : IsTallyAt calls kept.at kept.tally
+-- What is kept of the call at its place, whose answer has these entries: the tally has what was listed so far and then these, and
+-- reached so far before them.
+pub record IsKeptOf (calls : Calls) (kept : ListedSoFar) (entries : List PlainDirent) : Type 0 where
+  pub answer : ListsAt calls.list kept.at entries
+  pub count : kept.count ≡ length entries
+  pub before : TalliesAt kept.tally kept.before (λ name. times_listed name (listing_so_far calls.list kept.at))
+  pub tally : Tallies kept.tally (λ name. times_listed name (listing_so_far calls.list kept.at ++ entries))
+
+-- it is kept of some entries
+abbrev pub IsTold : Calls → ListedSoFar → Type 0
+IsTold calls kept = (entries : List PlainDirent) × IsKeptOf calls kept entries
 
 -- all that is kept is
 abbrev pub AreTold : Inside → Type 0

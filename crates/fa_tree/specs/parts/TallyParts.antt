@@ -1,13 +1,14 @@
 -- How often names were listed, as a tally of them tells it.
-use Rattle.std.specs.Prelude.{◌≡◌, ◌+◌, ◌<◌, slice_get, ℕ, zero, suc, Bool, true, false, IsTrue, List, Option, None, Some, option_map, option_and_then}
+use Rattle.std.specs.Prelude.{◌≡◌, ◌+◌, ◌++◌, ℕ, zero, suc, Bool, true, false, IsTrue, List, Option, take, slice_get, Some, option_map, option_and_then}
 use Rattle.std.proofs.Common.{ap}
 use Rattle.std.specs.Cmp.Lexicographic.{bytes_decides}
-use Rattle.std.specs.Map.{lookup}
+use Rattle.std.specs.List.{list_any}
 use Rattle.std.specs.Str.{bytes_eq}
 use Rattle.fa_bodies.specs.Dirents.{PlainDirent}
 use Rattle.fa_ledger.specs.Calls.{PlainCall}
-use Rattle.fa_ledger.specs.SoFar.{call_asked, before_of}
+use Rattle.fa_ledger.specs.SoFar.{call_asked, before_of, entries_answered}
 use Rattle.fa_tree.specs.declared.tally.Listed.{Listed}
+use Rattle.fa_tree.specs.declared.tally.Reach.{Reach}
 use Rattle.fa_tree.specs.declared.tally.Tally.{Tally}
 use Rattle.fa_tree.specs.Directories.{times_listed}
 use Rattle.fa_tree.specs.parts.NameFed.{name_fed}
@@ -16,25 +17,37 @@ use Rattle.fa_tree.specs.parts.NameFed.{name_fed}
 pub listed_alike : (a b : List ℕ) → IsTrue (bytes_eq a b) → name_fed a ≡ name_fed b
 listed_alike a b equal = ap name_fed ((bytes_decides a b).0 equal)
 
--- what a tally has for a name that was listed so many times: nothing, or whether that was more than once
-abbrev pub tallied : ℕ → Option Bool
-tallied zero = None
-tallied (suc zero) = Some false
-tallied (suc (suc more)) = Some true
+-- whether what was listed so many times was listed, and more than once
+abbrev pub was_listed : ℕ → Bool
+was_listed zero = false
+was_listed (suc more) = true
 
--- what the tally has for a name
-abbrev pub tally_of : Tally → List ℕ → Option Bool
-tally_of tally name = lookup (λ listed. bytes_eq name listed.name.now) tally.names.entries
+abbrev pub was_repeated : ℕ → Bool
+was_repeated zero = false
+was_repeated (suc zero) = false
+was_repeated (suc (suc more)) = true
 
--- the name stands among these
-abbrev pub IsAmong : List Listed → List ℕ → Type 0
-IsAmong names name = (k : ℕ) × (listed : Listed) × (slice_get names k ≡ Some listed) × (listed.name.now ≡ name)
+-- whether the name stands among these
+abbrev pub is_among : List Listed → List ℕ → Bool
+is_among names name = list_any (λ listed. bytes_eq name listed.name.now) names
 
--- The tally tells of each name whether it was listed never, once or more often, and lists those of the last kind.
-pub record Tallies (tally : Tally) (times : List ℕ → ℕ) : Type 0 where
-  pub told : (name : List ℕ) → tally_of tally name ≡ tallied (times name)
-  pub again : (name : List ℕ) → 1 < times name → IsAmong tally.again.items name
-  pub only : (k : ℕ) (listed : Listed) → slice_get tally.again.items k ≡ Some listed → 1 < times listed.name.now
+-- These are the names that were listed, and those that were listed more than once, where each was listed so many times.
+pub record AreListed (names again : List Listed) (times : List ℕ → ℕ) : Type 0 where
+  pub listed : (name : List ℕ) → is_among names name ≡ was_listed (times name)
+  pub repeated : (name : List ℕ) → is_among again name ≡ was_repeated (times name)
+
+-- the tally tells how often each name was listed: never, once or more often
+abbrev pub Tallies : Tally → (times : List ℕ → ℕ) → Type 0
+Tallies tally times = AreListed tally.names.keys tally.again.keys times
+
+-- it did when it reached so far
+abbrev pub TalliesAt : Tally → Reach → (times : List ℕ → ℕ) → Type 0
+TalliesAt tally reach times = AreListed (take reach.names tally.names.keys) (take reach.again tally.again.keys) times
+
+-- what is noted later stands behind what was noted
+pub record Grows (old new : Tally) : Type 0 where
+  pub names : (more : List Listed) × (new.names.keys ≡ old.names.keys ++ more)
+  pub again : (more : List Listed) × (new.again.keys ≡ old.again.keys ++ more)
 
 -- these entries were noted in between
 abbrev pub Notes : (old new : Tally) → List PlainDirent → Type 0
@@ -45,3 +58,7 @@ Notes old new entries =
 abbrev pub going_on_from : List PlainCall → PlainCall → Option (PlainCall × ℕ)
 going_on_from calls call =
     option_and_then (λ before. option_map (λ earlier. (earlier, before.1)) (call_asked calls before.0)) (before_of call)
+
+-- the call at this place lists these entries
+abbrev pub ListsAt : List PlainCall → (place : ℕ) → List PlainDirent → Type 0
+ListsAt calls place entries = (call : PlainCall) × (slice_get calls place ≡ Some call) × (entries_answered call.operation ≡ entries)

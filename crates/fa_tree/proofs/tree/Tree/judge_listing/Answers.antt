@@ -7,7 +7,7 @@ use Rattle.fa_bodies.specs.Listing.{entries_left}
 use Rattle.fa_ledger.specs.declared.operation.Outcome.TheVariants.{Fails, Succeeds, Unanswered}
 use Rattle.fa_ledger.specs.Calls.{call_shown}
 use Rattle.fa_ledger.specs.Operations.{list_shown, with_success}
-use Rattle.fa_ledger.specs.SoFar.{listing_so_far}
+use Rattle.fa_ledger.specs.SoFar.{entries_listed, entries_answered, listing_so_far}
 use Rattle.fa_ledger.proofs.CallerLemmas.{err_also}
 use Rattle.fa_tree.specs.Opening.{directory_rule}
 use Rattle.fa_tree.specs.Rules.{HasCause}
@@ -15,6 +15,14 @@ use Rattle.fa_tree.specs.parts.NamedParts.{directory_shown}
 use Rattle.fa_tree.proofs.JudgeLemmas.{untrue}
 use Rattle.fa_tree.proofs.ListingStepLemmas.{each_ok, tells, such_also, entries_hold, entries_fail, entries_grow, error_holds, error_fails, error_gives, unanswered_holds, unanswered_fails, unanswered_gives}
 use Rattle.fa_tree.proofs.tree.Tree.judge_listing.Goals as goal
+
+pub judge_entries-requires : goal.judge_entries-requires
+judge_entries-requires c =
+    let is : (list_shown c.args.list.now).outcome ≡ Succeeds (entries_left c.in-Succeeds.entries) = ap (with_success entries_left) c.in-Succeeds.is in (
+      call_shown c.args.call.now,
+      c.requires.there,
+      ap entries_answered c.requires.asks ∙ ap entries_listed is,
+    )
 
 pub returns-in-Fails : goal.returns-in-Fails
 returns-in-Fails c =

@@ -11,6 +11,9 @@ use Rattle.fa_tree.specs.Steps.{step_checks, Steps}
 use Rattle.fa_tree.proofs.StepLemmas.{of_call, unlisted, listing_there}
 use Rattle.fa_tree.proofs.tree.Tree.step_in.Goals as goal
 
+pub list-requires-clause-there : goal.list-requires-clause-there
+list-requires-clause-there c = ap (λ (x : Calls). slice_get x.list c.args.k) (sym c.calls.ensures) ∙ c.call-call.ensures
+
 pub list-requires-clause-listing : goal.list-requires-clause-listing
 list-requires-clause-listing c =
     let calls = c.args.replay.now in

@@ -12,6 +12,9 @@ use Rattle.fa_tree.specs.Steps.{step_checks}
 use Rattle.fa_tree.proofs.StepLemmas.{of_call, unlisted, listing_there}
 use Rattle.fa_tree.proofs.tree.Tree.would.Goals as goal
 
+pub would_list-requires-clause-there : goal.would_list-requires-clause-there
+would_list-requires-clause-there c = ap (λ (x : Calls). slice_get x.list c.args.k) (sym c.calls.ensures) ∙ c.call-call.ensures
+
 pub would_list-requires-clause-listing : goal.would_list-requires-clause-listing
 would_list-requires-clause-listing c =
     let calls = c.args.replay.now in
