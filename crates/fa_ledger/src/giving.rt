@@ -87,6 +87,7 @@ fn node_given(body: &RequestBody<'_>, reply: &Reply<'_>) -> Option<u64>
 /// give no node by it, 0.
 ///
 /// Takes no memory, in time linear in the entries of a listing.
+#[inline(always)]
 pub(crate) fn may_be_given(body: &RequestBody<'_>, reply: &Reply<'_>) -> bool
     ensures { IsTrue result ↔ All MayBeGiven (nodes_given (body_shown body.now) (reply_shown reply.now)) }
 {
@@ -112,6 +113,7 @@ fn may_be_listed(listing: Entries<'_>) -> bool
 }
 
 /// The names of the nodes that the reply of this number gives.
+#[inline(always)]
 pub(crate) fn names_given(
     alloc: Global,
     nodes: &Nodes,
@@ -124,10 +126,10 @@ pub(crate) fn names_given(
 {
     match reply {
         Reply::Listed(listing) => names_listed(alloc, nodes, at, *listing),
-        _ => Ok(node_given(body, reply).map_or(
-            GivenNames::Nothing,
-            |id| GivenNames::One(nodes.name_given(id, at)),
-        )),
+        _ => Ok(match node_given(body, reply) {
+            Some(id) => GivenNames::One(nodes.name_given(id, at)),
+            None => GivenNames::Nothing,
+        }),
     }
 }
 
@@ -157,6 +159,7 @@ fn names_listed(
 }
 
 /// The key that a success opens, and how, where its request named this node, and the reply gives these.
+#[inline(always)]
 pub(crate) fn opened(
     node: NodeName,
     given: &[NodeName],
@@ -178,6 +181,7 @@ pub(crate) fn opened(
 }
 
 /// The key that CREATE opens, and how, where the reply gives these.
+#[inline(always)]
 pub(crate) fn created(
     given: &[NodeName],
     body: &RequestBody<'_>,

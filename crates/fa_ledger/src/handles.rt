@@ -52,6 +52,7 @@ impl Handles {
     }
 
     /// Makes room for the key that a success opens, if any, so that it can be noted without memory.
+    #[inline(always)]
     pub fn reserve(&mut self, opened: &Option<(Key, OpenOut)>) -> Result<(), AllocError>
         ensures kept { IsUnchanged self.old.opened self.new.opened }
         ensures room { OnOk result (IsTrue (opens_new self.old.opened.entries opened.now) → 0 < spare self.new.opened) }
@@ -64,6 +65,7 @@ impl Handles {
     }
 
     /// Notes the key that the answer to the request of this number opens, if any: whether it opens one that was not open.
+    #[inline(always)]
     pub fn note_opened(&mut self, asked: u32, opened: Option<(Key, OpenOut)>) -> bool
         requires room { IsTrue (opens_new self.old.opened.entries opened) → 0 < spare self.old.opened }
         requires few { (key : Key) (handle : Handle) → get key_eq self.old.opened key ≡ Some handle → handle.openings < MAX_MESSAGES }

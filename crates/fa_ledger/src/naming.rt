@@ -65,6 +65,7 @@ pub(crate) fn nodes_named(request: &Request<'_>) -> Option<Named>
 }
 
 /// The number and the kind of the file handle that a request uses, if any.
+#[inline(always)]
 pub(crate) fn handle_used(body: &RequestBody<'_>) -> Option<(u64, HandleKind)>
     ensures { result ≡ handle_used (body_shown body.now) }
 {

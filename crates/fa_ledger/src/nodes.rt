@@ -77,6 +77,7 @@ impl Nodes {
     }
 
     /// Counts one lookup more of the node of each name, by the reply of this number.
+    #[inline(always)]
     pub fn give(&mut self, names: &[NodeName], at: u32)
         requires room { IsTrue (some_new self.old.known.entries names.now) → length names.now ≤ spare self.old.known }
         requires few { (node : ℕ) → count_left (get nat_eq self.old.known node) + length names.now ≤ 18446744073709551615 }
