@@ -14,12 +14,11 @@ use Rattle.fa_tree.specs.State as state
 use Rattle.fa_tree.specs.State.{place_cmp, name_cmp, OpenDirectory, file_eq}
 use Rattle.fa_tree.specs.Edits.{Edit, names_after, each_open, open_after, open_after_one}
 use Rattle.fa_tree.specs.Edits.Edit.{Added, Removed}
-use Rattle.fa_tree.specs.Opening.{opened}
 use Rattle.fa_tree.specs.Renaming.{moved, exchanged}
 use Rattle.fa_tree.specs.parts.FileIdLaws.{same_file, file_equiv, tested_apart}
 use Rattle.fa_tree.specs.parts.PlaceLaws.{place_cmp_total, places_apart, names_apart, same_place, place_tests}
-use Rattle.fa_tree.specs.parts.NameParts.{NamesShown, no_names, edited, opened_by, StaysThere}
-use Rattle.fa_tree.proofs.NameLemmas.{get-each_open, get-opened}
+use Rattle.fa_tree.specs.parts.NameParts.{NamesShown, edited, StaysThere}
+use Rattle.fa_tree.proofs.NameLemmas.{get-each_open}
 
 -- ---- maps
 
@@ -124,10 +123,6 @@ open_added_is directory name file h = by (file_eq directory h.directory)
 abbrev StaysIn : FinMap place_cmp FileId → OpenDirectory → Type 0
 StaysIn names h = (name : List ℕ) (file : FileId) → map.get h.stayed name ≡ Some file → map.get names (h.directory, name) ≡ Some file
 
--- it does at first
-pub stays_none : StaysThere no_names
-stays_none asked h is = absurd (let clash : None ≡ Some h = sym (map.get-empty nat_cmp asked) ∙ is in cc)
-
 -- a name that is taken away is taken from both
 removed_in : (names : FinMap place_cmp FileId) (directory : FileId) (name : List ℕ) (h : OpenDirectory) → StaysIn names h
     → StaysIn (map.remove names (directory, name)) (open_after_one (Removed directory name) h)
@@ -147,21 +142,6 @@ removed_in names directory name h stays =
     both true x y file so found = found
     both false x y file so found = so found
 
--- and one that is put again has not stayed
-put_in : (names : FinMap place_cmp FileId) (directory : FileId) (name : List ℕ) (file : FileId) (h : OpenDirectory) → StaysIn (map.remove names (directory, name)) h
-    → StaysIn (map.insert (map.remove names (directory, name)) (directory, name) file) (open_after_one (Added directory name file) h)
-put_in names directory name file h stays =
-    subst (StaysIn (map.insert (map.remove names (directory, name)) (directory, name) file)) (sym (open_added_is directory name file h))
-    (λ q other found.
-    map.get-insert place_cmp_total (map.remove names (directory, name)) (directory, name) file (h.directory, q)
-    ∙ kept (eq_by_cmp place_cmp (h.directory, q) (directory, name)) (map.get names (h.directory, q)) other
-    (sym (map.get-remove place_cmp_total names (directory, name) (h.directory, q)) ∙ stays q other found)
-    (map.get (map.remove names (directory, name)) (h.directory, q)) (stays q other found))
-  where
-    kept : (b : Bool) (x : Option FileId) (other : FileId) → cond b None x ≡ Some other → (y : Option FileId) → y ≡ Some other → cond b (Some file) y ≡ Some other
-    kept true x other clash y is = absurd (let none : None ≡ Some other = clash in cc)
-    kept false x other found y is = is
-
 each_stays : (names after : FinMap place_cmp FileId) (change : OpenDirectory → OpenDirectory) (handles : FinMap nat_cmp OpenDirectory)
     → ((asked : ℕ) (h : OpenDirectory) → map.get handles asked ≡ Some h → StaysIn names h)
     → ((h : OpenDirectory) → StaysIn names h → StaysIn after (change h))
@@ -177,21 +157,6 @@ each_stays names after change handles stays kept asked h is =
 pub stays_removed : (n : NamesShown) (directory : FileId) (name : List ℕ) → StaysThere n → StaysThere (edited (Removed directory name ∷ []) n)
 stays_removed n directory name stays =
     each_stays n.names (map.remove n.names (directory, name)) (open_after (Removed directory name ∷ [])) n.handles stays (removed_in n.names directory name)
-
-pub stays_put : (n : NamesShown) (directory : FileId) (name : List ℕ) (file : FileId) → StaysThere n → StaysThere (edited (Removed directory name ∷ Added directory name file ∷ []) n)
-stays_put n directory name file stays =
-    each_stays n.names (map.insert (map.remove n.names (directory, name)) (directory, name) file) (open_after (Removed directory name ∷ Added directory name file ∷ [])) n.handles stays
-    (λ h before. put_in n.names directory name file (open_after_one (Removed directory name) h) (removed_in n.names directory name h before))
-
-pub stays_opened : (n : NamesShown) (asked : ℕ) (directory : FileId) → StaysThere n → StaysThere (opened_by asked directory n)
-stays_opened n asked directory stays other h is =
-    by (eq_by_cmp nat_cmp other asked) (sym (map.get-insert nat_cmp_total n.handles asked (opened n.names directory) other) ∙ is)
-  where
-    by : (b : Bool) → cond b (Some (opened n.names directory)) (map.get n.handles other) ≡ Some h → StaysIn n.names h
-    by true is =
-        let same : opened n.names directory ≡ h = cc in
-        subst (StaysIn n.names) same (λ name file found. sym (get-opened n.names directory name) ∙ found)
-    by false is = stays other h is
 
 -- ---- edits that come to the same
 

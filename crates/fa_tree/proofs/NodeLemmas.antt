@@ -1,8 +1,6 @@
 -- The map of nodes: its order, and what a table of nodes shows.
-use Rattle.std.proofs.Common.{◌≡◌, ◌⊎◌, inl, inr, ℕ, suc, ◌+◌, ◌<◌, ◌≤◌, Bool, true, false, cond, List, [], ◌∷◌, length, drop, get_or, slice_get, Some, refl, sym, ap, subst, ◌∙◌, arith}
+use Rattle.std.proofs.Common.{◌≡◌, ◌⊎◌, inl, inr, ℕ, ◌+◌, ◌<◌, Bool, true, false, cond, List, [], ◌∷◌, slice_get, Some, refl, sym, ap, subst, ◌∙◌, arith}
 use Rattle.std.specs.Prelude.{◌&&◌, nat_eq}
-use Rattle.std.proofs.Math.Seq.{drop-cons}
-use Rattle.std.proofs.lemmas.List.{drop_all}
 use Rattle.std.proofs.lemmas.Bool.{cases_lt}
 use Rattle.std.proofs.lemmas.Bool.Decides.{nat_tests}
 use Rattle.std.proofs.lemmas.Cmp.{then_total, nat_cmp_total, eq_by_cmp_equiv}
@@ -18,7 +16,6 @@ use Rattle.fa_ledger.specs.declared.name.NodeName.{NodeName}
 use Rattle.fa_ledger.specs.declared.name.NodeName.TheVariants.{Root, Given}
 use Rattle.fa_tree.specs.declared.id.FileId.{FileId}
 use Rattle.fa_tree.specs.State.{node_cmp}
-use Rattle.fa_tree.specs.Bindings.{nodes_after}
 
 -- ---- the order of names of nodes
 
@@ -107,20 +104,6 @@ pub shown_insert : (old new : List (NodeName × FileId)) (name : NodeName) (file
 shown_insert old new name file wrote =
     map.same_map node_total node_same (map.from_entries new) (map.insert (map.from_entries old) name file) (λ q.
     get_shown new q ∙ (wrote q ∙ (rw (sym (ties name q), sym (get_shown old q), (eq_by_cmp_equiv node_total).symm name q) (sym (map.get-insert node_total (map.from_entries old) name file q)))))
-
--- ---- names that are given one after the other
-
--- the next of those that are left, where there is one
-pub one_bound : (given : List (NodeName × FileId)) (i : ℕ) (one : NodeName × FileId) (nodes now all : FinMap node_cmp FileId) → i < length given → one ≡ get_or given i one
-    → nodes_after (drop i given) nodes ≡ all → now ≡ map.insert nodes one.0 one.1 → nodes_after (drop (i + 1) given) now ≡ all
-one_bound given i one nodes now all less is left put =
-    let next : drop i given ≡ one ∷ drop (suc i) given = drop-cons given i one less ∙ ap (λ x. x ∷ drop (suc i) given) (sym is) in
-    let later : i + 1 ≡ suc i = omega arith in
-    ap (λ k. nodes_after (drop k given) now) later ∙ ap (nodes_after (drop (suc i) given)) put ∙ sym (ap (λ xs. nodes_after xs nodes) next) ∙ left
-
--- none is left
-pub all_bound : (given : List (NodeName × FileId)) (i : ℕ) (nodes all : FinMap node_cmp FileId) → length given ≤ i → nodes_after (drop i given) nodes ≡ all → nodes ≡ all
-all_bound given i nodes all past left = sym (ap (λ xs. nodes_after xs nodes) (drop_all i given past)) ∙ left
 
 -- ---- names that stand for one file
 

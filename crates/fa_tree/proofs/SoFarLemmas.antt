@@ -80,9 +80,6 @@ goes_on calls call listing before lists from =
 goes_nowhere : (calls : List PlainCall) (call : PlainCall) → before_of call ≡ None → going_on_from calls call ≡ None
 goes_nowhere calls call is = ap (option_and_then (λ b. option_map (λ earlier. (earlier, b.1)) (call_asked calls b.0))) is
 
-pub unlisted_before : (calls : List PlainCall) (call : PlainCall) → call.listing ≡ None → going_on_from calls call ≡ None
-unlisted_before calls call none = goes_nowhere calls call (ap (option_and_then (λ x. x.before)) none)
-
 pub nothing_before : (calls : List PlainCall) (call : PlainCall) (listing : Listing) → call.listing ≡ Some listing → listing.before ≡ None → going_on_from calls call ≡ None
 nothing_before calls call listing lists none = goes_nowhere calls call (ap (option_and_then (λ x. x.before)) lists ∙ none)
 

@@ -62,11 +62,6 @@ not_greater Less test is = absurd cc
 not_greater Equal test is = absurd cc
 not_greater Greater test is = absurd cc
 
-not_greater_test : (r : Ordering) → r ≢ Greater → is_gt r ≡ false
-not_greater_test Less other = refl
-not_greater_test Equal other = refl
-not_greater_test Greater other = absurd (other refl)
-
 reverse_test : (r : Ordering) → r ≢ Less → is_gt (ordering_reverse r) ≡ false
 reverse_test Less other = absurd (other refl)
 reverse_test Equal other = refl
@@ -211,10 +206,6 @@ module _ (directory : FileId) (at : ℕ) (slots : List (Place × Slot)) (No : Li
 module _ (slots : List (Place × Slot)) (file : FileId) (index : ℕ) where
   abbrev Least : Option (Bor Place) → Type 0
   Least least = LeastTo slots file index (option_map (λ p. p.now) least)
-
-  pub least_found : (least : Option (Bor Place)) → Least least → IfSome least (λ p. map.get (names_shown slots) (place_of p.now) ≡ Some file)
-  least_found None is = tt
-  least_found (Some p) is = is.there
 
   pub least_first : index ≡ length slots → (least : Option (Bor Place)) → Least least
       → IfSome least (λ p. (other : state.Place) → map.get (names_shown slots) other ≡ Some file → place_cmp (place_of p.now) other ≢ Greater)

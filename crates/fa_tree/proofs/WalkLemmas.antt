@@ -159,13 +159,6 @@ climbs_up s d p n name tree kind has (at_top _ none) = absurd (none p (name, has
 climbs_up s d p n name tree kind has (goes_on _ q k is more) =
     (k, refl, subst (λ x. Climbs s x k) (tree.one_name q p is.0 name d is.1 has kind).0 more)
 
--- the same, where it is known that there is a step
-pub climbs_less : (s : Store) (d p : FileId) (n : ℕ) (name : List ℕ) → IsTree s → IsDirectory s d → HasName s p name d → Climbs s d (suc n) → Climbs s p n
-climbs_less s d p n name tree kind has up =
-    let rest = climbs_up s d p (suc n) name tree kind has up in
-    let same : rest.0 ≡ n = omega (arith, rest.1) in
-    subst (Climbs s p) same rest.2
-
 -- in a tree each way up is some steps long
 pub tree_climbs : (s : Store) (d : FileId) → IsTree s → (steps : ℕ) × Climbs s d steps
 tree_climbs s d tree = climbs s d (tree.ends d)

@@ -84,8 +84,5 @@ file_ties (Made p) (Made q) = unsigned_tied p q
 pub same_equal : (a b : FileId) → derived.eq-value.it a b ≡ true → a ≡ b
 same_equal a b is = same_file a b (file_ties a b ∙ is)
 
-pub self_equal : (a : FileId) → derived.eq-value.it a a ≡ true
-self_equal a = sym (file_ties a a) ∙ file_self a
-
 pub equal_tested : (a b : FileId) → a ≡ b → derived.eq-value.it a b ≡ true
 equal_tested a b is = sym (file_ties a b) ∙ file_tested a b is
