@@ -26,10 +26,10 @@ use Rattle.fa_ledger.specs.SoFar.{entries_answered, call_asked, before_of, liste
 use Rattle.fa_ledger.proofs.CallerLemmas.{call_at, asked_later}
 use Rattle.fa_tree.specs.Directories.{times_listed}
 use Rattle.fa_tree.specs.declared.tally.Tally.{Tally}
-use Rattle.fa_tree.specs.declared.kept.ListedSoFar.{ListedSoFar}
+use Rattle.fa_tree.specs.declared.kept.KeptListing.{KeptListing}
 use Rattle.fa_tree.specs.parts.KeptParts.{AreAmong}
-use Rattle.fa_tree.specs.parts.ReplayParts.{IsTold}
-use Rattle.fa_tree.specs.parts.TallyParts.{going_on_from, Tallies, Notes}
+use Rattle.fa_tree.specs.parts.ReplayParts.{IsKeptOf, IsKeptAt, IsKept}
+use Rattle.fa_tree.specs.parts.TallyParts.{going_on_from, Tallies, Notes, ListsAt}
 use Rattle.fa_tree.proofs.SoFarLemmas.{Rise, listed_more, listed_none, left_at}
 use Rattle.fa_tree.proofs.TallyLemmas.{tallies_so}
 
@@ -183,22 +183,30 @@ counted_all tally so_far entries answered count same most are =
 
 -- ---- what is kept
 
+-- what is kept of a call at its place is kept of the entries of its answer
+pub kept_at : (calls : Calls) (place : ℕ) (entries : List PlainDirent) (kept : KeptListing) → kept.at ≡ place → ListsAt calls.list place entries → IsKept calls kept → IsKeptAt calls place entries kept
+kept_at calls place entries kept at answer is =
+    let was = is.1.answer in
+    let one : was.0 ≡ answer.0 = same_Some was.0 answer.0 (sym was.1 ∙ ap (slice_get calls.list) at ∙ answer.1) in
+    let same : is.0 ≡ entries = sym was.2 ∙ ap (λ (call : PlainCall). entries_answered call.operation) one ∙ answer.2 in
+    (at, subst (IsKeptOf calls kept) same is.1)
+
 -- all that a table has is so
-abbrev pub AreToldIn : Calls → List (ℕ × ListedSoFar) → Type 0
-AreToldIn calls table = (handle : ℕ) (kept : ListedSoFar) → lookup (nat_eq handle) table ≡ Some kept → IsTold calls kept
+abbrev pub AreKeptIn : Calls → List (ℕ × KeptListing) → Type 0
+AreKeptIn calls table = (handle : ℕ) (kept : KeptListing) → lookup (nat_eq handle) table ≡ Some kept → IsKept calls kept
 
 -- what a table has after an entry was put in is that entry or was there
-pub put_or_there : (old between new : List (ℕ × ListedSoFar)) (handle : ℕ) (listed : ListedSoFar)
+pub put_or_there : (old between new : List (ℕ × KeptListing)) (handle : ℕ) (listed : KeptListing)
     → ((q : ℕ) → lookup (nat_eq q) new ≡ cond (nat_eq handle q) (Some listed) (lookup (nat_eq q) between)) → AreAmong between old
-    → (q : ℕ) (kept : ListedSoFar) → lookup (nat_eq q) new ≡ Some kept → ((handle ≡ q) × (listed ≡ kept)) ⊎ (lookup (nat_eq q) old ≡ Some kept)
+    → (q : ℕ) (kept : KeptListing) → lookup (nat_eq q) new ≡ Some kept → ((handle ≡ q) × (listed ≡ kept)) ⊎ (lookup (nat_eq q) old ≡ Some kept)
 put_or_there old between new handle listed wrote among q kept found = elim (eqb_tells handle q) [
   | inl same ↦ inl (same.1, same_Some listed kept (sym (wrote q ∙ ap (λ b. cond b (Some listed) (lookup (nat_eq q) between)) same.0) ∙ found))
   | inr other ↦ inr (among q kept (sym (wrote q ∙ ap (λ b. cond b (Some listed) (lookup (nat_eq q) between)) other.0) ∙ found))
 ]
 
 -- what a table has after an entry was taken away was there
-pub left_there : (old new : List (ℕ × ListedSoFar)) (handle : ℕ) → ((q : ℕ) → lookup (nat_eq q) new ≡ cond (nat_eq handle q) None (lookup (nat_eq q) old))
-    → (q : ℕ) (kept : ListedSoFar) → lookup (nat_eq q) new ≡ Some kept → lookup (nat_eq q) old ≡ Some kept
+pub left_there : (old new : List (ℕ × KeptListing)) (handle : ℕ) → ((q : ℕ) → lookup (nat_eq q) new ≡ cond (nat_eq handle q) None (lookup (nat_eq q) old))
+    → (q : ℕ) (kept : KeptListing) → lookup (nat_eq q) new ≡ Some kept → lookup (nat_eq q) old ≡ Some kept
 left_there old new handle wrote q kept found = by (nat_eq handle q) (sym (wrote q) ∙ found)
   where
     by : (same : Bool) → cond same None (lookup (nat_eq q) old) ≡ Some kept → lookup (nat_eq q) old ≡ Some kept
@@ -206,10 +214,10 @@ left_there old new handle wrote q kept found = by (nat_eq handle q) (sym (wrote 
     by false is = is
 
 -- where all that is kept is this or was kept, all of it is told
-pub told_put : (calls : Calls) (old new : List (ℕ × ListedSoFar)) (handle : ℕ) (listed : ListedSoFar)
-    → ((q : ℕ) (kept : ListedSoFar) → lookup (nat_eq q) new ≡ Some kept → ((handle ≡ q) × (listed ≡ kept)) ⊎ (lookup (nat_eq q) old ≡ Some kept))
-    → IsTold calls listed → AreToldIn calls old → AreToldIn calls new
+pub told_put : (calls : Calls) (old new : List (ℕ × KeptListing)) (handle : ℕ) (listed : KeptListing)
+    → ((q : ℕ) (kept : KeptListing) → lookup (nat_eq q) new ≡ Some kept → ((handle ≡ q) × (listed ≡ kept)) ⊎ (lookup (nat_eq q) old ≡ Some kept))
+    → IsKept calls listed → AreKeptIn calls old → AreKeptIn calls new
 told_put calls old new handle listed says told are q kept found = elim (says q kept found) [
-  | inl this ↦ subst (IsTold calls) this.1 told
+  | inl this ↦ subst (IsKept calls) this.1 told
   | inr before ↦ are q kept before
 ]

@@ -15,7 +15,7 @@ use Rattle.fa_tree.specs.declared.tally.Listed.{Listed}
 use Rattle.fa_tree.specs.declared.tally.Reach.{Reach}
 use Rattle.fa_tree.specs.declared.tally.Tally.{Tally}
 use Rattle.fa_tree.specs.Directories.{times_listed}
-use Rattle.fa_tree.specs.parts.TallyParts.{was_listed, was_repeated, is_among, AreListed, Tallies, TalliesAt, Grows, Notes}
+use Rattle.fa_tree.specs.parts.TallyParts.{was_listed, was_repeated, is_among, AreNamesListed, Tallies, TalliesAt, Grows, Notes}
 
 -- ---- one name more
 
@@ -69,7 +69,7 @@ module _ (name : List ℕ) (times : List ℕ → ℕ) where
       by false is = is ∙ ap was_listed (sym (none_more (times other)))
 
   -- a name that is listed for the first time
-  pub listed_first : (old new again : List Listed) → is_among old name ≡ false → IsPut name old new → AreListed old again times → AreListed new again (once_more name times)
+  pub listed_first : (old new again : List Listed) → is_among old name ≡ false → IsPut name old new → AreNamesListed old again times → AreNamesListed new again (once_more name times)
   listed_first old new again never put are = record {
     listed = listed_now old new put are.listed;
     repeated = λ other. are.repeated other ∙ by other (bytes_eq name other) refl;
@@ -80,8 +80,8 @@ module _ (name : List ℕ) (times : List ℕ → ℕ) where
       by other false is = ap was_repeated (sym (none_more (times other)))
 
   -- and one that is listed again
-  pub listed_again : (old new again repeated : List Listed) → is_among old name ≡ true → new ≡ old → IsPut name again repeated → AreListed old again times
-      → AreListed new repeated (once_more name times)
+  pub listed_again : (old new again repeated : List Listed) → is_among old name ≡ true → new ≡ old → IsPut name again repeated → AreNamesListed old again times
+      → AreNamesListed new repeated (once_more name times)
   listed_again old new again repeated was same put are = record {
     listed = λ other. ap (λ names. is_among names other) same ∙ are.listed other ∙ stays other (bytes_eq name other) refl;
     repeated = λ other. put other ∙ by other (bytes_eq name other) refl;
@@ -97,6 +97,17 @@ module _ (name : List ℕ) (times : List ℕ → ℕ) where
       by : (other : List ℕ) (same : Bool) → bytes_eq name other ≡ same → cond same true (is_among again other) ≡ was_repeated (times other + cond same 1 0)
       by other true is = sym (now_repeated (times other) (is_listed other is))
       by other false is = are.repeated other ∙ ap was_repeated (sym (none_more (times other)))
+
+-- ---- a tally of the same names
+
+pub same_names : (old new : Tally) → new.names.keys ≡ old.names.keys → new.again.keys ≡ old.again.keys → (times : List ℕ → ℕ) → Tallies old times → Tallies new times
+same_names old new names again times are =
+    subst (λ (xs : List Listed). AreNamesListed xs new.again.keys times) (sym names) (subst (λ (xs : List Listed). AreNamesListed old.names.keys xs times) (sym again) are)
+
+pub same_at : (old new : Tally) (reach : Reach) → new.names.keys ≡ old.names.keys → new.again.keys ≡ old.again.keys → (times : List ℕ → ℕ) → TalliesAt old reach times → TalliesAt new reach times
+same_at old new reach names again times are =
+    subst (λ (xs : List Listed). AreNamesListed (take reach.names xs) (take reach.again new.again.keys) times) (sym names)
+    (subst (λ (xs : List Listed). AreNamesListed (take reach.names old.names.keys) (take reach.again xs) times) (sym again) are)
 
 -- ---- how far a tally reached
 
@@ -124,8 +135,8 @@ front_is xs ys n len grown = ap (λ m. take m ys) len ∙ ap (take (length xs)) 
 pub told_before : (old new : Tally) (reach : Reach) → reach.names ≡ length old.names.keys → reach.again ≡ length old.again.keys → Grows old new
     → (times : List ℕ → ℕ) → Tallies old times → TalliesAt new reach times
 told_before old new reach names again grown times are =
-    subst (λ (xs : List Listed). AreListed xs (take reach.again new.again.keys) times) (sym (front_is old.names.keys new.names.keys reach.names names grown.names))
-    (subst (λ (xs : List Listed). AreListed old.names.keys xs times) (sym (front_is old.again.keys new.again.keys reach.again again grown.again)) are)
+    subst (λ (xs : List Listed). AreNamesListed xs (take reach.again new.again.keys) times) (sym (front_is old.names.keys new.names.keys reach.names names grown.names))
+    (subst (λ (xs : List Listed). AreNamesListed old.names.keys xs times) (sym (front_is old.again.keys new.again.keys reach.again again grown.again)) are)
 
 -- names that were listed as often
 pub tallies_so : (tally : Tally) (times so : List ℕ → ℕ) → ((name : List ℕ) → times name ≡ so name) → Tallies tally times → Tallies tally so

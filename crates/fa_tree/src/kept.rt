@@ -2,7 +2,7 @@
 
 ghost use Rattle.std.specs.Prelude.{◌≡◌, ◌⊎◌, ◌+◌, ◌≤◌, ℕ, List, nat_eq, [], Some};
 ghost use Rattle.std.specs.Map.{lookup};
-ghost use Rattle.fa_tree.specs.declared.kept.ListedSoFar.{ListedSoFar as TheListed};
+ghost use Rattle.fa_tree.specs.declared.kept.KeptListing.{KeptListing as TheListing};
 ghost use Rattle.fa_tree.specs.parts.KeptParts.{AreAmong, size_of_listing, size_of_listings};
 ghost use Rattle.fa_tree.specs.parts.TallyParts.{Tallies, TalliesAt};
 
@@ -14,9 +14,9 @@ use std::alloc::Global;
 /// A listing takes as much memory as so many names, beside its own.
 const PER_LISTING: usize = 16;
 
-/// What was listed so far for a call, and then by its own answer.
+/// The names that were listed so far for a call, and then by its own answer.
 #[derive(Drop)]
-pub(crate) struct ListedSoFar<'c> {
+pub(crate) struct KeptListing<'c> {
     /// The place of the call.
     pub at: usize,
     pub tally: Tally<'c>,
@@ -26,7 +26,7 @@ pub(crate) struct ListedSoFar<'c> {
     pub count: usize,
 }
 
-impl<'c> ListedSoFar<'c> {
+impl<'c> KeptListing<'c> {
     /// What was listed so far for the call, without its answer. Takes no memory, and time in the names that the answer listed.
     pub fn without_answer(self) -> Tally<'c>
         ensures { (times : List ℕ → ℕ) → TalliesAt self.entry.tally self.entry.before times → Tallies result times }
@@ -50,7 +50,7 @@ impl<'c> ListedSoFar<'c> {
 /// how many names there is room in all, where each listing counts as some more.
 #[derive(Drop)]
 pub(crate) struct Kept<'c> {
-    pub by_handle: IndexMap<u32, ListedSoFar<'c>, Seed>,
+    pub by_handle: IndexMap<u32, KeptListing<'c>, Seed>,
     /// For how many names it takes room.
     pub size: usize,
     ghost counted: { size_of_listings by_handle.entries ≤ size },
@@ -72,7 +72,7 @@ impl<'c> Kept<'c> {
     /// Takes away what is kept for a handle, if it is.
     ///
     /// Takes no memory, in expected constant time.
-    pub fn take(&mut self, handle: u32) -> Option<ListedSoFar<'c>>
+    pub fn take(&mut self, handle: u32) -> Option<KeptListing<'c>>
         ensures taken { result ≡ lookup (nat_eq handle) self.old.by_handle.entries }
         ensures left { AreAmong self.new.by_handle.entries self.old.by_handle.entries }
     {
@@ -81,20 +81,34 @@ impl<'c> Kept<'c> {
         Some(listed)
     }
 
-    /// Keeps what was listed so far on a handle for which nothing is kept, where there is room for so many names in all. Where there
-    /// is no room beside the others, these go. Where there is none without them, or memory is refused, it is not kept.
+    /// Keeps a listing on a handle for which nothing is kept, where there is room for so many names in all. Where there is no room
+    /// beside the others, these go. Where there is none without them, or memory is refused, it is not kept.
     ///
     /// Expected constant time, but for growing by a handle, and for giving back the names that go.
-    pub fn put(&mut self, handle: u32, listed: ListedSoFar<'c>, room: usize)
-        ensures kept { (other : ℕ) (kept : TheListed) → lookup (nat_eq other) self.new.by_handle.entries ≡ Some kept → ((handle ≡ other) × (listed.entry ≡ kept)) ⊎ (lookup (nat_eq other) self.old.by_handle.entries ≡ Some kept) }
+    pub fn put(&mut self, handle: u32, listing: KeptListing<'c>, room: usize)
+        ensures kept { (other : ℕ) (kept : TheListing) → lookup (nat_eq other) self.new.by_handle.entries ≡ Some kept → ((handle ≡ other) × (listing.entry ≡ kept)) ⊎ (lookup (nat_eq other) self.old.by_handle.entries ≡ Some kept) }
         ensures few { size_of_listings self.new.by_handle.entries ≤ room }
     {
-        let size = listed.size();
-        self.make_room(size, room);
-        if size > room {
+        self.make_room(listing.size(), room);
+        self.put_beside(handle, listing, room);
+    }
+
+    /// Keeps a listing beside the others, where nothing is kept for its handle and there is room for so many names in all. Elsewhere,
+    /// or where memory is refused, it is not kept.
+    ///
+    /// Expected constant time, but for growing by a handle.
+    pub fn put_beside(&mut self, handle: u32, listing: KeptListing<'c>, room: usize)
+        ensures kept { (other : ℕ) (kept : TheListing) → lookup (nat_eq other) self.new.by_handle.entries ≡ Some kept → ((handle ≡ other) × (listing.entry ≡ kept)) ⊎ (lookup (nat_eq other) self.old.by_handle.entries ≡ Some kept) }
+        ensures few { self.old.size ≤ room → size_of_listings self.new.by_handle.entries ≤ room }
+    {
+        let size = listing.size();
+        if size > room
+            || self.size > room.saturating_sub(size)
+            || self.by_handle.contains_key(&handle)
+        {
             return;
         }
-        match self.by_handle.insert(handle, listed) {
+        match self.by_handle.insert(handle, listing) {
             Ok(_) => self.size += size,
             Err(_) => {}
         }

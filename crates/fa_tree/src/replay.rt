@@ -6,10 +6,10 @@ ghost use Rattle.fa_ledger.specs.declared.calls.Calls.{Calls as TheCalls};
 ghost use Rattle.fa_ledger.specs.Calls.{call_shown};
 ghost use Rattle.fa_ledger.specs.SoFar.{before_of, entries_answered, listing_so_far};
 ghost use Rattle.fa_tree.specs.Directories.{times_listed};
-ghost use Rattle.fa_tree.specs.parts.ReplayParts.{IsTallyAt, IsKeptOf, IsTold};
+ghost use Rattle.fa_tree.specs.parts.ReplayParts.{IsTallyAt, IsKeptAt, IsKept};
 ghost use Rattle.fa_tree.specs.parts.TallyParts.{Tallies, ListsAt};
 
-use crate::kept::{Kept, ListedSoFar};
+use crate::kept::{Kept, KeptListing};
 use crate::so_far::{before, note_all, note_answered, note_so_far};
 use crate::tally::Tally;
 use fa_bodies::Entries;
@@ -20,7 +20,7 @@ use std::marker::Model;
 
 /// The calls of a capture, for steps that are taken along them, one after the other ([`Tree::step_in`](crate::Tree::step_in)).
 /// What was listed so far is kept from one step to the next, so that the names of each answer of a listing that goes straight on
-/// are noted once. Nothing that is kept shows in what a step answers: to its callers a `Replay` is its calls.
+/// are noted once, where there is room. Nothing that is kept shows in what a step answers: to its callers a `Replay` is its calls.
 ///
 /// It takes memory for names of listings that did not reach their end: in all for as many as the tree has or had places when one was
 /// kept last, and some thousands more, however many directories are opened and listed in part.
@@ -38,11 +38,11 @@ impl<'c> Model for Replay<'c> {
 
     ghost Value = { Calls };
 
-    ghost use Rattle.fa_tree.specs.parts.ReplayParts.{calls_of, AreTold};
+    ghost use Rattle.fa_tree.specs.parts.ReplayParts.{calls_of, AreKept};
 
     ghost view = { calls_of };
 
-    ghost invariant = { AreTold };
+    ghost invariant = { AreKept };
 }
 
 impl<'c> Replay<'c> {
@@ -70,71 +70,66 @@ impl<'c> Replay<'c> {
     }
 
     /// What was listed so far for the call at this place, and then by its answer, whose entries these are. What is kept for its
-    /// handle is taken away for it; `keep` puts it back. An error says that memory was refused, and nothing is kept for the handle then.
+    /// handle is taken away for it, where it goes on from another; `keep` puts it back. An error says that memory was refused, and
+    /// nothing is kept for the handle then.
     ///
-    /// Where what is kept is that of the call that it goes on from, or of one that goes on from the same, expected time and
-    /// memory in the names of these calls' answers, and time logarithmic in the calls. Elsewhere as
-    /// [`note_so_far`](crate::so_far::note_so_far).
+    /// Constant time where that is what is kept. Else expected time and memory in the names of these entries; where what is kept is that
+    /// of the call that it goes on from, or of one that goes on from the same, time in the names of that one's answer too, and
+    /// logarithmic in the calls; elsewhere as [`note_so_far`](crate::so_far::note_so_far) too.
     pub(crate) fn take(
         &mut self,
         k: usize,
         entries: Entries<'c>,
-    ) -> Result<ListedSoFar<'c>, AllocError>
+    ) -> Result<KeptListing<'c>, AllocError>
         requires { ListsAt self.old.list k (entries_left entries) }
-        ensures told { IfOk result (λ listed. (listed.at ≡ k) × IsKeptOf self.old listed (entries_left entries.entry)) }
-        ensures same { self.new ≡ self.old }
-    {
-        let mut tally = self.take_so_far(k)?;
-        let before = tally.reach();
-        let count = note_all(&mut tally, entries)?;
-        Ok(ListedSoFar {
-            at: k,
-            tally,
-            before,
-            count,
-        })
-    }
-
-    /// What was listed so far for the call at this place, without its answer. What is kept for its handle is taken away for it.
-    fn take_so_far(&mut self, k: usize) -> Result<Tally<'c>, AllocError>
-        requires { k < length self.old.list }
-        ensures told { IfOk result (IsTallyAt self.old k) }
+        ensures told { IfOk result (λ listing. IsKeptAt self.old k (entries_left entries.entry) listing) }
         ensures same { self.new ≡ self.old }
     {
         let alloc = self.alloc;
         let seed = self.seed;
         let calls = self.calls;
         match self.take_kept(&calls.list.call(k)) {
-            Some(kept) => go_on(alloc, seed, calls, kept, k),
-            None => tally_anew(alloc, seed, calls, k),
+            Some(kept) => take_on(alloc, seed, calls, kept, k, entries),
+            None => note_answer(tally_anew(alloc, seed, calls, k)?, k, entries),
         }
     }
 
-    /// Keeps what was listed so far for a call, and by its answer, if there is room for so many names in all. Where memory is
-    /// refused it is not kept.
+    /// Keeps a listing, if there is room for so many names in all: one that goes on from another call in the place of all that are
+    /// kept, if need be; one that begins where nothing has to go for it. Where memory is refused it is not kept.
     ///
     /// Takes memory and time as [`Kept::put`].
-    pub(crate) fn keep(&mut self, listed: ListedSoFar<'c>, room: usize)
-        requires { IsTold self.old listed }
+    pub(crate) fn keep(&mut self, listing: KeptListing<'c>, room: usize)
+        requires { IsKept self.old listing }
         ensures same { self.new ≡ self.old }
     {
         let calls = self.calls;
-        let at = listed.at;
-        if let Some(handle) = calls.list.call(at).handle {
-            self.so_far.put(handle, listed, room);
+        let at = listing.at;
+        let call = calls.list.call(at);
+        if let Some(handle) = call.handle {
+            if asked_before(&call).is_some() {
+                self.so_far.put(handle, listing, room);
+            } else {
+                self.so_far.put_beside(handle, listing, room);
+            }
         }
     }
 
-    /// Takes away what is kept for the handle of a call.
+    /// Takes away what is kept for the handle of a call, if the call goes on from another.
     ///
     /// Takes no memory, in constant time.
-    fn take_kept(&mut self, call: &Call<'_>) -> Option<ListedSoFar<'c>>
-        ensures told { IfSome result (IsTold self.old) }
+    fn take_kept(&mut self, call: &Call<'_>) -> Option<KeptListing<'c>>
+        ensures told { IfSome result (IsKept self.old) }
         ensures same { self.new ≡ self.old }
     {
-        let handle = call.handle?;
+        let handle = handle_gone_on(call)?;
         self.so_far.take(handle)
     }
+}
+
+/// The handle of a call that goes on from another. One that begins a listing needs nothing that is kept.
+fn handle_gone_on(call: &Call<'_>) -> Option<u32> {
+    call.listing?.before?;
+    call.handle
 }
 
 /// What a call goes on from: the number of a request, and how many entries of its answer count.
@@ -166,13 +161,16 @@ fn tally_anew<'c>(
     Ok(tally)
 }
 
-/// What was listed so far for a call that goes on from this one, of whose answer so many entries count.
+/// What was listed so far for a call that goes on from this one, where so many entries of this one's answer count. An error says that
+/// memory was refused.
+///
+/// Takes no memory and constant time where all count. Else expected time in this one's answer.
 fn note_first<'c>(
-    kept: ListedSoFar<'c>,
+    kept: KeptListing<'c>,
     call: &Call<'c>,
     count: u32,
 ) -> Result<Tally<'c>, AllocError>
-    ensures { IfOk result (λ tally. (calls : TheCalls) → IsTold calls kept.entry → slice_get calls.list kept.entry.at ≡ Some (call_shown call.now) → Tallies tally (λ name. times_listed name (listing_so_far calls.list kept.entry.at ++ take count (entries_answered (call_shown call.now).operation)))) }
+    ensures { IfOk result (λ tally. (calls : TheCalls) → IsKept calls kept.entry → slice_get calls.list kept.entry.at ≡ Some (call_shown call.now) → Tallies tally (λ name. times_listed name (listing_so_far calls.list kept.entry.at ++ take count (entries_answered (call_shown call.now).operation)))) }
 {
     if count as usize >= kept.count {
         return Ok(kept.tally);
@@ -187,11 +185,11 @@ fn go_on<'c>(
     alloc: Global,
     seed: Seed,
     calls: &'c Calls<'c>,
-    kept: ListedSoFar<'c>,
+    kept: KeptListing<'c>,
     k: usize,
 ) -> Result<Tally<'c>, AllocError>
     requires there { k < length calls.now.list }
-    requires told { IsTold calls.now kept }
+    requires told { IsKept calls.now kept }
     ensures { IfOk result (IsTallyAt calls.now k) }
 {
     let at = kept.at;
@@ -210,4 +208,45 @@ fn go_on<'c>(
         }
         None => tally_anew(alloc, seed, calls, k),
     }
+}
+
+/// What was listed so far for the call at this place, and then by its answer, whose entries these are, after what is kept of a call on
+/// its handle.
+fn take_on<'c>(
+    alloc: Global,
+    seed: Seed,
+    calls: &'c Calls<'c>,
+    kept: KeptListing<'c>,
+    k: usize,
+    entries: Entries<'c>,
+) -> Result<KeptListing<'c>, AllocError>
+    requires kept { IsKept calls.now kept }
+    requires answer { ListsAt calls.now.list k (entries_left entries) }
+    ensures { IfOk result (λ listing. IsKeptAt calls.now k (entries_left entries.entry) listing) }
+{
+    let at = kept.at;
+    if at == k {
+        return Ok(kept);
+    }
+    note_answer(go_on(alloc, seed, calls, kept, k)?, k, entries)
+}
+
+/// What was listed so far for the call at this place, and then by its answer, whose entries these are.
+fn note_answer<'c>(
+    so_far: Tally<'c>,
+    k: usize,
+    entries: Entries<'c>,
+) -> Result<KeptListing<'c>, AllocError>
+    ensures { IfOk result (λ listing. (calls : TheCalls) → ListsAt calls.list k (entries_left entries.entry) → IsTallyAt calls k so_far.entry → IsKeptAt calls k (entries_left entries.entry) listing) }
+{
+    let mut tally = so_far;
+    let before = tally.reach();
+    let count = note_all(&mut tally, entries)?;
+    tally.give_back();
+    Ok(KeptListing {
+        at: k,
+        tally,
+        before,
+        count,
+    })
 }

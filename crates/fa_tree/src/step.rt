@@ -104,12 +104,13 @@ impl Tree {
     /// `Refused` tells the code that `step` tells; `Memory` that memory was refused. The tree is then as it was, and the next
     /// step may be taken along the same replay.
     ///
-    /// Time and memory as `step`, but for READDIR and READDIRPLUS. These take time and memory in the names that they answer, and
-    /// in those of the answer that they go on from, where the step before on the handle was that of this answer, or of a request
-    /// that goes on from the same and did not end the listing, and there was room for the names so far in what the replay keeps;
-    /// elsewhere in all names of the answers that they go on from. The replay keeps these until the step that ends the listing, or until there is
-    /// no room for others beside them. Time in the names that were listed more than once comes on top, and at the end of a listing in
-    /// the places of the directory that had ever had a name when it was opened.
+    /// Time and memory as `step`, but for READDIR and READDIRPLUS. These take time and memory in the names that they answer, and in
+    /// those of the answer that they go on from where only a part of it counts, and time in those of the step before on the handle, where
+    /// that step was that of this answer, or of a request that goes on from the same and did not end the listing, and there was room for
+    /// its names in what the replay keeps; elsewhere also in all names of the answers that they go on from. The replay keeps these names,
+    /// their own too, until the next such step on the handle, which may end the listing, or until there is no room for others beside
+    /// them. Time in the names that were listed more than once comes on top, and at the end of a listing in the places of the directory
+    /// that had ever had a name when it was opened.
     pub fn step_in(
         &mut self,
         replay: &mut Replay<'_>,

@@ -50,6 +50,15 @@ pub(crate) struct Reach {
     pub again: usize,
 }
 
+/// Gives back memory of names where less than a quarter of it is needed.
+fn give_back(names: &mut IndexSet<Listed<'_>, Seed>)
+    ensures { names.new.keys ≡ names.old.keys }
+{
+    if names.capacity() / 4 > names.len() {
+        names.shrink_to_fit();
+    }
+}
+
 impl<'a> Tally<'a> {
     /// No name was listed. What is noted later takes memory from `alloc`.
     pub fn new(alloc: Global, seed: Seed) -> Self
@@ -79,12 +88,22 @@ impl<'a> Tally<'a> {
         }
     }
 
-    /// Forgets what was noted since this reached so far. Takes no memory, and time in the names that were listed since.
+    /// Forgets what was noted since this reached so far. Takes no memory, and time in the names that were listed since. Their memory is
+    /// kept for others.
     pub fn go_back(&mut self, reach: Reach)
         ensures { (times : List ℕ → ℕ) → TalliesAt self.old reach times → Tallies self.new times }
     {
         self.names.truncate(reach.names);
         self.again.truncate(reach.again);
+    }
+
+    /// Gives back memory where less than a quarter of it is needed, as when names were forgotten. Takes then time in the names.
+    pub fn give_back(&mut self)
+        ensures names { self.new.names.keys ≡ self.old.names.keys }
+        ensures again { self.new.again.keys ≡ self.old.again.keys }
+    {
+        give_back(&mut self.names);
+        give_back(&mut self.again);
     }
 
     /// Notes that the name was listed once more. An error says that memory was refused, and nothing is changed.

@@ -255,6 +255,17 @@ static LISTED_BACK_AND_FORTH: &[Sent] = &[
     Dirents(22, &[("a", 1)]),
     Readdir(24, ROOT, 1, 0),
     Dirents(24, &[("a", 1), ("a", 2)]),
+    // On from an answer of which two entries of three count; then `a` and `b` once more, which is refused, and the end in their place.
+    Readdir(26, ROOT, 1, 0),
+    Dirents(26, &[("a", 1)]),
+    Readdir(28, ROOT, 1, 1),
+    Dirents(28, &[("b", 2), ("c", 3), ("d", 4)]),
+    Readdir(30, ROOT, 1, 3),
+    Dirents(30, &[("d", 4), ("e", 5)]),
+    Readdir(32, ROOT, 1, 5),
+    Dirents(32, &[("a", 8), ("b", 9)]),
+    Readdir(34, ROOT, 1, 5),
+    Dirents(34, &[]),
 ];
 
 /// The five files of the root as entries, in pieces, each with the offset that it is asked for at.
@@ -308,7 +319,7 @@ fn steps_on_five(rt: &impl Abort, alloc: Global, sample: Sample) -> Steps {
 fn a_listing_along_one_replay(rt: HostRuntime) {
     let alloc = rt.alloc();
     let back_and_forth = with_all(begun(alloc, (0, 0)), LISTED_BACK_AND_FORTH);
-    assert!(rt; steps_on_five(&rt, alloc, back_and_forth) == (8, 4, LISTING));
+    assert!(rt; steps_on_five(&rt, alloc, back_and_forth) == (12, 5, LISTING));
     let in_turn = listed_in_turn(alloc, 20, PIECES);
     assert!(rt; steps_on_five(&rt, alloc, in_turn) == (100, 0, 0));
 }

@@ -5,7 +5,7 @@ use Rattle.fa_bodies.specs.Dirents.{PlainDirent}
 use Rattle.fa_ledger.specs.declared.calls.Calls.{Calls}
 use Rattle.fa_ledger.specs.SoFar.{listing_so_far}
 use Rattle.fa_tree.specs.Directories.{times_listed}
-use Rattle.fa_tree.specs.declared.kept.ListedSoFar.{ListedSoFar}
+use Rattle.fa_tree.specs.declared.kept.KeptListing.{KeptListing}
 use Rattle.fa_tree.specs.declared.replay.Replay.TheInside.{Inside}
 use Rattle.fa_tree.specs.declared.tally.Tally.{Tally}
 use Rattle.fa_tree.specs.parts.TallyParts.{Tallies, TalliesAt, ListsAt}
@@ -20,16 +20,20 @@ IsTallyAt calls place tally = Tallies tally (λ name. times_listed name (listing
 
 -- What is kept of the call at its place, whose answer has these entries: the tally has what was listed so far and then these, and
 -- reached so far before them.
-pub record IsKeptOf (calls : Calls) (kept : ListedSoFar) (entries : List PlainDirent) : Type 0 where
+pub record IsKeptOf (calls : Calls) (kept : KeptListing) (entries : List PlainDirent) : Type 0 where
   pub answer : ListsAt calls.list kept.at entries
   pub count : kept.count ≡ length entries
   pub before : TalliesAt kept.tally kept.before (λ name. times_listed name (listing_so_far calls.list kept.at))
   pub tally : Tallies kept.tally (λ name. times_listed name (listing_so_far calls.list kept.at ++ entries))
 
--- it is kept of some entries
-abbrev pub IsTold : Calls → ListedSoFar → Type 0
-IsTold calls kept = (entries : List PlainDirent) × IsKeptOf calls kept entries
+-- the same, where this is its place
+abbrev pub IsKeptAt : Calls → (place : ℕ) → List PlainDirent → KeptListing → Type 0
+IsKeptAt calls place entries kept = (kept.at ≡ place) × IsKeptOf calls kept entries
 
--- all that is kept is
-abbrev pub AreTold : Inside → Type 0
-AreTold r = (handle : ℕ) (kept : ListedSoFar) → lookup (nat_eq handle) r.so_far.by_handle.entries ≡ Some kept → IsTold r.calls.now kept
+-- what is kept is that of the call at its place, whatever entries its answer has
+abbrev pub IsKept : Calls → KeptListing → Type 0
+IsKept calls kept = (entries : List PlainDirent) × IsKeptOf calls kept entries
+
+-- all that is kept is so
+abbrev pub AreKept : Inside → Type 0
+AreKept r = (handle : ℕ) (kept : KeptListing) → lookup (nat_eq handle) r.so_far.by_handle.entries ≡ Some kept → IsKept r.calls.now kept

@@ -32,17 +32,17 @@ abbrev pub is_among : List Listed → List ℕ → Bool
 is_among names name = list_any (λ listed. bytes_eq name listed.name.now) names
 
 -- These are the names that were listed, and those that were listed more than once, where each was listed so many times.
-pub record AreListed (names again : List Listed) (times : List ℕ → ℕ) : Type 0 where
+pub record AreNamesListed (names again : List Listed) (times : List ℕ → ℕ) : Type 0 where
   pub listed : (name : List ℕ) → is_among names name ≡ was_listed (times name)
   pub repeated : (name : List ℕ) → is_among again name ≡ was_repeated (times name)
 
 -- the tally tells how often each name was listed: never, once or more often
 abbrev pub Tallies : Tally → (times : List ℕ → ℕ) → Type 0
-Tallies tally times = AreListed tally.names.keys tally.again.keys times
+Tallies tally times = AreNamesListed tally.names.keys tally.again.keys times
 
--- it did when it reached so far
+-- the first so many of each, which it had when it reached so far, told how often each name was listed then
 abbrev pub TalliesAt : Tally → Reach → (times : List ℕ → ℕ) → Type 0
-TalliesAt tally reach times = AreListed (take reach.names tally.names.keys) (take reach.again tally.again.keys) times
+TalliesAt tally reach times = AreNamesListed (take reach.names tally.names.keys) (take reach.again tally.again.keys) times
 
 -- what is noted later stands behind what was noted
 pub record Grows (old new : Tally) : Type 0 where
@@ -59,6 +59,6 @@ abbrev pub going_on_from : List PlainCall → PlainCall → Option (PlainCall ×
 going_on_from calls call =
     option_and_then (λ before. option_map (λ earlier. (earlier, before.1)) (call_asked calls before.0)) (before_of call)
 
--- the call at this place lists these entries
+-- the answer to the call at this place lists these entries: none where it is no listing, or lists nothing
 abbrev pub ListsAt : List PlainCall → (place : ℕ) → List PlainDirent → Type 0
 ListsAt calls place entries = (call : PlainCall) × (slice_get calls place ≡ Some call) × (entries_answered call.operation ≡ entries)

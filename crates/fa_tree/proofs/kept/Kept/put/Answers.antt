@@ -1,19 +1,14 @@
-use Rattle.std.proofs.Common.{nat_eq, inr, sym, ap, ◌∙◌, arith}
-use Rattle.std.specs.Map.{lookup}
-use Rattle.fa_tree.specs.parts.KeptParts.{size_of_listing}
-use Rattle.fa_tree.proofs.KeptLemmas.{sum_put}
-use Rattle.fa_tree.proofs.ReplayLemmas.{put_or_there}
+use Rattle.std.proofs.Common.{inl, inr, arith}
 use Rattle.fa_tree.proofs.kept.Kept.put.Goals as goal
 
-pub invariant_of-self : goal.invariant_of-self
-invariant_of-self c =
-    let more = sum_put size_of_listing nat_eq c.args.handle c.args.listed c.make_room.new.self.by_handle.entries in
-    record { counted = rw (c.in-Ok.ensures.entries) (omega (arith, more, c.size-size.ensures, c.make_room.new.self.counted)) }
-
-pub returns-in-Ok-clause-kept : goal.returns-in-Ok-clause-kept
-returns-in-Ok-clause-kept c =
-    put_or_there c.args.self.now.by_handle.entries c.make_room.new.self.by_handle.entries c.insert.new.self.entries c.args.handle c.args.listed
-    c.in-Ok.ensures.updates.0 c.make_room.ensures.left
-
 pub returns-clause-kept : goal.returns-clause-kept
-returns-clause-kept c = λ other kept found. inr (c.make_room.ensures.left other kept (ap (lookup (nat_eq other)) (sym c.in-Err.ensures.err) ∙ found))
+returns-clause-kept c = λ other kept found. elim (c.put_beside.ensures.kept other kept found) [
+  | inl this ↦ inl this
+  | inr before ↦ inr (c.make_room.ensures.left other kept before)
+]
+
+pub returns-clause-few : goal.returns-clause-few
+returns-clause-few c = elim c.make_room.ensures.room [
+  | inl none ↦ c.put_beside.ensures.few (omega (arith, none))
+  | inr fits ↦ c.put_beside.ensures.few (omega (arith, fits))
+]
