@@ -9,6 +9,9 @@ use Rattle.fa_bodies.specs.declared.handles.OpenIn.{OpenIn}
 use Rattle.fa_bodies.specs.declared.handles.ReadIn.{ReadIn}
 use Rattle.fa_bodies.specs.declared.handles.ReleaseIn.{ReleaseIn}
 use Rattle.fa_bodies.specs.declared.init.InitIn.{InitIn}
+use Rattle.fa_bodies.specs.declared.making.CreateIn.{CreateIn}
+use Rattle.fa_bodies.specs.declared.making.LinkIn.{LinkIn}
+use Rattle.fa_bodies.specs.declared.making.MkdirIn.{MkdirIn}
 use Rattle.fa_bodies.specs.declared.mode.Mode.{Mode}
 use Rattle.fa_bodies.specs.declared.rename_flags.RenameFlags.{RenameFlags}
 use Rattle.fa_bodies.specs.declared.rename_flags.RenameFlags.TheVariants.{Replace, NoReplace, Exchange}
@@ -71,12 +74,15 @@ other_rename opcode body p e =
       | inr q ↦ q.1 e
     ]
 
--- ---- each operation's number has its bodies alone
+-- ---- each operation's number has its bodies alone: which those are that end at a name, and that there is none where none of its form is
+
+pub lookup_body : (body : List ℕ) (b : PlainBody) → IsRequestBody 1 body b → (name : List ℕ) × IsSpelled body (Name name ∷ [])
+lookup_body body (Lookup name) p = (name, p.1)
+lookup_body body Passed p = let e : false ≡ true = listed body 1 1 p refl in absurd cc
+lookup_body body other p = absurd (omega (arith, p.0))
 
 pub no_lookup : (body : List ℕ) → ((name : List ℕ) → IsRequestBody 1 body (Lookup name) → ⊥) → (b : PlainBody) → IsRequestBody 1 body b → ⊥
-no_lookup body none (Lookup name) p = none name p
-no_lookup body none Passed p = let e : false ≡ true = listed body 1 1 p refl in absurd cc
-no_lookup body none other p = absurd (omega (arith, p.0))
+no_lookup body none b p = let q = lookup_body body b p in none q.0 (refl, q.1)
 
 pub no_forget : (body : List ℕ) → ((nlookup : ℕ) → IsRequestBody 2 body (Forget nlookup) → ⊥) → (b : PlainBody) → IsRequestBody 2 body b → ⊥
 no_forget body none (Forget nlookup) p = none nlookup p
@@ -108,30 +114,42 @@ no_mknod body none (Mknod mode rdev umask name) p = none mode rdev umask name p
 no_mknod body none Passed p = let e : false ≡ true = listed body 8 8 p refl in absurd cc
 no_mknod body none other p = absurd (omega (arith, p.0))
 
+pub mkdir_body : (body : List ℕ) (b : PlainBody) → IsRequestBody 9 body b → (block : MkdirIn) × (name : List ℕ) × IsSpelled body (mkdir_in block.mode block.umask ++ Name name ∷ [])
+mkdir_body body (Mkdir mode umask name) p = (record { mode = mode; umask = umask }, name, p.1)
+mkdir_body body Passed p = let e : false ≡ true = listed body 9 9 p refl in absurd cc
+mkdir_body body other p = absurd (omega (arith, p.0))
+
 pub no_mkdir : (body : List ℕ) → ((mode : Mode) (umask : ℕ) (name : List ℕ) → IsRequestBody 9 body (Mkdir mode umask name) → ⊥) → (b : PlainBody) → IsRequestBody 9 body b → ⊥
-no_mkdir body none (Mkdir mode umask name) p = none mode umask name p
-no_mkdir body none Passed p = let e : false ≡ true = listed body 9 9 p refl in absurd cc
-no_mkdir body none other p = absurd (omega (arith, p.0))
+no_mkdir body none b p = let q = mkdir_body body b p in none q.0.mode q.0.umask q.1 (refl, q.2)
+
+pub unlink_body : (body : List ℕ) (b : PlainBody) → IsRequestBody 10 body b → (name : List ℕ) × IsSpelled body (Name name ∷ [])
+unlink_body body (Unlink name) p = (name, p.1)
+unlink_body body Passed p = let e : false ≡ true = listed body 10 10 p refl in absurd cc
+unlink_body body other p = absurd (omega (arith, p.0))
 
 pub no_unlink : (body : List ℕ) → ((name : List ℕ) → IsRequestBody 10 body (Unlink name) → ⊥) → (b : PlainBody) → IsRequestBody 10 body b → ⊥
-no_unlink body none (Unlink name) p = none name p
-no_unlink body none Passed p = let e : false ≡ true = listed body 10 10 p refl in absurd cc
-no_unlink body none other p = absurd (omega (arith, p.0))
+no_unlink body none b p = let q = unlink_body body b p in none q.0 (refl, q.1)
+
+pub rmdir_body : (body : List ℕ) (b : PlainBody) → IsRequestBody 11 body b → (name : List ℕ) × IsSpelled body (Name name ∷ [])
+rmdir_body body (Rmdir name) p = (name, p.1)
+rmdir_body body Passed p = let e : false ≡ true = listed body 11 11 p refl in absurd cc
+rmdir_body body other p = absurd (omega (arith, p.0))
 
 pub no_rmdir : (body : List ℕ) → ((name : List ℕ) → IsRequestBody 11 body (Rmdir name) → ⊥) → (b : PlainBody) → IsRequestBody 11 body b → ⊥
-no_rmdir body none (Rmdir name) p = none name p
-no_rmdir body none Passed p = let e : false ≡ true = listed body 11 11 p refl in absurd cc
-no_rmdir body none other p = absurd (omega (arith, p.0))
+no_rmdir body none b p = let q = rmdir_body body b p in none q.0 (refl, q.1)
 
 pub no_rename : (body : List ℕ) → ((newdir : ℕ) (old_name : List ℕ) (new_name : List ℕ) → IsRequestBody 12 body (Rename newdir old_name new_name) → ⊥) → (b : PlainBody) → IsRequestBody 12 body b → ⊥
 no_rename body none (Rename newdir old_name new_name) p = none newdir old_name new_name p
 no_rename body none Passed p = let e : false ≡ true = listed body 12 12 p refl in absurd cc
 no_rename body none other p = absurd (omega (arith, p.0))
 
+pub link_body : (body : List ℕ) (b : PlainBody) → IsRequestBody 13 body b → (block : LinkIn) × (name : List ℕ) × IsSpelled body (link_in block.oldnodeid ++ Name name ∷ [])
+link_body body (Link oldnodeid new_name) p = (record { oldnodeid = oldnodeid }, new_name, p.1)
+link_body body Passed p = let e : false ≡ true = listed body 13 13 p refl in absurd cc
+link_body body other p = absurd (omega (arith, p.0))
+
 pub no_link : (body : List ℕ) → ((oldnodeid : ℕ) (new_name : List ℕ) → IsRequestBody 13 body (Link oldnodeid new_name) → ⊥) → (b : PlainBody) → IsRequestBody 13 body b → ⊥
-no_link body none (Link oldnodeid new_name) p = none oldnodeid new_name p
-no_link body none Passed p = let e : false ≡ true = listed body 13 13 p refl in absurd cc
-no_link body none other p = absurd (omega (arith, p.0))
+no_link body none b p = let q = link_body body b p in none q.0.oldnodeid q.1 (refl, q.2)
 
 pub no_open : (body : List ℕ) → ((o : OpenIn) → IsRequestBody 14 body (Open o) → ⊥) → (b : PlainBody) → IsRequestBody 14 body b → ⊥
 no_open body none (Open o) p = none o p
@@ -178,10 +196,13 @@ no_releasedir body none (Releasedir r) p = none r p
 no_releasedir body none Passed p = let e : false ≡ true = listed body 29 29 p refl in absurd cc
 no_releasedir body none other p = absurd (omega (arith, p.0))
 
+pub create_body : (body : List ℕ) (b : PlainBody) → IsRequestBody 35 body b → (block : CreateIn) × (name : List ℕ) × IsSpelled body (create_in block.flags block.mode block.umask ++ Name name ∷ [])
+create_body body (Create flags mode umask name) p = (record { flags = flags; mode = mode; umask = umask }, name, p.1)
+create_body body Passed p = let e : false ≡ true = listed body 35 35 p refl in absurd cc
+create_body body other p = absurd (omega (arith, p.0))
+
 pub no_create : (body : List ℕ) → ((flags : OpenFlags) (mode : Mode) (umask : ℕ) (name : List ℕ) → IsRequestBody 35 body (Create flags mode umask name) → ⊥) → (b : PlainBody) → IsRequestBody 35 body b → ⊥
-no_create body none (Create flags mode umask name) p = none flags mode umask name p
-no_create body none Passed p = let e : false ≡ true = listed body 35 35 p refl in absurd cc
-no_create body none other p = absurd (omega (arith, p.0))
+no_create body none b p = let q = create_body body b p in none q.0.flags q.0.mode q.0.umask q.1 (refl, q.2)
 
 pub no_batch_forget : (body : List ℕ) → ((count : ℕ) (items : List ℕ) → IsRequestBody 42 body (BatchForget count items) → ⊥) → (b : PlainBody) → IsRequestBody 42 body b → ⊥
 no_batch_forget body none (BatchForget count items) p = none count items p

@@ -12,7 +12,7 @@ use crate::forget::{BatchForgetIn, ForgetIn};
 use crate::forget_one::ForgetOne;
 use crate::handles::WriteIn;
 use crate::making::{CreateIn, LinkIn, MkdirIn, MknodIn, Rename2In, RenameIn};
-use crate::names::{name_at, whole_name, whole_target};
+use crate::names::{known_name, name_at, whole_name, whole_target};
 use crate::opcodes::*;
 use crate::rename_flags::RenameFlags;
 use crate::requests::RequestBody;
@@ -82,6 +82,57 @@ fn body_of(opcode: u32, body: &[u8]) -> Option<RequestBody<'_>>
         _ if is_bystander(opcode) || is_changer(opcode) => Some(RequestBody::Passed),
         _ => None,
     }
+}
+
+/// The body of a request with this opcode that bytes are known to be. The name of a LOOKUP, MKDIR, UNLINK, RMDIR, LINK or CREATE
+/// is not looked at.
+#[inline(always)]
+pub(crate) fn known_body(opcode: u32, body: &[u8]) -> RequestBody<'_>
+    requires { ∥ ((b : PlainBody) × IsRequestBody opcode body.now b) ∥₁ }
+    ensures { (b : PlainBody) → IsRequestBody opcode body.now b → IsRequestBody opcode body.now (body_shown result) }
+{
+    match opcode {
+        LOOKUP => RequestBody::Lookup {
+            name: known_name(body),
+        },
+        MKDIR => {
+            let (MkdirIn { mode, umask }, name) = known_named(body);
+            RequestBody::Mkdir { mode, umask, name }
+        }
+        UNLINK => RequestBody::Unlink {
+            name: known_name(body),
+        },
+        RMDIR => RequestBody::Rmdir {
+            name: known_name(body),
+        },
+        LINK => {
+            let (LinkIn { oldnodeid }, new_name) = known_named(body);
+            RequestBody::Link {
+                oldnodeid,
+                new_name,
+            }
+        }
+        CREATE => {
+            let (CreateIn { flags, mode, umask }, name) = known_named(body);
+            RequestBody::Create {
+                flags,
+                mode,
+                umask,
+                name,
+            }
+        }
+        _ => body_of(opcode, body).unwrap(),
+    }
+}
+
+/// A struct of `fuse.h`, and a name behind it that is known to end the bytes.
+#[inline(always)]
+fn known_named<B: Block>(bytes: &[u8]) -> (B, &[u8])
+    requires { ∥ ((block : B) × (name : List ℕ) × IsSpelled bytes.now (B.fields block ++ Name name ∷ [])) ∥₁ }
+    ensures { (block : B) (name : List ℕ) → IsSpelled bytes.now (B.fields block ++ Name name ∷ []) → IsSpelled bytes.now (B.fields result.0 ++ Name result.1.now ∷ []) }
+{
+    let (block, rest) = B::at(bytes);
+    (block, known_name(rest))
 }
 
 /// A struct of `fuse.h`, and a name behind it that ends the bytes.

@@ -45,7 +45,7 @@ pub use handles::{FlushIn, OpenIn, OpenOut, ReadIn, ReleaseIn};
 pub use init::{InitIn, Negotiated};
 pub use mode::{Kind, Mode};
 pub use names::{MAX_NAME, is_name, is_target, split_at_byte};
-pub use reading::{known_reply, reply_body, reply_head, request};
+pub use reading::{known_reply, known_request, reply_body, reply_head, request};
 pub use rename_flags::RenameFlags;
 pub use replies::{Reply, ReplyHead};
 pub use requests::{ROOT_ID, Request, RequestBody};

@@ -1,6 +1,6 @@
 //! Names and targets in requests.
 
-ghost use Rattle.std.specs.Prelude.{◌≡◌, ◌↔◌, ℕ, List, [], ◌∷◌, ◌++◌, IsTrue, IfSome, IfNone};
+ghost use Rattle.std.specs.Prelude.{◌≡◌, ◌↔◌, ◌≤◌, ℕ, List, [], ◌∷◌, ◌++◌, length, IsTrue, IfSome, IfNone};
 ghost use Rattle.fa_bodies.specs.Names.{LacksByte, IsFilename, IsName, IsTarget};
 ghost use Rattle.fa_bodies.specs.Fields.{BeginsWith, IsSpelled};
 ghost use Rattle.fa_bodies.specs.Fields.Field.{Name, Target};
@@ -80,6 +80,17 @@ pub(crate) fn whole_name(bytes: &[u8]) -> Option<&[u8]>
         Some((0, name)) if is_name(name) => Some(name),
         _ => None,
     }
+}
+
+/// The name of bytes that are known to be a name and the zero byte behind it. They are not looked at.
+///
+/// Takes no memory, in constant time.
+#[inline(always)]
+pub(crate) fn known_name(bytes: &[u8]) -> &[u8]
+    requires { 1 ≤ length bytes.now }
+    ensures { (name : List ℕ) → IsSpelled bytes.now (Name name ∷ []) → result.now ≡ name }
+{
+    bytes.split_at(bytes.len() - 1).0
 }
 
 /// The target of bytes that are a target and the zero byte behind it.

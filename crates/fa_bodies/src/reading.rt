@@ -5,8 +5,8 @@ ghost use Rattle.fa_capture.specs.Checks.{AllHold, FirstFailure, checks_of};
 ghost use Rattle.fa_bodies.specs.Requests.{PlainRequest, IsRequest, request_shown, request_checks};
 ghost use Rattle.fa_bodies.specs.Replies.{PlainReply, IsErrorValue, IsNotificationCode, IsReplyHead, IsReply, Says, RepeatsUnique, head_rules, reply_shown, reply_head_checks, reply_checks};
 
-use crate::bodies::request_body;
-use crate::headers::{IN_HEADER, OUT_HEADER, check_length, in_header_at, out_header_at};
+use crate::bodies::{known_body, request_body};
+use crate::headers::{IN_HEADER, InHeader, OUT_HEADER, check_length, in_header_at, out_header_at};
 use crate::replies::{Reply, ReplyHead};
 use crate::requests::{Request, RequestBody};
 use crate::successes::success;
@@ -42,12 +42,33 @@ pub fn request<'a>(p: &Packet<'a>) -> Result<Request<'a>, u16>
     check_length(p.bytes, IN_HEADER)?;
     let (header, body) = in_header_at(p.bytes);
     let body = request_body(header.opcode, body)?;
-    Ok(Request {
+    Ok(with_body(header, body))
+}
+
+/// The request that a message is known to be: [`request`] told it before.
+///
+/// Takes no memory. The time is constant for LOOKUP, MKDIR, UNLINK, RMDIR, LINK and CREATE, whose name is not looked at, and else
+/// constant but for the bytes of names and targets.
+#[inline(always)]
+pub fn known_request<'a>(p: &Packet<'a>) -> Request<'a>
+    requires { ∥ ((r : PlainRequest) × IsRequest p.now.bytes.now r) ∥₁ }
+    ensures { ∥ IsRequest p.now.bytes.now (request_shown result) ∥₁ }
+{
+    let (header, body) = in_header_at(p.bytes);
+    with_body(header, known_body(header.opcode, body))
+}
+
+/// The request of a header and a body.
+#[inline(always)]
+fn with_body<'a>(header: InHeader, body: RequestBody<'a>) -> Request<'a>
+    ensures { result ≡ record { unique = header.unique; node = header.nodeid; opcode = header.opcode; body = body.entry } }
+{
+    Request {
         unique: header.unique,
         node: header.nodeid,
         opcode: header.opcode,
         body,
-    })
+    }
 }
 
 /// The head of a message from the server: of a reply, or of a notification, whose unique is 0.
