@@ -25,11 +25,6 @@ use Rattle.fa_ledger.proofs.OperationLemmas.{operation_asked, reply_done, reply_
 squash : (A : Type 0) → IsProp ∥ A ∥₁
 squash A = hlevel
 
--- bytes that are a request, read
-pub request_ok : {T : Type 0} (bytes : List ℕ) (found : Result T ℕ) → IfErr found (FirstFailure (request_checks bytes)) → ∥ ((r : PlainRequest) × IsRequest bytes r) ∥₁ → IsOk found
-request_ok bytes (Ok x) fails is = refl
-request_ok bytes (Err code) fails is = absurd (∥∥₁_elim is (λ x y. absurd x) (λ r. no_failure (request_checks bytes) code ((request_passes_checks bytes).1 r) fails))
-
 length-le32 : (n : ℕ) → length (le32 n) ≡ 4
 unfolding le32
 length-le32 n = refl
@@ -66,16 +61,16 @@ known_said asked bytes reply known = ∥∥₁_elim known (squash (IsReplyIfAny 
 pub asked_there : (request reply : List ℕ) → OperationSaid request reply → ∥ ((r : PlainRequest) × IsRequest request r) ∥₁
 asked_there request reply said = ∥∥₁_elim said.1 (squash ((r : PlainRequest) × IsRequest request r)) (λ x. ∣ (x.asked, x.is) ∣₁)
 
-pub said_there : (request reply : List ℕ) → OperationSaid request reply → (asked : PlainRequest) → IsRequest request asked → ∥ ((answer : Option PlainReply) × IsReplyIfAny asked reply answer) ∥₁
-said_there request reply said asked is =
-    ∥∥₁_elim said.1 (squash ((answer : Option PlainReply) × IsReplyIfAny asked reply answer)) (λ x. ∣ (x.answer, subst (λ (r : PlainRequest). IsReplyIfAny r reply x.answer) (request_is_one request x.asked asked x.is is) x.answers) ∣₁)
+pub said_there : (request reply : List ℕ) → OperationSaid request reply → (asked : PlainRequest) → ∥ IsRequest request asked ∥₁ → ∥ ((answer : Option PlainReply) × IsReplyIfAny asked reply answer) ∥₁
+said_there request reply said asked is = ∥∥₁_elim is (squash ((answer : Option PlainReply) × IsReplyIfAny asked reply answer)) (λ here.
+    ∥∥₁_elim said.1 (squash ((answer : Option PlainReply) × IsReplyIfAny asked reply answer)) (λ x. ∣ (x.answer, subst (λ (r : PlainRequest). IsReplyIfAny r reply x.answer) (request_is_one request x.asked asked x.is here) x.answers) ∣₁))
 
-pub does_there : (request reply : List ℕ) (said : OperationSaid request reply) (asked : PlainRequest) (answer : Option PlainReply) → IsRequest request asked → ∥ IsReplyIfAny asked reply answer ∥₁
+pub does_there : (request reply : List ℕ) (said : OperationSaid request reply) (asked : PlainRequest) (answer : Option PlainReply) → ∥ IsRequest request asked ∥₁ → ∥ IsReplyIfAny asked reply answer ∥₁
     → operation_of asked.body answer ≡ Some said.0
-does_there request reply said asked answer is answers = ∥∥₁_elim answers (hlevel (operation_set, props)) (λ here. ∥∥₁_elim said.1 (hlevel (operation_set, props)) (λ x.
-    let one : x.asked ≡ asked = request_is_one request x.asked asked x.is is in
-    let two : x.answer ≡ answer = reply_one asked reply x.answer answer (subst (λ (r : PlainRequest). IsReplyIfAny r reply x.answer) one x.answers) here in
-    sym (ap (λ (r : PlainRequest). operation_of r.body x.answer) one ∙ ap (λ (s : Option PlainReply). operation_of asked.body s) two) ∙ x.does))
+does_there request reply said asked answer is answers = ∥∥₁_elim is (hlevel (operation_set, props)) (λ here. ∥∥₁_elim answers (hlevel (operation_set, props)) (λ there. ∥∥₁_elim said.1 (hlevel (operation_set, props)) (λ x.
+    let one : x.asked ≡ asked = request_is_one request x.asked asked x.is here in
+    let two : x.answer ≡ answer = reply_one asked reply x.answer answer (subst (λ (r : PlainRequest). IsReplyIfAny r reply x.answer) one x.answers) there in
+    sym (ap (λ (r : PlainRequest). operation_of r.body x.answer) one ∙ ap (λ (s : Option PlainReply). operation_of asked.body s) two) ∙ x.does)))
 
 -- what is behind a reference shows the same
 pub seen_through : (seen : Option (Bor Reply)) (reply : Option Reply) → option_copied seen ≡ reply → option_map (λ (r : Bor Reply). reply_shown r.now) seen ≡ option_map reply_shown reply
@@ -123,13 +118,12 @@ answered_said bytes answer r reply is says tree =
 
 -- what such messages say
 pub asked_does : (bytes : List ℕ) (said : OperationSaid bytes []) (r : PlainRequest) → ∥ IsRequest bytes r ∥₁ → operation_of r.body None ≡ Some said.0
-asked_does bytes said r is = ∥∥₁_elim is (hlevel (operation_set, props)) (λ here. does_there bytes [] said r None here ∣ tt ∣₁)
+asked_does bytes said r is = does_there bytes [] said r None is ∣ tt ∣₁
 
 pub answered_does : (bytes answer : List ℕ) (said : OperationSaid bytes answer) (r : PlainRequest) (reply : PlainReply) → ∥ IsRequest bytes r ∥₁ → ∥ IsReply r answer reply ∥₁
     → operation_of r.body (Some reply) ≡ Some said.0
 answered_does bytes answer said r reply is says =
-    ∥∥₁_elim is (hlevel (operation_set, props)) (λ here. ∥∥₁_elim says (hlevel (operation_set, props)) (λ there.
-    does_there bytes answer said r (Some reply) here ∣ is_reply_if_any r answer reply there ∣₁))
+    ∥∥₁_elim says (hlevel (operation_set, props)) (λ there. does_there bytes answer said r (Some reply) is ∣ is_reply_if_any r answer reply there ∣₁)
 
 -- ---- whether there is a reply
 

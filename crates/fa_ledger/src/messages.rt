@@ -10,7 +10,7 @@ ghost use Rattle.fa_ledger.specs.Said.{IsReplyIfAny, OperationSaid};
 ghost use Rattle.fa_ledger.specs.parts.SaidLaws.{OperationSaid-prop};
 
 use crate::operation::Operation;
-use fa_bodies::{Reply, Request, known_reply, request};
+use fa_bodies::{Reply, Request, known_reply, known_request};
 use fa_capture::{Direction, Packet};
 use fa_session::{ReplyMessages, RequestMessage};
 
@@ -77,14 +77,14 @@ impl<'a> CallMessages<'a> {
 #[inline(always)]
 fn asked_in<'a>(bytes: &'a [u8]) -> Request<'a>
     requires { ∥ ((r : PlainRequest) × IsRequest bytes.now r) ∥₁ }
-    ensures { IsRequest bytes.now (request_shown result) }
+    ensures { ∥ IsRequest bytes.now (request_shown result) ∥₁ }
 {
     let packet = Packet {
         direction: Direction::ToServer,
         time: 0,
         bytes,
     };
-    request(&packet).unwrap()
+    known_request(&packet)
 }
 
 /// What these bytes, if there are some, say to a request.

@@ -11,16 +11,14 @@ use Rattle.fa_bodies.specs.Requests.{PlainRequest, IsRequest, request_checks, re
 use Rattle.fa_bodies.proofs.CallerLemmas.{request_is_one, request_passes_checks}
 use Rattle.fa_session.specs.parts.RequestSaid.{IsAskedWith, RequestSaid, request_set}
 
--- it is read
-pub read_ok : {T : Type 0} (bytes : List ℕ) (unique : ℕ) (said : RequestSaid bytes unique) (found : Result T ℕ) → IfErr found (FirstFailure (request_checks bytes)) → IsOk found
-read_ok bytes unique said (Ok x) fails = refl
-read_ok bytes unique said (Err code) fails = absurd (∥∥₁_elim said.1 (λ x y. absurd x) (λ w. no_failure (request_checks bytes) code ((request_passes_checks bytes).1 (said.0, w.0)) fails))
+-- its message is a request
+pub asked_there : (bytes : List ℕ) (unique : ℕ) → RequestSaid bytes unique → ∥ ((r : PlainRequest) × IsRequest bytes r) ∥₁
+asked_there bytes unique said = ∥∥₁_elim said.1 squash (λ w. ∣ (said.0, w.0) ∣₁)
+  where
+    squash : IsProp ∥ ((r : PlainRequest) × IsRequest bytes r) ∥₁
+    squash = hlevel
 
--- what is read of the bytes
-pub read_is : (bytes : List ℕ) (found : Result Request ℕ) (r : Request) → found ≡ Ok r → IfOk found (λ r. IsRequest bytes (request_shown r)) → IsRequest bytes (request_shown r)
-read_is bytes found r is read = subst (λ (x : Result Request ℕ). IfOk x (λ (y : Request). IsRequest bytes (request_shown y))) is read
-
--- and what is read is the request
+-- and what is read of it is that request
 pub read_one : (bytes : List ℕ) (unique : ℕ) (said : RequestSaid bytes unique) (r : PlainRequest) → IsRequest bytes r → r ≡ said.0
 read_one bytes unique said r is = ∥∥₁_elim said.1 (request_set r said.0) (λ w. request_is_one bytes r said.0 is w.0)
 

@@ -5,7 +5,7 @@ ghost use Rattle.fa_bodies.specs.Requests.{request_shown};
 ghost use Rattle.fa_session.specs.parts.RequestSaid.{RequestSaid, RequestSaid-prop};
 
 use crate::event::RequestMessage;
-use fa_bodies::request;
+use fa_bodies::known_request;
 use fa_capture::{Direction, Packet};
 use std::alloc::{AllocError, Global};
 use std::mem::size_of;
@@ -53,7 +53,7 @@ impl<'a> Waiting<'a> {
         };
         RequestMessage {
             bytes: self.bytes,
-            request: request(&packet).unwrap(),
+            request: known_request(&packet),
         }
     }
 
