@@ -17,6 +17,7 @@ const MAJOR: u32 = 7;
 const MINOR: u32 = 31;
 
 /// Whether a request is INIT.
+#[inline(always)]
 pub(crate) fn is_init(body: &RequestBody<'_>) -> bool
     ensures { IsTrue result ↔ IsInit (body_shown body.now) }
 {
@@ -24,6 +25,7 @@ pub(crate) fn is_init(body: &RequestBody<'_>) -> bool
 }
 
 /// Whether a request is INTERRUPT.
+#[inline(always)]
 fn is_interrupt(request: &Request<'_>) -> bool
     ensures { IsTrue result ↔ IsInterrupt (request_shown request.now) }
 {
@@ -31,6 +33,7 @@ fn is_interrupt(request: &Request<'_>) -> bool
 }
 
 /// Whether a request may take the place of an outstanding one with its unique: both are INTERRUPT.
+#[inline(always)]
 pub(crate) fn may_replace(waiting: &Request<'_>, request: &Request<'_>) -> bool
     ensures { IsTrue result ↔ (IsInterrupt (request_shown request.now) × IsInterrupt (request_shown waiting.now)) }
 {
@@ -54,6 +57,7 @@ fn check_init_answer(init: &InitIn, answer: &Negotiated) -> Result<(), u16>
 
 /// Looks whether what a reply says to a request keeps the rules. The error is the code of the first rule that it
 /// breaks.
+#[inline(always)]
 pub(crate) fn check_reply(asked: &Request<'_>, reply: &Reply<'_>) -> Result<(), u16>
     ensures ok { OnOk result (AllHold (reply_checked (request_shown asked.now) (reply_shown reply.now))) }
     ensures fault { IfErr result (FirstFailure (reply_checked (request_shown asked.now) (reply_shown reply.now))) }
@@ -70,6 +74,7 @@ pub(crate) fn check_reply(asked: &Request<'_>, reply: &Reply<'_>) -> Result<(), 
 }
 
 /// The flags that both sides set, where a reply answers INIT.
+#[inline(always)]
 pub(crate) fn agreed_flags(asked: &RequestBody<'_>, reply: &Reply<'_>) -> Option<u32>
     ensures { result ≡ flags_of (body_shown asked.now) (reply_shown reply.now) }
 {

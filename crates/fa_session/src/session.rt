@@ -105,6 +105,7 @@ impl<'a> Session<'a> {
     /// Expected constant time, as of a hash table, but for the bytes of names and of listings, which are read once, and
     /// those of an outstanding request once more for each message with its unique. The table keeps two numbers and where
     /// the message lies for each outstanding request, and grows by doubling. No message bytes are copied.
+    #[inline(always)]
     pub fn accept(&mut self, packet: &Packet<'a>) -> Result<Event<'a>, SessionError>
         requires { self.old.messages < MAX_MESSAGES }
         ensures passes { OnOk result ((c : List Message) → Shows c self.old → IsAllowed c (message packet.now)) }
@@ -122,6 +123,7 @@ impl<'a> Session<'a> {
     }
 
     /// Takes the next message, one to the server, as [`accept`](Session::accept) does.
+    #[inline(always)]
     fn accept_to_server(&mut self, packet: &Packet<'a>) -> Result<Event<'a>, SessionError>
         requires few { self.old.messages < MAX_MESSAGES }
         requires direction { packet.now.direction ≡ ToServer }
@@ -142,6 +144,7 @@ impl<'a> Session<'a> {
     }
 
     /// Takes the next message, one from the server, as [`accept`](Session::accept) does.
+    #[inline(always)]
     fn accept_from_server(&mut self, packet: &Packet<'a>) -> Result<Event<'a>, SessionError>
         requires few { self.old.messages < MAX_MESSAGES }
         requires direction { packet.now.direction ≡ FromServer }
@@ -209,6 +212,7 @@ impl<'a> Session<'a> {
 
     /// Looks whether a request keeps the rules after the messages so far. The error is the code of the first rule that
     /// it breaks.
+    #[inline(always)]
     fn check_request(&self, request: &Request<'_>) -> Result<(), u16>
         ensures ok { OnOk result ((c : List Message) → Shows c self.now → AllHold (request_checked c (request_shown request.now))) }
         ensures fault { IfErr result (λ code. (c : List Message) → Shows c self.now → FirstFailure (request_checked c (request_shown request.now)) code) }
