@@ -78,6 +78,15 @@ module _ (asked : PlainRequest) (bytes : List ℕ) (len : ℕ) (error : ℤ) (un
   pub known_said : (reply : PlainReply) → Says asked error body reply → ∥ IsReply asked bytes reply ∥₁
   known_said reply says = ∥∥₁_elim known (squash (IsReply asked bytes reply)) (λ x. ∣ reply_found asked bytes (x.1.error, x.1.head) len error unique body reply header says ∣₁)
 
+  -- the body of a listing is entries as a whole
+  pub known_whole : (b : PlainBody) → asked.body ≡ b → (plus : Bool) (size : ℕ) → error ≡ pos 0
+      → ((reply : PlainReply) → IsSuccessBody asked.opcode b body reply → IsListedBody plus size body reply)
+      → ∥ ((ds : List PlainDirent) × AreEntries plus body ds []) ∥₁
+  known_whole b is plus size zero to = ∥∥₁_elim known (squash ((ds : List PlainDirent) × AreEntries plus body ds [])) (λ x.
+      let success : IsListedBody plus size body x.0 =
+      to x.0 (subst (λ (body_of : PlainBody). IsSuccessBody asked.opcode body_of body x.0) is (says_success asked error body x.0 zero (reply_says asked bytes len error unique body x.0 header x.1))) in
+      ∣ (success.0, success.2) ∣₁)
+
   -- a listing has the entries that its body holds
   pub known_listing : (b : PlainBody) → asked.body ≡ b → (plus : Bool) (size : ℕ) (listed : List PlainDirent) → error ≡ pos 0
       → ((reply : PlainReply) → IsSuccessBody asked.opcode b body reply → IsListedBody plus size body reply)

@@ -9,4 +9,5 @@ pub mod KnownLaws
 pub mod OperationLaws
 pub mod ItemLaws
 pub mod ListingLaws
+pub mod WholeLaws
 pub mod ViewLaws

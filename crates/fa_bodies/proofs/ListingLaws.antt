@@ -91,7 +91,7 @@ head_begins bytes fits len = values-begin (dirent_head 0 0 0 0) 0 24 bytes tt fi
 
 -- ---- bytes have one reading
 
-HasEntry-one : (plus : Bool) (bytes : List ℕ) (a b : Option EntryOut) (r s : List ℕ) → HasEntry plus bytes a r → HasEntry plus bytes b s → (a ≡ b) × (r ≡ s)
+pub HasEntry-one : (plus : Bool) (bytes : List ℕ) (a b : Option EntryOut) (r s : List ℕ) → HasEntry plus bytes a r → HasEntry plus bytes b s → (a ≡ b) × (r ≡ s)
 HasEntry-one true bytes (Some a) (Some b) r s p q =
     (ap Some (entry-one a b bytes r s p q), (fields-one (entry_out a) (entry_out b) bytes r s (refl, tt) p q).1)
 HasEntry-one true bytes (Some a) None r s p q = absurd q
@@ -101,7 +101,7 @@ HasEntry-one false bytes None (Some b) r s p q = absurd q
 HasEntry-one false bytes None None r s p q = (refl, sym p ∙ q)
 
 -- the head of a directory entry
-head-one : (i o n k i' o' n' k' : ℕ) (bytes r s : List ℕ) → BeginsWith bytes (dirent_head i o n k) r → BeginsWith bytes (dirent_head i' o' n' k') s → (i ≡ i') × (o ≡ o') × (n ≡ n') × (k ≡ k') × (r ≡ s)
+pub head-one : (i o n k i' o' n' k' : ℕ) (bytes r s : List ℕ) → BeginsWith bytes (dirent_head i o n k) r → BeginsWith bytes (dirent_head i' o' n' k') s → (i ≡ i') × (o ≡ o') × (n ≡ n') × (k ≡ k') × (r ≡ s)
 head-one i o n k i' o' n' k' bytes r s p q =
     let one = fields-one (dirent_head i o n k) (dirent_head i' o' n' k') bytes r s tt p q in
     let same : U64 i ∷ U64 o ∷ U32 n ∷ U32 k ∷ [] ≡ U64 i' ∷ U64 o' ∷ U32 n' ∷ U32 k' ∷ [] = one.0 in
@@ -148,9 +148,10 @@ no-entry_out true bytes is none (Some entry) rest p = none entry rest p
 no-entry_out true bytes is none None rest p = p
 no-entry_out false bytes is none entry rest p = absurd (false≢true is)
 
--- and without that there is no entry
-pub no-entry : (plus : Bool) (bytes : List ℕ) → ((entry : Option EntryOut) (rest : List ℕ) → HasEntry plus bytes entry rest → ⊥) → HasNoDirent plus bytes
-no-entry plus bytes none d rest p = none d.entry p.behind_entry p.entry
+-- and with one there is
+pub with-entry_out : (plus : Bool) (bytes : List ℕ) (e : EntryOut) (rest : List ℕ) → plus ≡ true → BeginsWith bytes (entry_out e) rest → HasEntry plus bytes (Some e) rest
+with-entry_out true bytes e rest is p = p
+with-entry_out false bytes e rest is p = absurd (false≢true is)
 
 -- without a head there is no entry
 pub no-head : (plus : Bool) (bytes behind : List ℕ) (entry : Option EntryOut) → HasEntry plus bytes entry behind → ((h : DirentHead) (rest : List ℕ) → BeginsWith behind (dirent_head h.ino h.off h.namelen h.kind) rest → ⊥) → HasNoDirent plus bytes
@@ -203,7 +204,7 @@ length-HasEntry true bytes None rest p = absurd p
 length-HasEntry false bytes (Some entry) rest p = absurd p
 length-HasEntry false bytes None rest p = omega (arith, ap length p)
 
-entry_room : (bytes : List ℕ) (entry : Option EntryOut) (rest : List ℕ) → HasEntry true bytes entry rest → 128 ≤ length bytes
+pub entry_room : (bytes : List ℕ) (entry : Option EntryOut) (rest : List ℕ) → HasEntry true bytes entry rest → 128 ≤ length bytes
 entry_room bytes (Some entry) rest p = omega (arith, length-fields (entry_out entry) bytes rest p)
 entry_room bytes None rest p = absurd p
 
@@ -376,22 +377,12 @@ entries_in-begins plus d bytes rest fits p =
     let others = holds-entries_in plus rest (dirent-bytes plus bytes d rest p fits) in
     holds-one plus bytes (entries_in plus bytes) (d ∷ entries_in plus rest) (holds-entries_in plus bytes fits) (others.0, (rest, p, others.1), others.2)
 
--- what begins with no entry holds none
-pub entries_in-none : (plus : Bool) (bytes : List ℕ) → IsBytes bytes → HasNoDirent plus bytes → entries_in plus bytes ≡ []
-entries_in-none plus bytes fits none =
-    holds-one plus bytes (entries_in plus bytes) [] (holds-entries_in plus bytes fits) (bytes, refl, none)
-
 -- ---- a walk over whole bytes
 
 -- entries, and one more behind them
 pub are-more : (ds : List PlainDirent) (d : PlainDirent) (plus : Bool) (bytes rest after : List ℕ) → AreEntries plus bytes ds rest → IsDirent plus rest d after → AreEntries plus bytes (ds ++ d ∷ []) after
 are-more [] d plus bytes rest after p q = (after, rw p q, refl)
 are-more (e ∷ ds) d plus bytes rest after p q = (p.0, p.1, are-more ds d plus p.0 rest after p.2 q)
-
--- bytes that are entries as a whole are those that are computed
-pub are-entries_in : (ds : List PlainDirent) (plus : Bool) (bytes : List ℕ) → IsBytes bytes → AreEntries plus bytes ds [] → AreEntries plus bytes (entries_in plus bytes) []
-are-entries_in ds plus bytes fits p =
-    rw (holds-one plus bytes (entries_in plus bytes) ds (holds-entries_in plus bytes fits) ([], p, none-in_nil plus)) p
 
 -- a walk that ends before something has no whole list
 pub whole-ends : (ds es : List PlainDirent) (plus : Bool) (bytes rest : List ℕ) → AreEntries plus bytes ds rest → HasNoDirent plus rest → AreEntries plus bytes es [] → rest ≡ []

@@ -1,15 +1,15 @@
 //! Directory entries.
 
-ghost use Rattle.std.specs.Prelude.{◌≡◌, ◌∷◌, [], ℕ, List, length, IfSome, IfNone, MatchOption, Option, refl};
+ghost use Rattle.std.specs.Prelude.{◌≡◌, ◌≤◌, [], ℕ, List, length, IsTrue, IfSome, IfNone, Option, refl};
 ghost use Rattle.fa_bodies.specs.declared.entry.EntryOut.{EntryOut};
-ghost use Rattle.fa_bodies.specs.Dirents.{PlainDirent, dirent_shown, HasEntry, IsPaddedName, IsDirent};
+ghost use Rattle.fa_bodies.specs.Dirents.{PlainDirent, dirent_shown, HasEntry, IsPaddedName, IsDirent, AreEntries};
 ghost use Rattle.fa_bodies.specs.Structs.{dirent_head};
-ghost use Rattle.fa_bodies.specs.Listing.{entries_in, is_plus};
 
 use crate::block::{Block, front};
 use crate::entry::EntryOut;
 use crate::fields::{u32_at, u64_at};
 use crate::names::is_filename;
+use crate::views::EntryBytes;
 
 /// A directory entry (`struct fuse_dirent`): the file's number, the offset behind the entry, the
 /// file's type and its name, and for READDIRPLUS what LOOKUP says of the name (`struct
@@ -39,7 +39,10 @@ pub(crate) struct DirentHead {
 #[derive(Clone, Copy, Debug)]
 pub struct Entries<'a> {
     pub(crate) plus: bool,
+    // What is left of the bytes.
     pub(crate) bytes: &'a [u8],
+    // They are entries as a whole.
+    pub(crate) ghost whole: { ∥ ((ds : List PlainDirent) × AreEntries plus bytes.now ds []) ∥₁ },
 }
 
 impl Block for DirentHead {
@@ -83,43 +86,50 @@ fn padded_name(count: u32, bytes: &[u8]) -> Option<(&[u8], &[u8])>
     }
 }
 
-/// What READDIRPLUS puts before a directory entry, and what stands behind it.
+/// What stands behind what READDIRPLUS puts before a directory entry.
 #[inline(always)]
-fn entry_before(plus: bool, bytes: &[u8]) -> Option<(Option<EntryOut>, &[u8])>
-    ensures found { IfSome result (λ r. HasEntry plus bytes.now r.0 r.1.now) }
+fn behind_entry(plus: bool, bytes: &[u8]) -> Option<&[u8]>
+    ensures found { IfSome result (λ rest. (entry : Option EntryOut) × HasEntry plus bytes.now entry rest.now) }
     ensures none { IfNone result
         ((entry : Option EntryOut) (rest : List ℕ) → HasEntry plus bytes.now entry rest → ⊥) }
 {
     if !plus {
-        return Some((None, bytes));
+        return Some(bytes);
     }
-    let (entry, rest) = front::<EntryOut>(bytes)?;
-    Some((Some(entry), rest))
+    let (_entry, rest) = EntryBytes::front(bytes)?;
+    Some(rest)
 }
 
-/// The directory entry at the front of bytes, and what stands behind its padding.
+/// What stands behind the directory entry at the front of bytes, and its padding.
 #[inline(always)]
-pub(crate) fn dirent_at(plus: bool, bytes: &[u8]) -> Option<(Dirent<'_>, &[u8])>
-    ensures found { IfSome result (λ r. IsDirent plus bytes.now (dirent_shown r.0) r.1.now) }
+pub(crate) fn behind_dirent(plus: bool, bytes: &[u8]) -> Option<&[u8]>
+    ensures found { IfSome result (λ rest. (d : PlainDirent) × IsDirent plus bytes.now d rest.now) }
     ensures none { IfNone result
         ((d : PlainDirent) (rest : List ℕ) → IsDirent plus bytes.now d rest → ⊥) }
-    ensures first { MatchOption result (entries_in plus bytes.now ≡ [])
-        (λ r. entries_in plus bytes.now ≡ dirent_shown r.0 ∷ entries_in plus r.1.now) }
 {
-    let (entry, rest) = entry_before(plus, bytes)?;
+    let rest = behind_entry(plus, bytes)?;
     let (head, rest) = front::<DirentHead>(rest)?;
-    let (name, rest) = padded_name(head.namelen, rest)?;
-    let dirent = Dirent {
-        ino: head.ino,
-        off: head.off,
-        kind: head.kind,
-        name,
-        entry,
-    };
-    Some((dirent, rest))
+    let (_name, rest) = padded_name(head.namelen, rest)?;
+    Some(rest)
+}
+
+/// What READDIRPLUS puts before a directory entry, and what stands behind it, where there are bytes enough.
+#[inline(always)]
+fn known_entry_before(plus: bool, bytes: &[u8]) -> (Option<EntryOut>, &[u8])
+    requires { IsTrue plus → 128 ≤ length bytes.now }
+    ensures { HasEntry plus bytes.now result.0 result.1.now }
+{
+    if !plus {
+        return (None, bytes);
+    }
+    let (entry, rest) = EntryOut::at(bytes);
+    (Some(entry), rest)
 }
 
 impl Entries<'_> {
+    ghost use Rattle.std.specs.Prelude.{◌∷◌};
+    ghost use Rattle.fa_bodies.specs.Listing.{entries_in, is_plus};
+
     /// Whether they are those of a READDIRPLUS, in which each entry of the directory has a `struct fuse_entry_out` before it.
     ///
     /// Takes no memory, in constant time.
@@ -127,6 +137,29 @@ impl Entries<'_> {
         ensures { result ≡ is_plus self.now }
     {
         self.plus
+    }
+
+    /// The first of the entries that bytes are known to be as a whole, and what stands behind its padding. The name is not
+    /// looked at.
+    #[inline(always)]
+    fn known_dirent_at(plus: bool, bytes: &[u8]) -> (Dirent<'_>, &[u8])
+        requires whole { ∥ ((ds : List PlainDirent) × AreEntries plus bytes.now ds []) ∥₁ }
+        requires some { 1 ≤ length bytes.now }
+        ensures first { entries_in plus bytes.now ≡ dirent_shown result.0 ∷ entries_in plus result.1.now }
+        ensures left { ∥ ((ds : List PlainDirent) × AreEntries plus result.1.now ds []) ∥₁ }
+    {
+        let (entry, rest) = known_entry_before(plus, bytes);
+        let (head, rest) = DirentHead::at(rest);
+        let (name, rest) = rest.split_at(head.namelen as usize);
+        let (_padding, rest) = rest.split_at((8 - name.len() % 8) % 8);
+        let dirent = Dirent {
+            ino: head.ino,
+            off: head.off,
+            kind: head.kind,
+            name,
+            entry,
+        };
+        (dirent, rest)
     }
 }
 
@@ -140,10 +173,13 @@ impl<'a> Iterator for Entries<'a> {
 
     ghost remaining = { item_count entries_left };
 
-    /// The next entry, in time linear in its name.
+    /// The next entry, in constant time.
     #[inline(always)]
     fn next(&mut self) -> Option<Dirent<'a>> {
-        let (dirent, rest) = dirent_at(self.plus, self.bytes)?;
+        if self.bytes.is_empty() {
+            return None;
+        }
+        let (dirent, rest) = Entries::known_dirent_at(self.plus, self.bytes);
         self.bytes = rest;
         Some(dirent)
     }

@@ -10,7 +10,7 @@ use crate::headers::{IN_HEADER, InHeader, OUT_HEADER, check_length, in_header_at
 use crate::replies::{Reply, ReplyHead};
 use crate::requests::{Request, RequestBody};
 use crate::successes::success;
-use crate::walking::entries;
+use crate::walking::known_entries;
 use fa_capture::{Packet, codes};
 
 /// The least error that a reply may have.
@@ -166,8 +166,8 @@ pub fn known_reply<'a>(asked: &Request<'_>, p: &Packet<'a>) -> Reply<'a>
     let (header, body) = out_header_at(p.bytes);
     if header.error == 0 {
         match &asked.body {
-            RequestBody::Readdir(_) => return Reply::Listed(entries(false, body)),
-            RequestBody::Readdirplus(_) => return Reply::Listed(entries(true, body)),
+            RequestBody::Readdir(_) => return Reply::Listed(known_entries(false, body)),
+            RequestBody::Readdirplus(_) => return Reply::Listed(known_entries(true, body)),
             _ => {}
         }
     }

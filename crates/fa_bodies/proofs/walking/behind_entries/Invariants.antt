@@ -1,6 +1,6 @@
 use Rattle.std.proofs.Common.{List, length}
 use Rattle.fa_bodies.specs.Dirents.{PlainDirent, AreEntries}
-use Rattle.fa_bodies.proofs.walking.listing.Given as goal
+use Rattle.fa_bodies.proofs.walking.behind_entries.Given as goal
 
 -- entries lead to what is left
 abbrev pub invariant-loop-after : goal.invariant-loop-after
