@@ -74,7 +74,7 @@ other_rename opcode body p e =
       | inr q ↦ q.1 e
     ]
 
--- ---- each operation's number has its bodies alone: which those are that end at a name, and that there is none where none of its form is
+-- ---- each operation's number has its own body alone; of those that end at a name, what that is
 
 pub lookup_body : (body : List ℕ) (b : PlainBody) → IsRequestBody 1 body b → (name : List ℕ) × IsSpelled body (Name name ∷ [])
 lookup_body body (Lookup name) p = (name, p.1)

@@ -1,6 +1,6 @@
 //! Directory entries.
 
-ghost use Rattle.std.specs.Prelude.{◌≡◌, ◌≤◌, [], ℕ, List, length, IsTrue, IfSome, IfNone, Option, refl};
+ghost use Rattle.std.specs.Prelude.{◌≡◌, ◌≤◌, ◌-◌, ◌%◌, [], ℕ, List, length, IsTrue, IfSome, IfNone, Option, refl};
 ghost use Rattle.fa_bodies.specs.declared.entry.EntryOut.{EntryOut};
 ghost use Rattle.fa_bodies.specs.Dirents.{PlainDirent, dirent_shown, HasEntry, IsPaddedName, IsDirent, AreEntries};
 ghost use Rattle.fa_bodies.specs.Structs.{dirent_head};
@@ -35,7 +35,7 @@ pub(crate) struct DirentHead {
 }
 
 /// The directory entries of a READDIR or READDIRPLUS reply in their order. Made by
-/// [`entries`](crate::entries).
+/// [`entries`](crate::entries), and by the readers of replies.
 #[derive(Clone, Copy, Debug)]
 pub struct Entries<'a> {
     pub(crate) plus: bool,
@@ -69,6 +69,14 @@ impl Block for DirentHead {
     ghost sized = { λ block. refl };
 }
 
+/// How many bytes of padding stand behind a name (`FUSE_DIRENT_ALIGN` of `fuse.h`).
+#[inline(always)]
+fn padding(name: &[u8]) -> usize
+    ensures { result ≡ (8 - length name.now % 8) % 8 }
+{
+    (8 - name.len() % 8) % 8
+}
+
 /// The name of so many bytes at the front of bytes, and what stands behind its padding.
 #[inline(always)]
 fn padded_name(count: u32, bytes: &[u8]) -> Option<(&[u8], &[u8])>
@@ -78,7 +86,7 @@ fn padded_name(count: u32, bytes: &[u8]) -> Option<(&[u8], &[u8])>
         ((name rest : List ℕ) → length name ≡ count → IsPaddedName bytes.now name rest → ⊥) }
 {
     let (name, rest) = bytes.split_at_checked(count as usize)?;
-    let (_padding, rest) = rest.split_at_checked((8 - name.len() % 8) % 8)?;
+    let (_padding, rest) = rest.split_at_checked(padding(name))?;
     if is_filename(name) {
         Some((name, rest))
     } else {
@@ -86,9 +94,9 @@ fn padded_name(count: u32, bytes: &[u8]) -> Option<(&[u8], &[u8])>
     }
 }
 
-/// What stands behind what READDIRPLUS puts before a directory entry.
+/// What stands behind the `struct fuse_entry_out` that READDIRPLUS puts before a directory entry: for READDIR all bytes.
 #[inline(always)]
-fn behind_entry(plus: bool, bytes: &[u8]) -> Option<&[u8]>
+fn behind_entry_out(plus: bool, bytes: &[u8]) -> Option<&[u8]>
     ensures found { IfSome result (λ rest. (entry : Option EntryOut) × HasEntry plus bytes.now entry rest.now) }
     ensures none { IfNone result
         ((entry : Option EntryOut) (rest : List ℕ) → HasEntry plus bytes.now entry rest → ⊥) }
@@ -100,22 +108,23 @@ fn behind_entry(plus: bool, bytes: &[u8]) -> Option<&[u8]>
     Some(rest)
 }
 
-/// What stands behind the directory entry at the front of bytes, and its padding.
+/// What stands behind the directory entry at the front of bytes and behind its padding.
 #[inline(always)]
 pub(crate) fn behind_dirent(plus: bool, bytes: &[u8]) -> Option<&[u8]>
     ensures found { IfSome result (λ rest. (d : PlainDirent) × IsDirent plus bytes.now d rest.now) }
     ensures none { IfNone result
         ((d : PlainDirent) (rest : List ℕ) → IsDirent plus bytes.now d rest → ⊥) }
 {
-    let rest = behind_entry(plus, bytes)?;
+    let rest = behind_entry_out(plus, bytes)?;
     let (head, rest) = front::<DirentHead>(rest)?;
     let (_name, rest) = padded_name(head.namelen, rest)?;
     Some(rest)
 }
 
-/// What READDIRPLUS puts before a directory entry, and what stands behind it, where there are bytes enough.
+/// The `struct fuse_entry_out` that READDIRPLUS puts before a directory entry, and what stands behind it, where there are bytes
+/// enough.
 #[inline(always)]
-fn known_entry_before(plus: bool, bytes: &[u8]) -> (Option<EntryOut>, &[u8])
+fn known_entry_out(plus: bool, bytes: &[u8]) -> (Option<EntryOut>, &[u8])
     requires { IsTrue plus → 128 ≤ length bytes.now }
     ensures { HasEntry plus bytes.now result.0 result.1.now }
 {
@@ -141,6 +150,8 @@ impl Entries<'_> {
 
     /// The first of the entries that bytes are known to be as a whole, and what stands behind its padding. The name is not
     /// looked at.
+    // It takes the slice itself, since of an argument it is known that it holds bytes. Its clause speaks of what names this type, so
+    // it stands here.
     #[inline(always)]
     fn known_dirent_at(plus: bool, bytes: &[u8]) -> (Dirent<'_>, &[u8])
         requires whole { ∥ ((ds : List PlainDirent) × AreEntries plus bytes.now ds []) ∥₁ }
@@ -148,10 +159,10 @@ impl Entries<'_> {
         ensures first { entries_in plus bytes.now ≡ dirent_shown result.0 ∷ entries_in plus result.1.now }
         ensures left { ∥ ((ds : List PlainDirent) × AreEntries plus result.1.now ds []) ∥₁ }
     {
-        let (entry, rest) = known_entry_before(plus, bytes);
+        let (entry, rest) = known_entry_out(plus, bytes);
         let (head, rest) = DirentHead::at(rest);
         let (name, rest) = rest.split_at(head.namelen as usize);
-        let (_padding, rest) = rest.split_at((8 - name.len() % 8) % 8);
+        let (_padding, rest) = rest.split_at(padding(name));
         let dirent = Dirent {
             ino: head.ino,
             off: head.off,

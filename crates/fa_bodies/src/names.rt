@@ -82,7 +82,7 @@ pub(crate) fn whole_name(bytes: &[u8]) -> Option<&[u8]>
     }
 }
 
-/// The name of bytes that are known to be a name and the zero byte behind it. They are not looked at.
+/// The bytes before the last: the name, where bytes are known to be a name and the zero byte behind it. They are not looked at.
 ///
 /// Takes no memory, in constant time.
 #[inline(always)]
@@ -90,7 +90,7 @@ pub(crate) fn known_name(bytes: &[u8]) -> &[u8]
     requires { 1 ≤ length bytes.now }
     ensures { (name : List ℕ) → IsSpelled bytes.now (Name name ∷ []) → result.now ≡ name }
 {
-    bytes.split_at(bytes.len() - 1).0
+    &bytes[..bytes.len() - 1]
 }
 
 /// The target of bytes that are a target and the zero byte behind it.

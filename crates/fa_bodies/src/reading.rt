@@ -42,25 +42,24 @@ pub fn request<'a>(p: &Packet<'a>) -> Result<Request<'a>, u16>
     check_length(p.bytes, IN_HEADER)?;
     let (header, body) = in_header_at(p.bytes);
     let body = request_body(header.opcode, body)?;
-    Ok(with_body(header, body))
+    Ok(request_of(header, body))
 }
 
-/// The request that a message is known to be: [`request`] told it before.
+/// The request that a message is known to be, as where [`request`] answered `Ok`.
 ///
-/// Takes no memory. The time is constant for LOOKUP, MKDIR, UNLINK, RMDIR, LINK and CREATE, whose name is not looked at, and else
-/// constant but for the bytes of names and targets.
+/// Takes no memory, in constant time, but for MKNOD, SYMLINK, RENAME and RENAME2, whose names and targets are looked at.
 #[inline(always)]
 pub fn known_request<'a>(p: &Packet<'a>) -> Request<'a>
     requires { ∥ ((r : PlainRequest) × IsRequest p.now.bytes.now r) ∥₁ }
     ensures { ∥ IsRequest p.now.bytes.now (request_shown result) ∥₁ }
 {
     let (header, body) = in_header_at(p.bytes);
-    with_body(header, known_body(header.opcode, body))
+    request_of(header, known_body(header.opcode, body))
 }
 
 /// The request of a header and a body.
 #[inline(always)]
-fn with_body<'a>(header: InHeader, body: RequestBody<'a>) -> Request<'a>
+fn request_of<'a>(header: InHeader, body: RequestBody<'a>) -> Request<'a>
     ensures { result ≡ record { unique = header.unique; node = header.nodeid; opcode = header.opcode; body = body.entry } }
 {
     Request {

@@ -35,8 +35,7 @@ pub fn entries(plus: bool, bytes: &[u8]) -> Entries<'_>
     ensures few { 32 * length (entries_left result) ≤ length bytes.now }
 {
     let rest = behind_entries(plus, bytes);
-    let (whole, _rest) = bytes.split_at(bytes.len() - rest.len());
-    known_entries(plus, whole)
+    known_entries(plus, &bytes[..bytes.len() - rest.len()])
 }
 
 /// The directory entries that bytes are as a whole, with nothing behind the last. It takes no memory,

@@ -13,4 +13,4 @@ known_body-requires c =
 pub returns : goal.returns
 returns c =
     let h = c.in_header_at.result.0 in
-    rw c.with_body.ensures (known_asked c.args.p.now.bytes.now h.len h.opcode h.unique h.nodeid c.in_header_at.result.1.now c.in_header_at.ensures c.requires (body_shown c.known_body.result) c.known_body.ensures)
+    rw c.request_of.ensures (known_asked c.args.p.now.bytes.now h.len h.opcode h.unique h.nodeid c.in_header_at.result.1.now c.in_header_at.ensures c.requires (body_shown c.known_body.result) c.known_body.ensures)

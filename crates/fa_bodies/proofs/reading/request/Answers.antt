@@ -12,7 +12,7 @@ returns-in_err-body-clause-fault c =
 pub returns-clause-found : goal.returns-clause-found
 returns-clause-found c =
     let h = c.in_header_at.result.0 in
-    rw c.with_body.ensures (request_found c.args.p.now.bytes.now h.len h.opcode h.unique h.nodeid c.in_header_at.result.1.now (body_shown c.in_ok-body.body) c.in_ok-check_length.ensures.ok.1.0 c.in_header_at.ensures c.in_ok-body.ensures.found c.in_ok-body.ensures.limit)
+    rw c.request_of.ensures (request_found c.args.p.now.bytes.now h.len h.opcode h.unique h.nodeid c.in_header_at.result.1.now (body_shown c.in_ok-body.body) c.in_ok-check_length.ensures.ok.1.0 c.in_header_at.ensures c.in_ok-body.ensures.found c.in_ok-body.ensures.limit)
 
 pub returns-clause-only : goal.returns-clause-only
 returns-clause-only c = λ other is. request-one c.args.p.now.bytes.now other _ is (returns-clause-found c)

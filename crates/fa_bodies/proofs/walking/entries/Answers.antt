@@ -4,21 +4,21 @@ use Rattle.fa_bodies.proofs.WholeLaws.{front-whole, front-holds}
 use Rattle.fa_bodies.specs.Listing.{entries_in, entries_left}
 use Rattle.fa_bodies.proofs.walking.entries.Goals as goal
 
-pub overflow_sub-bytes : goal.overflow_sub-bytes
-overflow_sub-bytes c =
+pub slice_bounds-known_entries-count : goal.slice_bounds-known_entries-count
+slice_bounds-known_entries-count c =
     let passed = c.behind_entries-rest.ensures.passed in
     omega (arith, length-entries passed.0 c.args.plus c.args.bytes.now c.behind_entries-rest.result.now passed.1)
 
 pub known_entries-requires : goal.known_entries-requires
 known_entries-requires c =
     let passed = c.behind_entries-rest.ensures.passed in
-    ∣ (passed.0, rw c.split_at.ensures.front (front-whole passed.0 c.args.plus c.args.bytes.now c.behind_entries-rest.result.now passed.1)) ∣₁
+    ∣ (passed.0, front-whole passed.0 c.args.plus c.args.bytes.now c.behind_entries-rest.result.now passed.1) ∣₁
 
 pub returns-clause-held : goal.returns-clause-held
 returns-clause-held c =
     let passed = c.behind_entries-rest.ensures.passed in
     front-holds passed.0 (entries_left c.known_entries.result) c.args.plus c.args.bytes.now c.behind_entries-rest.result.now passed.1 c.behind_entries-rest.ensures.ended
-    (rw c.split_at.ensures.front at c.known_entries.ensures)
+    c.known_entries.ensures
 
 pub returns-clause-computed : goal.returns-clause-computed
 returns-clause-computed c =

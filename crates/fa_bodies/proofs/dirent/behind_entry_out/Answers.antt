@@ -1,7 +1,7 @@
 use Rattle.std.proofs.Common.{Some}
 use Rattle.fa_bodies.specs.Views.{entry_shown}
 use Rattle.fa_bodies.proofs.ListingLaws.{no-entry_out, with-entry_out}
-use Rattle.fa_bodies.proofs.dirent.behind_entry.Goals as goal
+use Rattle.fa_bodies.proofs.dirent.behind_entry_out.Goals as goal
 
 pub returns-in_err-_entry-clause-none : goal.returns-in_err-_entry-clause-none
 returns-in_err-_entry-clause-none c =
