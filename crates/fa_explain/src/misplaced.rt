@@ -38,6 +38,7 @@ impl Sought {
             at,
             asked,
             messages,
+            ..
         } = event
         else {
             return None;

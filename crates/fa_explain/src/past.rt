@@ -98,6 +98,7 @@ impl Past {
                 at,
                 asked,
                 messages,
+                ..
             } => {
                 let answered = Answered {
                     at: *at,

@@ -15,7 +15,7 @@ use Rattle.fa_ledger.specs.declared.books.Books.{Books}
 use Rattle.fa_ledger.specs.declared.error.LedgerError.{LedgerError}
 use Rattle.fa_ledger.specs.declared.error.LedgerError.TheVariants.{Memory}
 use Rattle.fa_ledger.specs.declared.handles.Handle.{Handle}
-use Rattle.fa_ledger.specs.declared.call_list.WaitingCall.{WaitingCall}
+use Rattle.fa_ledger.specs.declared.row.WaitingCall.{WaitingCall}
 use Rattle.fa_ledger.specs.declared.key.Key.{Key}
 use Rattle.fa_ledger.specs.declared.listings.ListedOn.{ListedOn}
 use Rattle.fa_ledger.specs.declared.listings.Listings.{Listings}

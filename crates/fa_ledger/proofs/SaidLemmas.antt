@@ -1,18 +1,15 @@
 -- The two messages of a tree request, read again.
-use Rattle.std.proofs.Common.{◌≡◌, ℕ, List, [], ◌∷◌, ◌++◌, length, arith, Option, None, Some, Result, Ok, Err, Bor, refl, sym, subst, ap, ◌∙◌}
-use Rattle.std.specs.Prelude.{◌≢◌, IfErr, option_map}
-use Rattle.std.specs.Result.{IsOk}
+use Rattle.std.proofs.Common.{◌≡◌, ℕ, List, [], ◌∷◌, ◌++◌, length, arith, Option, None, Some, Bor, refl, sym, subst, ap, ◌∙◌}
+use Rattle.std.specs.Prelude.{◌≢◌, option_map}
 use Rattle.std.specs.Option.{IsSome, option_copied}
 use Rattle.std.proofs.Math.Logic.{∥∥₁_elim}
 use Rattle.std.proofs.Props.{props}
 use Rattle.std.proofs.lemmas.List.{length-append}
-use Rattle.fa_capture.specs.Checks.{FirstFailure}
-use Rattle.fa_capture.proofs.CallerLemmas.{no_failure}
 use Rattle.fa_bodies.specs.declared.replies.Reply.{Reply}
 use Rattle.fa_bodies.specs.Fields.{le32}
-use Rattle.fa_bodies.specs.Requests.{PlainRequest, IsRequest, request_checks}
+use Rattle.fa_bodies.specs.Requests.{PlainRequest, IsRequest}
 use Rattle.fa_bodies.specs.Replies.{PlainReply, IsReply, reply_shown}
-use Rattle.fa_bodies.proofs.CallerLemmas.{request_is_one, request_passes_checks}
+use Rattle.fa_bodies.proofs.CallerLemmas.{request_is_one}
 use Rattle.fa_ledger.specs.declared.operation.Operation.{Operation}
 use Rattle.std.proofs.lemmas.Option.{same_Some}
 use Rattle.fa_ledger.specs.declared.operation.Outcome.TheVariants.{Unanswered}

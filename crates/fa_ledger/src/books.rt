@@ -18,7 +18,7 @@ ghost use Rattle.fa_ledger.specs.parts.CallParts.{WaitsAt, waiting_of};
 ghost use Rattle.fa_ledger.specs.parts.ListingParts.{place_of, listing_by, ListsStillIfAny};
 
 use crate::call::{Call, Listing};
-use crate::call_list::{CallList, WaitingCall};
+use crate::call_list::CallList;
 use crate::error::LedgerError;
 use crate::giving::{may_be_given, names_given, opened, settles_truncation};
 use crate::key::Key;
@@ -26,6 +26,7 @@ use crate::listings::{ListedOn, Listings, entries_count};
 use crate::messages::CallMessages;
 use crate::name::NodeName;
 use crate::naming::{handle_used, is_closing, is_tree_request, offset_asked, truncates};
+use crate::row::WaitingCall;
 use crate::tables::{Names, Tables, Used};
 use fa_bodies::{Reply, RequestBody};
 use fa_capture::{Seed, codes};
@@ -60,7 +61,7 @@ impl<'a> Books<'a> {
             truncating: false,
             tables: Tables::new(alloc, seed),
             listings: Listings::new(alloc, seed),
-            calls: CallList::new(alloc, seed),
+            calls: CallList::new(alloc),
         }
     }
 
@@ -78,8 +79,9 @@ impl<'a> Books<'a> {
             Event::Answered {
                 at,
                 asked,
+                mark,
                 messages,
-            } => self.note_reply(*at, *asked, messages),
+            } => self.note_reply(*at, *asked, *mark, messages),
             Event::Notice { .. } => Ok(()),
         }
     }
@@ -107,12 +109,14 @@ impl<'a> Books<'a> {
         Ok(())
     }
 
-    /// Notes the answer of this number to a request, if it gives no node that it may not give.
+    /// Notes the answer of this number to a request, if it gives no node that it may not give. Its call is looked for at the place
+    /// `near` first.
     #[inline(always)]
     fn note_reply(
         &mut self,
         at: u32,
         asked: u32,
+        near: u32,
         messages: &ReplyMessages<'a>,
     ) -> Result<(), LedgerError>
         requires { StandBefore (Answered at asked (request_shown messages.now.to.request) (reply_shown messages.now.reply)) self.old }
@@ -124,13 +128,12 @@ impl<'a> Books<'a> {
         if !may_be_given(&messages.to.request.body, &messages.reply) {
             return Err(LedgerError::Refused(codes::NODE_ID_NOT_ALLOWED));
         }
-        match self.calls.find(asked) {
-            Some(waiting) => self.note_answer(at, asked, waiting, messages),
-            None => {
-                self.truncating |= settles_truncation(&messages.to.request.body, &messages.reply);
-                Ok(())
-            }
+        if !is_tree_request(&messages.to.request.body) {
+            self.truncating |= settles_truncation(&messages.to.request.body, &messages.reply);
+            return Ok(());
         }
+        let (place, waiting) = self.calls.find(asked, near as usize).unwrap();
+        self.note_answer(at, asked, place, waiting, messages)
     }
 
     /// Notes a request that names these nodes and uses this file handle: a tree request is one more call, and a closing
@@ -220,12 +223,13 @@ impl<'a> Books<'a> {
         &mut self,
         at: u32,
         asked: u32,
+        place: usize,
         waiting: WaitingCall,
         messages: &ReplyMessages<'a>,
     ) -> Result<(), LedgerError>
         requires stands { StandBefore (Answered at asked (request_shown messages.now.to.request) (reply_shown messages.now.reply)) self.old }
         requires allowed { All MayBeGiven (nodes_given (body_shown messages.now.to.request.body) (reply_shown messages.now.reply)) }
-        requires waits { (place : ℕ) × (call : PlainCall) × WaitsAt self.old.calls asked place call × (waiting ≡ waiting_of call) }
+        requires waits { (call : PlainCall) × WaitsAt self.old.calls asked place call × (waiting ≡ waiting_of call) }
         ensures shows { OnOk result (ShowNext (Answered at asked (request_shown messages.now.to.request) (reply_shown messages.now.reply)) self.old self.new) }
         ensures memory { IfErr result (λ error. (error ≡ Memory) × (WhereStands (Answered at asked (request_shown messages.now.to.request) (reply_shown messages.now.reply)) self.old (λ c m es. IsMoreKept es (Answered at asked (request_shown messages.now.to.request) (reply_shown messages.now.reply))))) }
         ensures unchanged { OnErr result (AreSame self.old self.new) }
@@ -254,7 +258,7 @@ impl<'a> Books<'a> {
         let opens = self.tables.handles.note_opened(asked, opened);
         self.listings.note(asked, listed);
         let both = CallMessages::answered(messages);
-        self.calls.answer(asked, both, at, given, opens);
+        self.calls.answer(place, both, at, given, opens);
         Ok(())
     }
 }

@@ -95,7 +95,8 @@ pub struct Call<'c> {
 impl<'c> Call<'c> {
     /// What it asks for, with what came of it.
     ///
-    /// Takes no memory. Time in the bytes of names and targets and of a listing, and constant otherwise: both messages are read.
+    /// Takes no memory, in constant time, but for the bytes of the names and targets of MKNOD, SYMLINK, RENAME and RENAME2: both
+    /// messages are read again.
     #[inline(always)]
     pub fn operation(&self) -> Operation<'c>
         ensures { operation_shown result ≡ (call_shown self.now).operation }

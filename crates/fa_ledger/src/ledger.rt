@@ -91,9 +91,10 @@ impl<'a> Ledger<'a> {
     /// # Cost
     ///
     /// Expected constant time, as of hash tables, for each event, for each item of a BATCH_FORGET and for each entry of a
-    /// listing. It keeps 96 bytes for each tree request, with where its messages lie, an entry for each node that is known, for each key
-    /// that is open and for each offset that an answer on such a key has, and for each tree request that waits its place;
-    /// all grow by doubling. The names of the nodes that a listing gives take a list of their own. No message bytes are copied.
+    /// listing, and for an answer whose event has not the place of its call for a mark ([`next_place`](Ledger::next_place)) a
+    /// logarithm of the calls. It keeps 96 bytes for each tree request, with where its messages lie, an entry for each node that is
+    /// known, for each key that is open and for each offset that an answer on such a key has; all grow by doubling. The names of
+    /// the nodes that a listing gives take a list of their own. No message bytes are copied.
     pub fn accept(&mut self, event: &Event<'a>) -> Result<(), LedgerError>
         requires { (c : List Message) × (m : Message) × IsNext c m self.old (event_shown event.now) }
         ensures passes { OnOk result ((c : List Message) (m : Message) → IsNext c m self.old (event_shown event.now) → Passes c m) }
@@ -104,6 +105,15 @@ impl<'a> Ledger<'a> {
         self.books.note(event)?;
         self.messages += 1;
         Ok(())
+    }
+
+    /// The place that the next tree request has among the calls. Where the session is marked with it before each message
+    /// ([`Session::mark`](fa_session::Session::mark)), each answer tells at which place its call stands.
+    ///
+    /// Takes no memory, in constant time.
+    #[inline(always)]
+    pub fn next_place(&self) -> u32 {
+        u32::try_from(self.books.calls.len()).unwrap_or(u32::MAX)
     }
 
     /// The calls of the messages.

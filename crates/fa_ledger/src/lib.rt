@@ -24,7 +24,6 @@ mod placing;
 mod row;
 mod standing;
 mod tables;
-mod waiting_places;
 
 pub use call::{Answer, Call, GivenNodes, Listing};
 pub use call_list::CallList;

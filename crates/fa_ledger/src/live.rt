@@ -67,6 +67,7 @@ impl Live {
                 at,
                 asked,
                 messages,
+                ..
             } => self.note_reply(*at, *asked, messages),
             Event::Notice { .. } => Ok(()),
         }

@@ -62,8 +62,8 @@ impl<'a> CallMessages<'a> {
 
     /// What is asked for, with what came of it.
     ///
-    /// Takes no memory. Time in the bytes of names and targets, and constant otherwise: both messages are read, but for the entries of
-    /// a listing.
+    /// Takes no memory, in constant time, but for the bytes of the names and targets of MKNOD, SYMLINK, RENAME and RENAME2: both
+    /// messages are read again.
     pub fn operation(&self) -> Operation<'a>
         ensures { operation_shown result ≡ self.now.said.0 }
     {

@@ -1,7 +1,8 @@
 //! A call as the list of the calls keeps it.
 
-ghost use Rattle.std.specs.Prelude.{◌≡◌, None, Some, option_map};
+ghost use Rattle.std.specs.Prelude.{◌≡◌, ◌≢◌, None, Some, IfSome, IfNone, option_map};
 ghost use Rattle.fa_ledger.specs.Calls.{answer_shown, call_shown, given_shown};
+ghost use Rattle.fa_ledger.specs.parts.CallParts.{waiting_of};
 ghost use Rattle.fa_ledger.specs.parts.RowParts.{row_shown, other_kept, listing_kept, handle_kept, names_kept, answer_kept, AreNotBoth};
 ghost use Rattle.fa_ledger.specs.parts.Steps.{answered_by, given_names_shown};
 
@@ -162,6 +163,17 @@ pub(crate) enum AnswerKind {
     Opening,
 }
 
+/// What is known of a call that waits for its answer.
+#[derive(Clone, Copy, Debug)]
+pub(crate) struct WaitingCall {
+    /// The node of its header, by name.
+    pub node: NodeName,
+    /// The file handle that it uses, by name.
+    pub handle: Option<u32>,
+    /// Whether it lists, and its listing is adrift.
+    pub adrift: bool,
+}
+
 /// A call in 96 bytes: what it holds stands so that no gap is left.
 #[derive(Drop)]
 pub(crate) struct Row<'a> {
@@ -244,9 +256,25 @@ impl<'a> Row<'a> {
         }
     }
 
+    /// What is known of it, if it waits for its answer.
+    #[inline(always)]
+    pub fn waiting_call(&self) -> Option<WaitingCall>
+        ensures some { IfSome result (λ waiting. (answer_kept self.now ≡ None) × (waiting ≡ waiting_of (row_shown self.now))) }
+        ensures none { IfNone result (answer_kept self.now ≢ None) }
+    {
+        match self.answered {
+            AnswerKind::Missing => Some(WaitingCall {
+                node: self.node,
+                handle: self.handle(),
+                adrift: self.beside.listing().is_some_and(|listing| listing.adrift),
+            }),
+            AnswerKind::Plain | AnswerKind::Opening => None,
+        }
+    }
+
     /// The file handle that it uses, if any.
     #[inline(always)]
-    pub fn handle(&self) -> Option<u32>
+    fn handle(&self) -> Option<u32>
         ensures { result ≡ handle_kept self.now }
     {
         self.has_handle.then_some(self.handle)

@@ -1,14 +1,9 @@
 -- A request that waits, read again.
-use Rattle.std.proofs.Common.{◌≡◌, ℕ, List, Result, Ok, Err, refl, sym, subst}
-use Rattle.std.specs.Prelude.{IfErr, IfOk}
-use Rattle.std.specs.Result.{IsOk}
+use Rattle.std.proofs.Common.{◌≡◌, ℕ, List, refl, sym, subst}
 use Rattle.std.proofs.Math.Logic.{∥∥₁_elim}
 use Rattle.std.proofs.Props.{props}
-use Rattle.fa_capture.specs.Checks.{FirstFailure}
-use Rattle.fa_capture.proofs.CallerLemmas.{no_failure}
-use Rattle.fa_bodies.specs.declared.requests.Request.{Request}
-use Rattle.fa_bodies.specs.Requests.{PlainRequest, IsRequest, request_checks, request_shown}
-use Rattle.fa_bodies.proofs.CallerLemmas.{request_is_one, request_passes_checks}
+use Rattle.fa_bodies.specs.Requests.{PlainRequest, IsRequest}
+use Rattle.fa_bodies.proofs.CallerLemmas.{request_is_one}
 use Rattle.fa_session.specs.parts.RequestSaid.{IsAskedWith, RequestSaid, request_set}
 
 -- its message is a request

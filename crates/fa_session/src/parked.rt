@@ -54,7 +54,7 @@ impl Parked {
     ///
     /// # Cost
     ///
-    /// Expected linear time in the number of outstanding requests, however long they are. The table keeps two numbers and where
+    /// Expected linear time in the number of outstanding requests, however long they are. The table keeps three numbers and where
     /// the message lies for each of them. No message bytes are copied.
     pub fn resume(&self, alloc: Global, seed: Seed) -> Result<Session<'_>, AllocError>
         ensures { IfOk result (λ session. session ≡ self.now) }
@@ -62,6 +62,7 @@ impl Parked {
         let waiting = Outstanding::from_owned(alloc, seed, &self.waiting).map_err(|_| AllocError)?;
         Ok(Session {
             messages: self.messages,
+            mark: 0,
             negotiated: self.negotiated,
             waiting,
         })
@@ -88,8 +89,8 @@ impl Session<'_> {
     ///
     /// # Cost
     ///
-    /// Linear time in the number of outstanding requests and in their bytes. Takes memory for one copy of these bytes, and for two
-    /// numbers and where the copy lies of each request.
+    /// Linear time in the number of outstanding requests and in their bytes. Takes memory for one copy of these bytes, and for
+    /// three numbers and where the copy lies of each request.
     pub fn park(&self, alloc: Global) -> Result<Parked, AllocError>
         ensures { IfOk result (λ parked. parked ≡ self.now) }
     {

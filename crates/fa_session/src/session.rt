@@ -30,6 +30,8 @@ use std::marker::Model;
 pub struct Session<'a> {
     /// How many messages came.
     pub(crate) messages: u32,
+    /// The mark of the requests that come next.
+    pub(crate) mark: u32,
     /// The flags that both sides set at INIT, once it was answered.
     pub(crate) negotiated: Option<u32>,
     /// The outstanding requests.
@@ -55,6 +57,7 @@ impl<'a> Session<'a> {
     {
         Session {
             messages: 0,
+            mark: 0,
             negotiated: None,
             waiting: Outstanding::new(alloc, seed),
         }
@@ -69,6 +72,18 @@ impl<'a> Session<'a> {
         ensures { result ≡ self.now.negotiated }
     {
         self.negotiated
+    }
+
+    /// Marks the requests that come from now on with a number of the caller's, until another one is given. The event of an answer has
+    /// the mark of its request. A session begins with the mark 0.
+    ///
+    /// Takes no memory, in constant time.
+    // What a session shows has no marks, so that no clause says which one comes back: who reads it has to look whether it fits.
+    #[inline(always)]
+    pub fn mark(&mut self, mark: u32)
+        ensures { self.new ≡ self.old }
+    {
+        self.mark = mark;
     }
 
     /// Takes the next message, if it is allowed after the messages so far: what it is.
@@ -103,8 +118,8 @@ impl<'a> Session<'a> {
     /// # Cost
     ///
     /// Expected constant time, as of a hash table, but for the bytes of names and of listings, which are read once, and
-    /// those of an outstanding request once more for each message with its unique. The table keeps two numbers and where
-    /// the message lies for each outstanding request, and grows by doubling. No message bytes are copied.
+    /// those of an outstanding MKNOD, SYMLINK, RENAME or RENAME2 once more for each message with its unique. The table keeps
+    /// three numbers and where the message lies for each outstanding request, and grows by doubling. No message bytes are copied.
     #[inline(always)]
     pub fn accept(&mut self, packet: &Packet<'a>) -> Result<Event<'a>, SessionError>
         requires { self.old.messages < MAX_MESSAGES }
@@ -115,7 +130,7 @@ impl<'a> Session<'a> {
         ensures refused { IfErr result (λ error. (c : List Message) → Shows c self.old → IsRefusal c (message packet.now) error) }
         ensures unchanged { OnErr result (self.new ≡ self.old) }
     {
-        // A function for each direction, so that a call makes room for what one of them needs, not for that of both.
+        // A function for each direction: as one they take more, though both are laid into the caller.
         match packet.direction {
             Direction::ToServer => self.accept_to_server(packet),
             Direction::FromServer => self.accept_from_server(packet),
@@ -163,7 +178,7 @@ impl<'a> Session<'a> {
             let at = self.next_number();
             return Ok(Event::Notice { at });
         }
-        let Some((asked, message)) = self.waiting_for(head.unique) else {
+        let Some((waiting, message)) = self.waiting_for(head.unique) else {
             return Err(SessionError::Refused(codes::NO_REQUEST_WAITS));
         };
         let messages = ReplyMessages {
@@ -176,7 +191,8 @@ impl<'a> Session<'a> {
         let at = self.note_reply(head.unique, flags);
         Ok(Event::Answered {
             at,
-            asked,
+            asked: waiting.at,
+            mark: waiting.mark,
             messages,
         })
     }
@@ -197,17 +213,17 @@ impl<'a> Session<'a> {
         self.len() == 0
     }
 
-    /// The outstanding request with this unique, read again, behind the number of its message.
+    /// The outstanding request with this unique, and its message, read again.
     #[inline(always)]
-    fn waiting_for(&self, unique: u64) -> Option<(u32, RequestMessage<'a>)>
-        ensures found { option_map (λ w. asked_shown w.0 w.1) result ≡ waiting_for self.now unique }
+    fn waiting_for(&self, unique: u64) -> Option<(Waiting<'a>, RequestMessage<'a>)>
+        ensures found { option_map (λ w. asked_shown w.0.at w.1) result ≡ waiting_for self.now unique }
         ensures unique { IfSome result (λ w. w.1.request.unique ≡ unique) }
     {
         let Some(waiting) = self.waiting.get(unique) else {
             return None;
         };
         let message = waiting.message();
-        Some((waiting.at, message))
+        Some((*waiting, message))
     }
 
     /// Looks whether a request keeps the rules after the messages so far. The error is the code of the first rule that
@@ -265,7 +281,7 @@ impl<'a> Session<'a> {
         if !message.request.body.may_be_answered() {
             return Ok(self.next_number());
         }
-        let waiting = Waiting::new(self.messages, message);
+        let waiting = Waiting::new(self.messages, self.mark, message);
         self.waiting.insert(waiting)?;
         Ok(self.next_number())
     }

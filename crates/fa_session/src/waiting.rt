@@ -15,6 +15,8 @@ use std::mem::size_of;
 pub(crate) struct Waiting<'a> {
     /// The number of its message.
     pub at: u32,
+    /// The mark that the session had when it came.
+    pub mark: u32,
     /// Its unique.
     pub unique: u64,
     /// Its message.
@@ -26,15 +28,16 @@ pub(crate) struct Waiting<'a> {
 const _: () = prove!(size_of::<Waiting<'static>>() <= 64);
 
 impl<'a> Waiting<'a> {
-    /// The request of this number.
+    /// The request of this number, with a mark.
     #[inline(always)]
-    pub fn new(at: u32, message: &RequestMessage<'a>) -> Self
+    pub fn new(at: u32, mark: u32, message: &RequestMessage<'a>) -> Self
         ensures at { result.at ≡ at }
         ensures unique { result.unique ≡ message.now.request.unique }
         ensures bytes { result.bytes.now ≡ message.now.bytes.now }
     {
         Waiting {
             at,
+            mark,
             unique: message.request.unique,
             bytes: message.bytes,
         }
@@ -66,6 +69,7 @@ impl<'a> Waiting<'a> {
         let bytes = self.bytes.to_vec(alloc)?;
         Ok(OwnedWaiting {
             at: self.at,
+            mark: self.mark,
             unique: self.unique,
             bytes,
         })
@@ -77,6 +81,8 @@ impl<'a> Waiting<'a> {
 pub(crate) struct OwnedWaiting {
     /// The number of its message.
     pub at: u32,
+    /// The mark that the session had when it came.
+    pub mark: u32,
     /// Its unique.
     pub unique: u64,
     /// Its message.
@@ -94,6 +100,7 @@ impl OwnedWaiting {
     {
         Waiting {
             at: self.at,
+            mark: self.mark,
             unique: self.unique,
             bytes: self.bytes.as_slice(),
         }

@@ -9,7 +9,7 @@ use Rattle.fa_bodies.specs.Requests.{PlainBody}
 use Rattle.fa_bodies.specs.Replies.{PlainReply}
 use Rattle.fa_bodies.specs.Replies.PlainReply.{Listed}
 use Rattle.fa_ledger.specs.declared.tables.Used.{Used}
-use Rattle.fa_ledger.specs.declared.call_list.WaitingCall.{WaitingCall}
+use Rattle.fa_ledger.specs.declared.row.WaitingCall.{WaitingCall}
 use Rattle.fa_ledger.specs.declared.call.Listing.{Listing}
 use Rattle.fa_ledger.specs.declared.handles.Handle.{Handle}
 use Rattle.fa_ledger.specs.declared.key.Key.{Key}

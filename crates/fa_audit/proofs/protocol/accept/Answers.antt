@@ -1,6 +1,9 @@
+use Rattle.std.proofs.Common.{subst, sym}
 use Rattle.std.proofs.lemmas.Result.{err_from_is_err_and}
 use Rattle.fa_capture.specs.Message.{message}
 use Rattle.fa_session.specs.Events.{event_shown}
+use Rattle.fa_session.specs.Plain.{PlainSession}
+use Rattle.fa_session.specs.Shows.{Shows}
 use Rattle.fa_watch.proofs.CallerLemmas.{session_refuses}
 use Rattle.fa_audit.proofs.ProtocolLemmas.{next_of_both}
 use Rattle.fa_audit.proofs.protocol.accept.Goals as goal
@@ -8,14 +11,15 @@ use Rattle.fa_audit.proofs.protocol.accept.Goals as goal
 pub returns-in_err-event-clause-refused : goal.returns-in_err-event-clause-refused
 returns-in_err-event-clause-refused c =
     let p = err_from_is_err_and c.from_residual.result c.from_residual.ensures.1 in
-    rw (p.1, p.2) (λ before both few. session_refuses before (message c.args.packet.now) c.in_err-event.field-0.0 (c.in_err-event.ensures.refused before both.session))
+    rw (p.1, p.2) (λ before both few. session_refuses before (message c.args.packet.now) c.in_err-event.field-0.0 (c.in_err-event.ensures.refused before (rw c.mark.ensures both.session)))
 
 pub returns-clause-shows : goal.returns-clause-shows
 returns-clause-shows c before both few =
     let m = message c.args.packet.now in
+    let session = subst (λ (marked : PlainSession). Shows before marked) (sym c.mark.ensures) both.session in
     record {
-      session = c.in_ok-event.ensures.shows before both.session;
+      session = c.in_ok-event.ensures.shows before session;
       ledger = c.in_ok-accept.ensures.shows before m
           (next_of_both before m c.args.session.now c.args.ledger.now (event_shown c.in_ok-event.event) both few
-          (c.in_ok-event.ensures.passes before both.session) (c.in_ok-event.ensures.event before both.session));
+          (c.in_ok-event.ensures.passes before session) (c.in_ok-event.ensures.event before session));
     }

@@ -37,10 +37,10 @@ returns-in_err-reserve-2-clause-memory c =
             stands = stands;
             may = c.requires.allowed;
             waiting = c.args.waiting;
-            place = c.requires.waits.0;
-            call = c.requires.waits.1;
-            waits = c.requires.waits.2;
-            own = c.requires.waits.3;
+            place = c.args.place;
+            call = c.requires.waits.0;
+            waits = c.requires.waits.1;
+            own = c.requires.waits.2;
             named = c.as_slice-names.ensures ∙ c.in_ok-given.ensures.named;
             opens = c.opened-opened.ensures;
           }) c.in_err-reserve-2.ensures.wanted),
@@ -68,8 +68,8 @@ returns-in_err-reserve-3-clause-memory c =
     rw p.1 (
       p.2,
       λ before m es stands.
-          listed_more before m es c.args.at c.args.asked (request_shown c.args.messages.now.to.request) (reply_shown c.args.messages.now.reply) c.args.self.now c.requires.waits.0 c.requires.waits.1 c.args.waiting c.listed-listed.result
-          stands c.requires.waits.2 c.requires.waits.3 c.listed-listed.ensures c.in_err-reserve-3.ensures.wanted,
+          listed_more before m es c.args.at c.args.asked (request_shown c.args.messages.now.to.request) (reply_shown c.args.messages.now.reply) c.args.self.now c.args.place c.requires.waits.0 c.args.waiting c.listed-listed.result
+          stands c.requires.waits.1 c.requires.waits.2 c.listed-listed.ensures c.in_err-reserve-3.ensures.wanted,
     )
 
 pub note-requires-clause-fresh : goal.note-requires-clause-fresh
@@ -80,17 +80,17 @@ note-requires-clause-fresh c =
 pub note-requires-clause-counted : goal.note-requires-clause-counted
 note-requires-clause-counted c =
     let stands = c.requires.stands in
-    (listed_counted stands.0 stands.1 c.args.at c.args.asked (request_shown c.args.messages.now.to.request) (reply_shown c.args.messages.now.reply) stands.3.event c.args.self.now.tables.handles.opened.entries c.args.waiting c.requires.waits.1 c.requires.waits.3 c.listed-listed.result c.listed-listed.ensures).0
+    (listed_counted stands.0 stands.1 c.args.at c.args.asked (request_shown c.args.messages.now.to.request) (reply_shown c.args.messages.now.reply) stands.3.event c.args.self.now.tables.handles.opened.entries c.args.waiting c.requires.waits.0 c.requires.waits.2 c.listed-listed.result c.listed-listed.ensures).0
 
 pub note-requires-clause-few : goal.note-requires-clause-few
 note-requires-clause-few c =
     let stands = c.requires.stands in
-    (listed_counted stands.0 stands.1 c.args.at c.args.asked (request_shown c.args.messages.now.to.request) (reply_shown c.args.messages.now.reply) stands.3.event c.args.self.now.tables.handles.opened.entries c.args.waiting c.requires.waits.1 c.requires.waits.3 c.listed-listed.result c.listed-listed.ensures).1
+    (listed_counted stands.0 stands.1 c.args.at c.args.asked (request_shown c.args.messages.now.to.request) (reply_shown c.args.messages.now.reply) stands.3.event c.args.self.now.tables.handles.opened.entries c.args.waiting c.requires.waits.0 c.requires.waits.2 c.listed-listed.result c.listed-listed.ensures).1
 
 pub answered-both-requires : goal.answered-both-requires
 answered-both-requires c =
     let stands = c.requires.stands in
-    let there = operation_there stands.0 stands.1 stands.2 c.args.at c.args.asked (request_shown c.args.messages.now.to.request) (reply_shown c.args.messages.now.reply) c.args.self.now stands.3 c.requires.waits.0 c.requires.waits.1 c.requires.waits.2 in
+    let there = operation_there stands.0 stands.1 stands.2 c.args.at c.args.asked (request_shown c.args.messages.now.to.request) (reply_shown c.args.messages.now.reply) c.args.self.now stands.3 c.args.place c.requires.waits.0 c.requires.waits.1 in
     operation_asked (body_shown c.args.messages.now.to.request.body) (Some (reply_shown c.args.messages.now.reply)) there.0 there.1
 
 pub returns-clause-shows : goal.returns-clause-shows
@@ -102,10 +102,10 @@ returns-clause-shows c = λ before m es stands.
       stands = stands;
       may = c.requires.allowed;
       waiting = c.args.waiting;
-      place = c.requires.waits.0;
-      call = c.requires.waits.1;
-      waits = c.requires.waits.2;
-      own = c.requires.waits.3;
+      place = c.args.place;
+      call = c.requires.waits.0;
+      waits = c.requires.waits.1;
+      own = c.requires.waits.2;
       named = c.in_ok-given.ensures.named;
       opens = c.opened-opened.ensures ∙ ap (λ ns. opened_with c.args.waiting.node ns (body_shown c.args.messages.now.to.request.body) (reply_shown c.args.messages.now.reply)) same;
     })
@@ -117,4 +117,4 @@ returns-clause-shows c = λ before m es stands.
     (subst (λ opened. IsOpenedBy c.args.asked which opened c.note_opened-opens.new.self.opened.entries) c.in_ok-reserve-2.ensures.kept c.note_opened-opens.ensures.noted)
     c.listed-listed.result c.listed-listed.ensures
     (noted_also c.args.asked c.listed-listed.result _ _ _ c.in_ok-reserve-3.ensures.same c.note.ensures)
-    c.answer.ensures
+    (c.answer.ensures c.args.asked c.requires.waits.0 c.requires.waits.1)

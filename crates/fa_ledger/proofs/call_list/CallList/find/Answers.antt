@@ -1,19 +1,29 @@
-use Rattle.std.proofs.Common.{◌<◌, ℕ, sym, subst, ap, false, ◌∙◌}
-use Rattle.std.specs.Option.{option_map_or}
-use Rattle.fa_ledger.proofs.CallListLemmas.{place_within, none_waits, waiting_there}
+use Rattle.std.proofs.Common.{◌≡◌, List, Some, sym, subst}
+use Rattle.std.specs.Prelude.{map, slice_get}
+use Rattle.std.specs.List.Sorted.{IsStrictlyIncreasing}
+use Rattle.fa_ledger.specs.Calls.{PlainCall}
+use Rattle.fa_ledger.specs.parts.CallParts.{WaitsAt}
+use Rattle.fa_ledger.proofs.CallListLemmas.{row_there, waits_there}
 use Rattle.fa_ledger.proofs.call_list.CallList.find.Goals as goal
 
-pub returns-in_err-place-clause-none : goal.returns-in_err-place-clause-none
-returns-in_err-place-clause-none c =
-    rw c.from_residual.ensures
-    (none_waits c.self.inside.rows.items c.args.self.now c.self.inside.waiting c.args.asked c.self.view_is c.self.invariant (sym c.in_err-place.ensures))
-
-pub index-row-requires : goal.index-row-requires
-index-row-requires c =
-    subst (λ (n : ℕ). c.in_ok-place.place < n) (sym c.self.inside.rows.ok.0)
-    (place_within c.self.inside.rows.items c.self.inside.waiting c.args.asked c.in_ok-place.place c.self.invariant (sym c.in_ok-place.ensures))
+pub returns-in_err-waiting-clause-none : goal.returns-in_err-waiting-clause-none
+returns-in_err-waiting-clause-none c =
+    let items = c.self.inside.rows.items in
+    let found = c.in_ok-place.ensures.found in
+    rw c.from_residual-in_err-waiting.ensures (λ place call waits.
+    c.in_err-waiting.ensures.none
+    (waits_there items c.args.asked c.in_ok-place.place found.0 c.index.result.now
+    (subst (λ (calls : List PlainCall). IsStrictlyIncreasing (map (λ call. call.asked) calls)) (sym c.self.view_is) c.requires.rising)
+    (subst (λ (calls : List PlainCall). slice_get calls c.in_ok-place.place ≡ Some found.0) (sym c.self.view_is) found.1) found.2 c.index.ensures place call
+    (subst (λ (calls : List PlainCall). WaitsAt calls c.args.asked place call) (sym c.self.view_is) waits)))
 
 pub returns-clause-some : goal.returns-clause-some
 returns-clause-some c =
-    waiting_there c.self.inside.rows.items c.args.self.now c.self.inside.waiting c.args.asked c.in_ok-place.place c.index-row.result.now c.handle.result c.is_adrift.result
-    c.self.view_is c.self.invariant (sym c.in_ok-place.ensures) c.index-row.ensures c.handle.ensures (c.is_adrift.ensures ∙ ap (λ l. option_map_or (λ listing. listing.adrift) l false) c.listing.ensures)
+    let items = c.self.inside.rows.items in
+    let found = c.in_ok-place.ensures.found in
+    let same = row_there items c.in_ok-place.place found.0 c.index.result.now (subst (λ (calls : List PlainCall). slice_get calls c.in_ok-place.place ≡ Some found.0) (sym c.self.view_is) found.1) c.index.ensures in
+    let waiting = c.in_ok-waiting.ensures.some in (
+      found.0,
+      record { there = found.1; numbered = found.2; unanswered = rw same waiting.0 },
+      rw same waiting.1,
+    )

@@ -4,6 +4,7 @@ use Rattle.fa_capture.specs.Message.{message}
 use Rattle.fa_bodies.specs.Replies.{reply_shown}
 use Rattle.fa_session.specs.parts.Steps.{NotesReply}
 use Rattle.fa_session.specs.declared.event.RequestMessage.{RequestMessage}
+use Rattle.fa_session.specs.declared.waiting.Waiting.{Waiting}
 use Rattle.fa_session.specs.parts.View.{asked_shown}
 use Rattle.fa_session.proofs.ShowsLemmas.{IsOnlyHead, IsMatched, shows_noticed, shows_answered, matched_answers}
 use Rattle.fa_session.proofs.MessageLemmas.{IsOnlyReply, none_waits, body_fails, reply_fails, reply_passes, notice_passes}
@@ -33,14 +34,14 @@ returns-in_default-clause-refused c =
     let is : IsOnlyHead m arm.head = record { is = (c.requires.direction, arm.ensures.found); only = arm.ensures.only } in
     λ before shows. none_waits before m c.args.self.now arm.head is arm.ensures.passes shows
     (λ zero. let yes = c.is_empty.ensures.1 zero in let no = c.if-is_empty.false in absurd cc) c.if-head-eq0.false
-    (sym c.waiting_for.ensures.found ∙ ap (option_map (λ (w : ℕ × RequestMessage). asked_shown w.0 w.1)) c.in_default.is)
+    (sym c.waiting_for.ensures.found ∙ ap (option_map (λ (w : Waiting × RequestMessage). asked_shown w.0.at w.1)) c.in_default.is)
 
 pub returns-in_err-reply_body-clause-refused :
     goal.returns-in_err-reply_body-clause-refused
 returns-in_err-reply_body-clause-refused c =
     let m = message c.args.packet.now in
     let arm = c.in_ok-head in
-    let w = asked_shown c.in-Some.asked c.in-Some.message in
+    let w = asked_shown c.in-Some.waiting.at c.in-Some.message in
     let is : IsOnlyHead m arm.head = record { is = (c.requires.direction, arm.ensures.found); only = arm.ensures.only } in
     let p = err_from_is_err_and c.from_residual-in_err-reply_body.result c.from_residual-in_err-reply_body.ensures.1 in
     rw (p.1, p.2) (λ before shows.
@@ -48,7 +49,7 @@ returns-in_err-reply_body-clause-refused c =
       shows = shows;
       head_is = is;
       reply = c.if-head-eq0.false;
-      found = sym c.waiting_for.ensures.found ∙ ap (option_map (λ (w : ℕ × RequestMessage). asked_shown w.0 w.1)) c.in-Some.is;
+      found = sym c.waiting_for.ensures.found ∙ ap (option_map (λ (w : Waiting × RequestMessage). asked_shown w.0.at w.1)) c.in-Some.is;
       unique = c.in-Some.ensures.unique;
     } in
     body_fails before m c.args.self.now arm.head w c.in_err-reply_body.field-0.0 arm.ensures.passes
@@ -59,7 +60,7 @@ pub returns-in_err-check_reply-clause-refused :
 returns-in_err-check_reply-clause-refused c =
     let m = message c.args.packet.now in
     let arm = c.in_ok-head in
-    let w = asked_shown c.in-Some.asked c.in-Some.message in
+    let w = asked_shown c.in-Some.waiting.at c.in-Some.message in
     let said = c.in_ok-reply_body in
     let is : IsOnlyHead m arm.head = record { is = (c.requires.direction, arm.ensures.found); only = arm.ensures.only } in
     let one : IsOnlyReply m w.request (reply_shown said.field-0) = record { found = said.ensures.found; only = said.ensures.only } in
@@ -69,7 +70,7 @@ returns-in_err-check_reply-clause-refused c =
       shows = shows;
       head_is = is;
       reply = c.if-head-eq0.false;
-      found = sym c.waiting_for.ensures.found ∙ ap (option_map (λ (w : ℕ × RequestMessage). asked_shown w.0 w.1)) c.in-Some.is;
+      found = sym c.waiting_for.ensures.found ∙ ap (option_map (λ (w : Waiting × RequestMessage). asked_shown w.0.at w.1)) c.in-Some.is;
       unique = c.in-Some.ensures.unique;
     } in
     reply_fails before m c.args.self.now arm.head w (reply_shown said.field-0) c.in_err-check_reply.field-0.0 arm.ensures.passes
@@ -80,7 +81,7 @@ pub returns-clause-passes :
 returns-clause-passes c =
     let m = message c.args.packet.now in
     let arm = c.in_ok-head in
-    let w = asked_shown c.in-Some.asked c.in-Some.message in
+    let w = asked_shown c.in-Some.waiting.at c.in-Some.message in
     let said = c.in_ok-reply_body in
     let is : IsOnlyHead m arm.head = record { is = (c.requires.direction, arm.ensures.found); only = arm.ensures.only } in
     let one : IsOnlyReply m w.request (reply_shown said.field-0) = record { found = said.ensures.found; only = said.ensures.only } in
@@ -89,7 +90,7 @@ returns-clause-passes c =
       shows = shows;
       head_is = is;
       reply = c.if-head-eq0.false;
-      found = sym c.waiting_for.ensures.found ∙ ap (option_map (λ (w : ℕ × RequestMessage). asked_shown w.0 w.1)) c.in-Some.is;
+      found = sym c.waiting_for.ensures.found ∙ ap (option_map (λ (w : Waiting × RequestMessage). asked_shown w.0.at w.1)) c.in-Some.is;
       unique = c.in-Some.ensures.unique;
     } in
     reply_passes before m c.args.self.now arm.head w (reply_shown said.field-0) arm.ensures.passes
@@ -100,7 +101,7 @@ pub returns-clause-shows :
 returns-clause-shows c =
     let m = message c.args.packet.now in
     let arm = c.in_ok-head in
-    let w = asked_shown c.in-Some.asked c.in-Some.message in
+    let w = asked_shown c.in-Some.waiting.at c.in-Some.message in
     let said = c.in_ok-reply_body in
     let is : IsOnlyHead m arm.head = record { is = (c.requires.direction, arm.ensures.found); only = arm.ensures.only } in
     let one : IsOnlyReply m w.request (reply_shown said.field-0) = record { found = said.ensures.found; only = said.ensures.only } in
@@ -109,7 +110,7 @@ returns-clause-shows c =
       shows = shows;
       head_is = is;
       reply = c.if-head-eq0.false;
-      found = sym c.waiting_for.ensures.found ∙ ap (option_map (λ (w : ℕ × RequestMessage). asked_shown w.0 w.1)) c.in-Some.is;
+      found = sym c.waiting_for.ensures.found ∙ ap (option_map (λ (w : Waiting × RequestMessage). asked_shown w.0.at w.1)) c.in-Some.is;
       unique = c.in-Some.ensures.unique;
     } in
     shows_answered before m c.args.self.now _ arm.head w (reply_shown said.field-0) matched said.ensures.found c.in_ok-check_reply.ensures.ok.0
@@ -122,7 +123,7 @@ pub returns-clause-event :
 returns-clause-event c =
     let m = message c.args.packet.now in
     let arm = c.in_ok-head in
-    let w = asked_shown c.in-Some.asked c.in-Some.message in
+    let w = asked_shown c.in-Some.waiting.at c.in-Some.message in
     let said = c.in_ok-reply_body in
     let is : IsOnlyHead m arm.head = record { is = (c.requires.direction, arm.ensures.found); only = arm.ensures.only } in
     λ before shows.
@@ -130,7 +131,7 @@ returns-clause-event c =
       shows = shows;
       head_is = is;
       reply = c.if-head-eq0.false;
-      found = sym c.waiting_for.ensures.found ∙ ap (option_map (λ (w : ℕ × RequestMessage). asked_shown w.0 w.1)) c.in-Some.is;
+      found = sym c.waiting_for.ensures.found ∙ ap (option_map (λ (w : Waiting × RequestMessage). asked_shown w.0.at w.1)) c.in-Some.is;
       unique = c.in-Some.ensures.unique;
     } in
     (c.note_reply-at.ensures.at ∙ shows.counted, matched_answers before m c.args.self.now arm.head w matched, said.ensures.found)
