@@ -1,6 +1,8 @@
 pub mod RankOrderLemmas
 pub mod RankLemmas
 pub mod MapLemmas
+pub mod EntryLemmas
+pub mod FirstLemmas
 pub mod OfferLemmas
 pub mod MatchLemmas
 pub mod ReadyLemmas

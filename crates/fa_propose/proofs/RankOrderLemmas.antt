@@ -1,5 +1,5 @@
 -- The order of ranks: it is total, tells ranks apart, and is that in which candidates are tried.
-use Rattle.std.proofs.Common.{◌≡◌, ℕ, zero, suc, ◌<◌, List, [], ◌∷◌, length, get_or, Ordering, Less, Equal, refl, sym, ap, subst, ◌∙◌, inl, inr, arith}
+use Rattle.std.proofs.Common.{◌≡◌, ℕ, zero, suc, ◌<◌, List, [], ◌∷◌, length, get_or, Less, Equal, refl, sym, ap, subst, ◌∙◌, inl, inr, arith}
 use Rattle.std.specs.Prelude.{AllPairs}
 use Rattle.std.specs.Cmp.{IsTotalOrder, nat_cmp_is}
 use Rattle.std.specs.List.Sorted.{IsStrictlySortedBy}
@@ -9,18 +9,14 @@ use Rattle.std.proofs.lemmas.List.Elements.{All-from_recursion, All-map, recursi
 use Rattle.std.proofs.lemmas.Map.Keys.{sorted_head, sorted_tail}
 use Rattle.std.proofs.lemmas.Cmp.{ranked}
 use Rattle.std.proofs.lemmas.Map.Lookups.{CmpEqualImpliesEq, exact_unsigned}
-use Rattle.fa_propose.specs.contracts.rank.RankOrd.TheImpl as order
 use Rattle.fa_propose.specs.contracts.rank.RankOrd.TheImpl.Laws as laws
 use Rattle.fa_propose.specs.declared.rank.Group.{Group}
 use Rattle.fa_propose.specs.declared.rank.Group.TheVariants.{Unchanging, Changing, Unanswered}
 use Rattle.fa_propose.specs.declared.rank.Rank.{Rank}
 use Rattle.fa_propose.specs.Proposals.{IsBefore}
+use Rattle.fa_propose.specs.parts.Candidates.{cmp}
 
 -- ---- the order of ranks
-
--- how ranks are compared
-abbrev pub cmp : Rank → Rank → Ordering
-cmp = order.cmp-value.it
 
 -- it is a total order
 pub cmp_total : IsTotalOrder cmp

@@ -1,8 +1,9 @@
 -- The entries that are tried one after the other: those before have no step.
-use Rattle.std.proofs.Common.{◌≡◌, ℕ, zero, suc, ◌+◌, ◌<◌, List, [], ◌∷◌, ◌++◌, take, Some, None, refl, sym, ap, subst, ◌∙◌, arith}
-use Rattle.std.specs.Prelude.{All}
+use Rattle.std.proofs.Common.{◌≡◌, ℕ, zero, suc, ◌+◌, ◌<◌, List, [], ◌∷◌, ◌++◌, ◌-◌, take, drop, Some, None, refl, sym, ap, subst, ◌∙◌, arith}
+use Rattle.std.specs.Prelude.{slice_get, All}
 use Rattle.std.proofs.lemmas.List.{append_assoc, append-nil}
 use Rattle.std.proofs.lemmas.List.Elements.{All-nil, All-push}
+use Rattle.std.proofs.lemmas.Option.{same_Some}
 use Rattle.fa_capture.specs.Message.{Message}
 use Rattle.fa_ledger.specs.declared.calls.Calls.{Calls}
 use Rattle.fa_tree.specs.State.{TreeState}
@@ -14,7 +15,7 @@ use Rattle.fa_check.specs.Replays.{IsReplayed, NextFails}
 use Rattle.fa_check.proofs.CallerLemmas.{replayed_step, refused_no_step}
 use Rattle.fa_propose.specs.declared.rank.Rank.{Rank}
 use Rattle.fa_propose.specs.declared.proposing.TheConstants.{MAX_TRIED}
-use Rattle.fa_propose.specs.parts.Ready.{MayEachComeNext, HasNoEntryStep, IsTriedSo}
+use Rattle.fa_propose.specs.parts.Ready.{MayEachComeNext, HasNoEntryStep, IsTriedSo, IsFirstRefused}
 use Rattle.fa_propose.proofs.NextLemmas.{found_there}
 
 -- These were tried, and have no step; those are not tried yet.
@@ -35,6 +36,11 @@ one_taken n m xs ys x parts count =
 pub none_left : {X : Type 0} (n : ℕ) (xs : List X) → (0 < n → xs ≡ []) → take n xs ≡ []
 none_left zero xs empty = refl
 none_left (suc n) xs empty = ap (take (suc n)) (empty (omega arith))
+
+-- the first of all, and the others
+first_parts : {X : Type 0} (xs : List X) (x : X) → slice_get xs 0 ≡ Some x → xs ≡ x ∷ drop 1 xs
+first_parts [] x is = absurd cc
+first_parts (y ∷ xs) x is = ap (λ z. z ∷ xs) (same_Some y x is)
 
 -- ---- what was tried
 
@@ -62,8 +68,8 @@ fails_along along calls tree now placing s e code is same_tree same_placing fail
 
 module _ (calls : Calls) (tree : TreeState) (placing : Placing) (ready : List (Rank × Entry)) where
   -- before the first
-  pub none_tried : AreTriedSoFar calls tree placing ready [] (take MAX_TRIED ready)
-  none_tried = record { parts = refl; none = λ c first es is so_far may. All-nil (HasNoEntryStep c tree) }
+  pub none_tried : (p : Rank × Entry) → slice_get ready 0 ≡ Some p → AreTriedSoFar calls tree placing ready [] (p ∷ take (MAX_TRIED - 1) (drop 1 ready))
+  none_tried p is = record { parts = ap (take MAX_TRIED) (first_parts ready p is); none = λ c first es is so_far may. All-nil (HasNoEntryStep c tree) }
 
   -- one more is refused
   pub one_refused : (tried rest : List (Rank × Entry)) (p : Rank × Entry) (code : ℕ) → AreTriedSoFar calls tree placing ready tried (p ∷ rest)
@@ -74,6 +80,12 @@ module _ (calls : Calls) (tree : TreeState) (placing : Placing) (ready : List (R
         All-push (HasNoEntryStep c tree) tried p (so_far.none c first es is replayed may)
         (λ new. refused_no_step calls first tree es p.1 placing code replayed fails c is (may p.0 p.1 (found_there ready tried rest p so_far.parts)) new);
   }
+
+  -- the first of all is refused
+  pub first_tried : IsFirstRefused calls tree placing ready → AreTriedSoFar calls tree placing ready (take 1 ready) (take (MAX_TRIED - 1) (drop 1 ready))
+  first_tried (found, code, is, fails) =
+      subst (λ tried. AreTriedSoFar calls tree placing ready tried (take (MAX_TRIED - 1) (drop 1 ready))) (sym (ap (take 1) (first_parts ready found is)))
+      (one_refused [] (take (MAX_TRIED - 1) (drop 1 ready)) found code (none_tried found is) fails)
 
   -- one is placed
   pub one_placed : (tried rest : List (Rank × Entry)) (p : Rank × Entry) (new : TreeState) (behind : Placing) → AreTriedSoFar calls tree placing ready tried (p ∷ rest)

@@ -2,3 +2,5 @@
 
 -- which entries may come next, and which of them is placed
 pub mod Ready
+-- those entries, the first of them apart
+pub mod Candidates

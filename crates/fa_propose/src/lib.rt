@@ -1,6 +1,7 @@
 //! Guesses an order of the tree requests of a capture.
 #![tactic(auto)]
 
+mod candidates;
 pub mod laws;
 mod proposing;
 mod rank;

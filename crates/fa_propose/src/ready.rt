@@ -9,8 +9,9 @@ ghost use Rattle.fa_order.specs.declared.entry.Entry.{Entry as TheEntry};
 ghost use Rattle.fa_check.specs.Verdicts.{AreMessagesOf};
 ghost use Rattle.fa_check.specs.Replays.{IsPlacing, IsReplayed, IsFront};
 ghost use Rattle.fa_propose.specs.Proposals as proposals;
-ghost use Rattle.fa_propose.specs.parts.Ready.{IsReady, AreAllSeen, IsOffered, MayEachComeNext, IsTriedSo, IsGoneOnSo, IsRankedBefore};
+ghost use Rattle.fa_propose.specs.parts.Ready.{IsReady, AreAllSeen, IsOffered, MayEachComeNext, IsTriedSo, IsFirstRefused, IsGoneOnSo, IsRankedBefore};
 
+use crate::candidates::Candidates;
 use crate::proposing::MAX_TRIED;
 use crate::rank::Rank;
 use fa_check::Placing;
@@ -18,13 +19,11 @@ use fa_ledger::{Action, Call, Calls, Operation, Outcome};
 use fa_order::Entry;
 use fa_tree::{Replay, StepError, Tree};
 use std::alloc::{AllocError, Global};
-use std::collections::BTreeMap;
 
 /// The entries that may come next.
 #[derive(Drop)]
 pub(crate) struct Ready {
-    /// Each by the rank of its call.
-    entries: BTreeMap<Rank, Entry>,
+    candidates: Candidates,
     /// How many calls of the list were looked at.
     seen: usize,
 }
@@ -32,10 +31,10 @@ pub(crate) struct Ready {
 impl Ready {
     /// None, before the first call is looked at.
     pub fn new(alloc: Global) -> Self
-        ensures { (c : List Message) (calls : TheCalls) → IsReady c calls.list [] result.seen result.entries.entries }
+        ensures { (c : List Message) (calls : TheCalls) → IsReady c calls.list [] result.seen result.candidates }
     {
         Ready {
-            entries: BTreeMap::new(alloc),
+            candidates: Candidates::new(alloc),
             seen: 0,
         }
     }
@@ -43,8 +42,8 @@ impl Ready {
     /// Takes in the calls that were sent up to the front of the order so far.
     pub fn admit(&mut self, calls: &Calls<'_>, front: usize) -> Result<(), AllocError>
         ensures { OnOk result ((c : List Message) (es : List TheEntry) → AreMessagesOf calls.now c → IsFront c es front
-            → IsReady c calls.now.list es self.old.seen self.old.entries.entries
-            → IsReady c calls.now.list es self.new.seen self.new.entries.entries
+            → IsReady c calls.now.list es self.old.seen self.old.candidates
+            → IsReady c calls.now.list es self.new.seen self.new.candidates
             × AreAllSeen c calls.now.list es self.new.seen) }
     {
         while self.seen < calls.list.len() {
@@ -60,12 +59,12 @@ impl Ready {
 
     /// Takes in a call, if an order may name it.
     fn offer(&mut self, call: &Call<'_>) -> Result<(), AllocError>
-        ensures offered { OnOk result (IsOffered (call_shown call.now) self.old.entries.entries self.new.entries.entries) }
+        ensures offered { OnOk result (IsOffered (call_shown call.now) self.old.candidates self.new.candidates) }
         ensures seen { self.new.seen ≡ self.old.seen }
     {
         let entry = entry_of(call);
         if call.allows(entry.wrote) {
-            self.entries.insert(Rank::of(call), entry)?;
+            self.candidates.insert(Rank::of(call), entry)?;
         }
         Ok(())
     }
@@ -82,22 +81,22 @@ impl Ready {
             → IfSome next (λ entry. IsReplayed replay.old first tree.new (es ++ entry ∷ []) placing.new)) }
         ensures next { IfOk result (λ next. (c : List Message) (first : TreeState) (es : List TheEntry) → AreMessagesOf replay.old c
             → IsReplayed replay.old first tree.old es placing.old
-            → IsReady c replay.old.list es self.old.seen self.old.entries.entries
+            → IsReady c replay.old.list es self.old.seen self.old.candidates
             → AreAllSeen c replay.old.list es self.old.seen
-            → IsGoneOnSo c replay.old.list tree.old tree.new es self.new.seen self.new.entries.entries next) }
+            → IsGoneOnSo c replay.old.list tree.old tree.new es self.new.seen self.new.candidates next) }
         ensures same { replay.new ≡ replay.old }
     {
-        let Some((rank, entry)) = place_first(&self.entries, replay, tree, placing)? else {
+        let Some((rank, entry)) = place_first(&self.candidates, replay, tree, placing)? else {
             return Ok(None);
         };
-        self.entries.remove(&rank);
+        self.candidates.remove(rank);
         Ok(Some(entry))
     }
 }
 
 /// Places the first of these entries that has a step, of as many as are tried, with its rank.
 fn place_first(
-    entries: &BTreeMap<Rank, Entry>,
+    candidates: &Candidates,
     replay: &mut Replay<'_>,
     tree: &mut Tree,
     placing: &mut Placing,
@@ -106,12 +105,42 @@ fn place_first(
     ensures replayed { IfOk result (λ found. (first : TreeState) (es : List TheEntry) → IsReplayed replay.old first tree.old es placing.old
         → IfSome found (λ found. IsReplayed replay.old first tree.new (es ++ found.1 ∷ []) placing.new)) }
     ensures tried { IfOk result (λ found. (c : List Message) (first : TreeState) (es : List TheEntry) → AreMessagesOf replay.old c
-        → IsReplayed replay.old first tree.old es placing.old → MayEachComeNext c es entries.now.entries
-        → IsTriedSo c tree.old tree.new entries.now.entries found) }
-    ensures ordered { AllPairs IsRankedBefore entries.now.entries }
+        → IsReplayed replay.old first tree.old es placing.old → MayEachComeNext c es candidates.now
+        → IsTriedSo c tree.old tree.new candidates.now found) }
+    ensures ordered { AllPairs IsRankedBefore candidates.now }
     ensures same { replay.new ≡ replay.old }
 {
-    for (rank, entry) in entries.iter().take(MAX_TRIED) {
+    let Some((rank, entry)) = candidates.first() else {
+        return Ok(None);
+    };
+    match placing.place_in(replay, tree, entry) {
+        Ok(()) => Ok(Some((rank, entry))),
+        Err(StepError::Refused(_)) => place_other(candidates, replay, tree, placing),
+        Err(StepError::Memory) => Err(AllocError),
+    }
+}
+
+/// The same where the first of all was refused.
+fn place_other(
+    candidates: &Candidates,
+    replay: &mut Replay<'_>,
+    tree: &mut Tree,
+    placing: &mut Placing,
+) -> Result<Option<(Rank, Entry)>, AllocError>
+    requires placing { IsPlacing replay.old.list replay.old.messages placing.old }
+    requires refused { IsFirstRefused replay.old tree.old placing.old candidates.now }
+    ensures replayed { IfOk result (λ found. (first : TreeState) (es : List TheEntry) → IsReplayed replay.old first tree.old es placing.old
+        → IfSome found (λ found. IsReplayed replay.old first tree.new (es ++ found.1 ∷ []) placing.new)) }
+    ensures tried { IfOk result (λ found. (c : List Message) (first : TreeState) (es : List TheEntry) → AreMessagesOf replay.old c
+        → IsReplayed replay.old first tree.old es placing.old → MayEachComeNext c es candidates.now
+        → IsTriedSo c tree.old tree.new candidates.now found) }
+    ensures same { replay.new ≡ replay.old }
+{
+    let others = candidates.others();
+    if others.is_empty() {
+        return Ok(None);
+    }
+    for (rank, entry) in others.iter().take(MAX_TRIED - 1) {
         match placing.place_in(replay, tree, *entry) {
             Ok(()) => return Ok(Some((*rank, *entry))),
             Err(StepError::Refused(_)) => {}

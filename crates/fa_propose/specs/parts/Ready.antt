@@ -4,11 +4,15 @@ use Rattle.fa_capture.specs.Checks.{AllHold}
 use Rattle.fa_capture.specs.Message.{Message}
 use Rattle.fa_ledger.specs.Calls.{PlainCall}
 use Rattle.fa_ledger.specs.Choices.{Allows}
+use Rattle.fa_ledger.specs.declared.calls.Calls.{Calls}
 use Rattle.fa_tree.specs.State.{TreeState}
+use Rattle.fa_tree.specs.declared.error.StepError.TheVariants.{Refused}
 use Rattle.fa_order.specs.declared.entry.Entry.{Entry}
 use Rattle.fa_check.specs.Orders.{numbers}
 use Rattle.fa_check.specs.Runs.{EntrySteps}
+use Rattle.fa_check.specs.declared.placing.Placing.{Placing}
 use Rattle.fa_check.specs.Faults.{order_checks}
+use Rattle.fa_check.specs.Replays.{NextFails}
 use Rattle.fa_propose.specs.declared.rank.Rank.{Rank}
 use Rattle.fa_propose.specs.declared.proposing.TheConstants.{MAX_TRIED}
 use Rattle.fa_propose.specs.Proposals.{entry_of, IsCandidate, IsRank, IsBefore, IsNext, IsStuck}
@@ -60,6 +64,11 @@ IsRankedBefore a b = IsBefore a.0 b.0
 -- from this tree the entry has no step
 abbrev pub HasNoEntryStep : List Message → TreeState → Rank × Entry → Type 0
 HasNoEntryStep c tree p = (new : TreeState) → EntrySteps tree new c p.1 → ⊥
+
+-- the first of all was refused
+abbrev pub IsFirstRefused : Calls → TreeState → Placing → List (Rank × Entry) → Type 0
+IsFirstRefused calls tree placing ready =
+    (found : Rank × Entry) × (code : ℕ) × (slice_get ready 0 ≡ Some found) × NextFails calls tree found.1 placing (Refused code)
 
 -- none of those that are tried has a step
 abbrev pub NoneSteps : List Message → TreeState → List (Rank × Entry) → Type 0

@@ -13,7 +13,7 @@ use Rattle.fa_propose.proofs.proposing.guess.Goals.{else-loop-calls-test, then-l
 pub loop-calls-init : goal.loop-calls-init
 loop-calls-init c = (
   c.new-replay.ensures,
-  none_proposed c.args.calls.now c.args.tree.now c.new-order.result.items c.in_ok-placing.placing c.new-ready.result.seen c.new-ready.result.entries.entries c.new-order.ensures.items
+  none_proposed c.args.calls.now c.args.tree.now c.new-order.result.items c.in_ok-placing.placing c.new-ready.result.seen c.new-ready.result.candidates c.new-order.ensures.items
       (c.in_ok-placing.ensures c.args.tree.now) (λ messages. c.new-ready.ensures messages c.args.calls.now),
 )
 
@@ -38,15 +38,15 @@ loop-calls-preserved c =
     let new = c.place_next.new in
     let replayed : IsReplayed calls c.args.tree.now new.tree (es ++ entry ∷ []) new.placing =
     subst (λ next. IfSome next (λ (e : Entry). IsReplayed calls c.args.tree.now new.tree (es ++ e ∷ []) new.placing)) c.in-Some.is ((rw c.loop-calls.invariant.0 at c.in_ok-entry.ensures.replayed) c.args.tree.now es so_far.replayed) in
-    let next : (messages : List Message) → AreMessagesOf calls messages → IsPlacedNext messages plain c.loop-calls.tree new.tree es new.self.seen new.self.entries.entries entry = λ messages is.
+    let next : (messages : List Message) → AreMessagesOf calls messages → IsPlacedNext messages plain c.loop-calls.tree new.tree es new.self.seen new.self.candidates entry = λ messages is.
     let front = c.front-in-loop-calls.ensures calls c.args.tree.now c.loop-calls.tree es so_far.replayed messages is in
     let ready = c.in_ok-admit.ensures messages es is front (so_far.left messages is) in
-    subst (IsGoneOnSo messages plain c.loop-calls.tree new.tree es new.self.seen new.self.entries.entries) c.in-Some.is
+    subst (IsGoneOnSo messages plain c.loop-calls.tree new.tree es new.self.seen new.self.candidates) c.in-Some.is
     ((rw c.loop-calls.invariant.0 at c.in_ok-entry.ensures.next) messages c.args.tree.now es is so_far.replayed ready.0 ready.1) in (
       c.place_next.ensures.same ∙ c.loop-calls.invariant.0,
-      subst (λ items. IsProposing calls c.args.tree.now new.tree items new.placing new.self.seen new.self.entries.entries) (sym c.in_ok-push.ensures.items)
-          (one_proposed calls c.args.tree.now c.loop-calls.tree es c.loop-calls.placing c.loop-calls.ready.seen c.loop-calls.ready.entries.entries so_far c.front.result
-          (c.front.ensures calls c.args.tree.now c.loop-calls.tree es so_far.replayed) c.loop-calls-test.true new.tree new.placing new.self.seen new.self.entries.entries entry next replayed),
+      subst (λ items. IsProposing calls c.args.tree.now new.tree items new.placing new.self.seen new.self.candidates) (sym c.in_ok-push.ensures.items)
+          (one_proposed calls c.args.tree.now c.loop-calls.tree es c.loop-calls.placing c.loop-calls.ready.seen c.loop-calls.ready.candidates so_far c.front.result
+          (c.front.ensures calls c.args.tree.now c.loop-calls.tree es so_far.replayed) c.loop-calls-test.true new.tree new.placing new.self.seen new.self.candidates entry next replayed),
     )
 
 pub returns : goal.returns
@@ -58,11 +58,11 @@ returns c =
     let fronts = c.front.ensures calls c.args.tree.now c.loop-calls.tree es so_far.replayed in
     elim c.loop-calls-test.branch [
       | else-loop-calls-test w ↦
-          all_proposed calls c.args.tree.now c.loop-calls.tree es c.loop-calls.placing c.loop-calls.ready.seen c.loop-calls.ready.entries.entries so_far c.front.result fronts (omega (arith, w.loop-calls-test.false))
+          all_proposed calls c.args.tree.now c.loop-calls.tree es c.loop-calls.placing c.loop-calls.ready.seen c.loop-calls.ready.candidates so_far c.front.result fronts (omega (arith, w.loop-calls-test.false))
       | then-loop-calls-test+in_ok-admit+in_ok-entry+in_default w ↦ λ messages is.
           let front = w.front-in-loop-calls.ensures calls c.args.tree.now c.loop-calls.tree es so_far.replayed messages is in
           let ready = w.in_ok-admit.ensures messages es is front (so_far.left messages is) in
-          stuck_proposed calls c.args.tree.now c.loop-calls.tree es c.loop-calls.placing c.loop-calls.ready.seen c.loop-calls.ready.entries.entries so_far c.front.result fronts messages is
-          (subst (IsGoneOnSo messages plain c.loop-calls.tree w.place_next.new.tree es w.place_next.new.self.seen w.place_next.new.self.entries.entries) w.in_default.is
+          stuck_proposed calls c.args.tree.now c.loop-calls.tree es c.loop-calls.placing c.loop-calls.ready.seen c.loop-calls.ready.candidates so_far c.front.result fronts messages is
+          (subst (IsGoneOnSo messages plain c.loop-calls.tree w.place_next.new.tree es w.place_next.new.self.seen w.place_next.new.self.candidates) w.in_default.is
           ((rw c.loop-calls.invariant.0 at w.in_ok-entry.ensures.next) messages c.args.tree.now es is so_far.replayed ready.0 ready.1))
     ]

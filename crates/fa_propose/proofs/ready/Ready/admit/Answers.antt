@@ -20,8 +20,8 @@ pub loop-self-preserved : goal.loop-self-preserved
 loop-self-preserved c = λ messages es is front so_far.
     let plain = c.args.calls.now.list in
     let there = c.call-call.ensures in
-    subst (λ n. IsReady messages plain es (n + 1) c.offer.new.self.entries.entries) (sym c.in_ok-offer.ensures.seen)
-    (one_more messages plain is.are es c.args.front front c.loop-self.self.seen c.loop-self.self.entries.entries c.offer.new.self.entries.entries (call_shown c.call-call.result) there
+    subst (λ n. IsReady messages plain es (n + 1) c.offer.new.self.candidates) (sym c.in_ok-offer.ensures.seen)
+    (one_more messages plain is.are es c.args.front front c.loop-self.self.seen c.loop-self.self.candidates c.offer.new.self.candidates (call_shown c.call-call.result) there
     (omega (arith, c.if-front-call.false)) c.in_ok-offer.ensures.offered (c.loop-self.invariant messages es is front so_far))
 
 pub returns-then-front-call : goal.returns-then-front-call
