@@ -4,8 +4,8 @@ use crate::messages::{answer_code, asked_bytes, said, to_server};
 use bitflags::Flags;
 use fa_bodies::{
     Attributes, AttributesBytes, EntryBytes, FattrFlags, FopenFlags, GetattrFlags, InitFlags, Kind,
-    Mode, OpenFlags, OpenOut, ReadIn, ReleaseIn, RenameFlags, Reply, RequestBody, SetattrBytes,
-    request,
+    Mode, OpenFlags, OpenOut, ReadIn, ReleaseIn, RenameFlags, Reply, Request, RequestBody,
+    SetattrBytes, known_request, request,
 };
 use fa_capture::codes::REPLY_BODY;
 use std::alloc::{AllocError, Global};
@@ -317,7 +317,22 @@ static BATCH_FORGET: [u8; 24] = [
     b'i', b'n', b' ', b's', b'i', b'x', b't', b'e', b'e', b'n', b' ', b'b', b'y', b't', b'e', b's',
 ];
 
-/// Whether a request of this operation and body is read as the fields at these places and these bytes behind them.
+/// Whether a request has this operation, the fields at these places of its body and these bytes behind them.
+fn has_fields(
+    asked: &Request<'_>,
+    opcode: u32,
+    body: &[u8],
+    places: &[Place],
+    behind: (&[u8], &[u8]),
+) -> bool {
+    let (front, back) = bytes_of(&asked.body);
+    let (operation, found) = of_request(&asked.body);
+    let is_of = (asked.unique, asked.node, asked.opcode, operation) == (4, 1, opcode, opcode);
+    is_of && found == numbers_at(body, places) && front == behind.0 && back == behind.1
+}
+
+/// Whether a request of this operation and body is read as the fields at these places and these bytes behind them, and read again
+/// as the same.
 fn is_read(
     alloc: Global,
     opcode: u32,
@@ -326,11 +341,13 @@ fn is_read(
     behind: (&[u8], &[u8]),
 ) -> Option<bool> {
     let message = fa_sample::request_bytes(alloc, 4, opcode, 1, body).ok()?;
-    let asked = request(&to_server(&message)).ok()?;
-    let (front, back) = bytes_of(&asked.body);
-    let (operation, found) = of_request(&asked.body);
-    let is_of = (asked.unique, asked.node, asked.opcode, operation) == (4, 1, opcode, opcode);
-    Some(is_of && found == numbers_at(body, places) && front == behind.0 && back == behind.1)
+    let packet = to_server(&message);
+    let asked = request(&packet).ok()?;
+    let again = known_request(&packet);
+    Some(
+        has_fields(&asked, opcode, body, places, behind)
+            && has_fields(&again, opcode, body, places, behind),
+    )
 }
 
 /// The same of a body whose front is counted bytes.

@@ -29,7 +29,7 @@ pub struct NamedPlace<'c> {
 impl<'c> Case<'c> {
     /// The request at this place among the calls, if there is one.
     ///
-    /// Takes no memory. Time in the bytes of its names and targets, and constant otherwise: both messages are read.
+    /// Takes no memory, in the time of [`Call::operation`](fa_ledger::Call::operation).
     pub fn at(calls: &'c Calls<'_>, place: usize) -> Option<Self>
         ensures found { IfSome result (λ case. slice_get calls.now.list place ≡ Some (call_shown case.call)) }
     {

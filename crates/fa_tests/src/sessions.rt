@@ -289,8 +289,9 @@ fn refused_in_reverse(alloc: Global) -> Sample {
     sample
 }
 
-/// What is seen of the message with this number in such a session. Message 1,002 answers the last request, 1,001.
-fn seen_in_reverse(number: u32) -> (Told, u64, u64, i32) {
+/// What is seen of the message with this number in such a session. Message 1,002 answers the last request, 1,001, whose mark is
+/// 1,002.
+fn seen_in_reverse(number: u32) -> (Told, u64, u64, i32, u32) {
     let asked = if number < 1002 {
         number
     } else {
@@ -299,10 +300,16 @@ fn seen_in_reverse(number: u32) -> (Told, u64, u64, i32) {
     let unique = u64::from(asked).saturating_mul(2);
     let node = u64::from(asked).saturating_sub(1);
     match number {
-        0 => (Asked(0), 2, 0, 0),
-        1 => (Answered(1, 0), 2, 0, 0),
-        2..=1001 => (Asked(number), unique, node, 0),
-        _ => (Answered(number, asked), unique, node, EEXIST),
+        0 => (Asked(0), 2, 0, 0, 0),
+        1 => (Answered(1, 0), 2, 0, 0, 1),
+        2..=1001 => (Asked(number), unique, node, 0, 0),
+        _ => (
+            Answered(number, asked),
+            unique,
+            node,
+            EEXIST,
+            asked.saturating_add(1),
+        ),
     }
 }
 
@@ -311,7 +318,7 @@ fn many_requests_answered_in_reverse(rt: HostRuntime) {
     let seen = seen_of_each(rt.alloc(), refused_in_reverse(rt.alloc())).expect(&rt, "memory");
     assert_eq!(rt; seen.len(), 2002);
     for (number, seen) in (0..2002).zip(&seen) {
-        let found = (seen.told, seen.unique, seen.node, seen.error);
+        let found = (seen.told, seen.unique, seen.node, seen.error, seen.mark);
         assert!(rt; found == seen_in_reverse(number), "message {number}");
     }
 }

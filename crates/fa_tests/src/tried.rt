@@ -26,7 +26,7 @@ pub enum Told {
 }
 
 /// What a session tells of a message, and the flags that are settled then. Of a request or its reply also the request's
-/// unique and node, and the error of a refusal; else these are 0.
+/// unique and node, the error of a refusal, and of a reply the mark of the request; else these are 0.
 #[derive(Clone, Copy, PartialEq, Eq)]
 pub struct Seen {
     pub told: Told,
@@ -34,6 +34,7 @@ pub struct Seen {
     pub unique: u64,
     pub node: u64,
     pub error: i32,
+    pub mark: u32,
 }
 
 /// Nothing seen yet.
@@ -43,6 +44,7 @@ pub const UNSEEN: Seen = Seen {
     unique: 0,
     node: 0,
     error: 0,
+    mark: 0,
 };
 
 /// What an event shows.
@@ -57,6 +59,7 @@ fn seen_in(event: &Event<'_>) -> Seen {
         Event::Answered {
             at,
             asked,
+            mark,
             messages,
         } => Seen {
             told: Told::Answered(*at, *asked),
@@ -66,6 +69,7 @@ fn seen_in(event: &Event<'_>) -> Seen {
                 Reply::Refused(error) => *error,
                 _ => 0,
             },
+            mark: *mark,
             ..UNSEEN
         },
         Event::Notice { at } => Seen {
@@ -92,7 +96,8 @@ impl<'a> Tried<'a> {
         }
     }
 
-    /// Hands in a message: what the session tells of it.
+    /// Hands in a message, under its place among those that were handed in, counted from 1, as its mark: what the session tells of
+    /// it.
     pub fn hand_in(&mut self, packet: &Packet<'a>) -> Seen
         requires { ShowsAtMost self.old.taken self.old.session }
         ensures { ShowsAtMost self.new.taken self.new.session }
@@ -101,6 +106,7 @@ impl<'a> Tried<'a> {
             return UNSEEN;
         }
         self.taken += 1;
+        self.session.mark(u32::try_from(self.taken).unwrap_or(0));
         match self.session.accept(packet) {
             Ok(event) => seen_in(&event),
             Err(SessionError::Refused(code)) => Seen {

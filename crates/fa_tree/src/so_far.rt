@@ -41,7 +41,7 @@ pub(crate) fn note_all<'a>(tally: &mut Tally<'a>, entries: Entries<'a>) -> Resul
     Ok(count)
 }
 
-/// Notes the first so many entries of what the answer to a call lists. Expected time in all its entries: it is read again.
+/// Notes the first so many entries of what the answer to a call lists. Expected time in the bytes of their names.
 pub(crate) fn note_answered<'a>(
     tally: &mut Tally<'a>,
     call: &Call<'a>,

@@ -86,7 +86,7 @@ impl Tree {
     /// in the bytes of names and targets, and in those that are read and written; where a directory is moved, time in the
     /// directories on the way up too. READDIR and READDIRPLUS take memory in the names that were listed so far and time in all
     /// names of the answers that they go on from (this profile), and at the end of a listing time in the places that the
-    /// directory had, or had had, when it was opened. Both messages of the call are read again, in time of their names, targets and listing.
+    /// directory had, or had had, when it was opened. Both messages of the call are read again.
     pub fn step(&mut self, calls: &Calls<'_>, k: usize, wrote: Option<u32>) -> Result<(), StepError>
         requires there { k < length calls.now.list }
         requires allowed { OfCallAt calls.now.list k (λ call. Allows call wrote) }
