@@ -730,6 +730,8 @@ fn an_event_without_memory_is_handed_in_again(rt: HostRuntime) {
     let mut paired = Paired::new(rt.alloc());
     paired.take_each(&packets, &mut codes);
     assert!(rt; codes == [0; 127]);
+    // 30 LOOKUPs and 30 OPENs, OPENDIR, READDIRPLUS and READDIR are calls.
+    assert_eq!(rt; paired.ledger.next_place(), 63);
     let calls = paired.into_calls();
     let are_grown = are_grown(&calls);
     drop(calls);

@@ -323,6 +323,20 @@ fn many_requests_answered_in_reverse(rt: HostRuntime) {
     }
 }
 
+#[test]
+fn marks_outlast_a_session_that_is_put_aside(rt: HostRuntime) {
+    let sample = Sample::new(rt.alloc())
+        .init(2)
+        .init_answer(2)
+        .lookup(4, 1, b"a")
+        .lookup(6, 1, b"b")
+        .error(6, ENOENT)
+        .error(4, ENOENT);
+    let seen = seen_of_each_apart(rt.alloc(), sample).expect(&rt, "memory");
+    // INIT is the first message that is handed in, the LOOKUPs the third and the fourth.
+    assert!(rt; seen.iter().map(|seen| seen.mark).eq([0, 1, 0, 0, 4, 3]));
+}
+
 static INIT: &[u8; 56] = b"\x38\0\0\0\x1a\0\0\0\x02\0\0\0\0\0\0\0\0\0\0\0\0\0\0\0\
 \0\0\0\0\0\0\0\0\0\0\0\0\0\0\0\0\x07\0\0\0\x1f\0\0\0\0\0\0\0\0\0\0\0";
 
