@@ -49,7 +49,7 @@ fn accept<'a>(
     ensures shows { OnOk result ((c : List Message) → ShowBoth c session.old ledger.old → length c < MAX_MESSAGES → ShowBoth (c ++ message packet.now ∷ []) session.new ledger.new) }
     ensures refused { IfErr result (λ error. (c : List Message) → ShowBoth c session.old ledger.old → length c < MAX_MESSAGES → IsRefusal c (message packet.now) error) }
 {
-    session.mark(ledger.next_place());
+    session.set_tag(ledger.next_place());
     let event = session.accept(packet)?;
     ledger.accept(&event)?;
     Ok(())

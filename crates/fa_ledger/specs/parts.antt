@@ -2,7 +2,6 @@
 
 -- what an event does to a node, to a key and to the calls
 pub mod Steps
--- the places of the calls that wait
 -- that what two messages say is one operation
 pub mod SaidLaws
 -- a call as their list keeps it

@@ -79,9 +79,9 @@ impl<'a> Books<'a> {
             Event::Answered {
                 at,
                 asked,
-                mark,
+                tag,
                 messages,
-            } => self.note_reply(*at, *asked, *mark, messages),
+            } => self.note_reply(*at, *asked, *tag, messages),
             Event::Notice { .. } => Ok(()),
         }
     }
@@ -110,13 +110,13 @@ impl<'a> Books<'a> {
     }
 
     /// Notes the answer of this number to a request, if it gives no node that it may not give. Its call is looked for at the place
-    /// `near` first.
+    /// `hint` first.
     #[inline(always)]
     fn note_reply(
         &mut self,
         at: u32,
         asked: u32,
-        near: u32,
+        hint: u32,
         messages: &ReplyMessages<'a>,
     ) -> Result<(), LedgerError>
         requires { StandBefore (Answered at asked (request_shown messages.now.to.request) (reply_shown messages.now.reply)) self.old }
@@ -132,7 +132,8 @@ impl<'a> Books<'a> {
             self.truncating |= settles_truncation(&messages.to.request.body, &messages.reply);
             return Ok(());
         }
-        let (place, waiting) = self.calls.find(asked, near as usize).unwrap();
+        // A tree request that is outstanding has a call that waits.
+        let (place, waiting) = self.calls.find(asked, hint as usize).unwrap();
         self.note_answer(at, asked, place, waiting, messages)
     }
 

@@ -119,7 +119,7 @@ impl<'c> Call<'c> {
     /// without one; one that was not answered and may change what is stored without one as well, but for a WRITE, which
     /// has a count of at most its size; one that only reads, and was not answered, not at all (this profile).
     ///
-    /// Takes no memory, in constant time where it is answered. Otherwise in the names and targets of its request, which is read.
+    /// Takes no memory, in constant time where it is answered, and otherwise in that of [`operation`](Call::operation).
     pub fn allows(&self, wrote: Option<u32>) -> bool
         ensures { IsTrue result ↔ Allows (call_shown self.now) wrote }
     {

@@ -57,31 +57,31 @@ impl<'a> CallList<'a> {
         Ok(())
     }
 
-    /// The place of the call that waits under this number, and what is known of it. It is looked for at the place `near` first.
+    /// The place of the call that waits under this number, and what is known of it. It is looked for at the place `hint` first.
     ///
     /// Takes no memory. In constant time where it stands there, and in logarithmic time otherwise.
     #[inline(always)]
-    pub(crate) fn find(&self, asked: u32, near: usize) -> Option<(usize, WaitingCall)>
+    pub(crate) fn find(&self, asked: u32, hint: usize) -> Option<(usize, WaitingCall)>
         requires rising { IsStrictlyIncreasing (map (λ call. call.asked) self.now) }
         ensures some { IfSome result (λ found. (call : PlainCall) × WaitsAt self.now asked found.0 call × (found.1 ≡ waiting_of call)) }
         ensures none { IfNone result ((place : ℕ) (call : PlainCall) → WaitsAt self.now asked place call → ⊥) }
     {
-        let place = self.place_near(asked, near)?;
+        let place = self.place_hinted(asked, hint)?;
         let waiting = self.rows[place].waiting_call()?;
         Some((place, waiting))
     }
 
-    /// The place of the call of this message number, looked for at the place `near` first.
+    /// The place of the call of this message number, looked for at the place `hint` first.
     ///
     /// Takes no memory. In constant time where it stands there, and in logarithmic time otherwise.
     #[inline(always)]
-    fn place_near(&self, at: u32, near: usize) -> Option<usize>
+    fn place_hinted(&self, at: u32, hint: usize) -> Option<usize>
         requires rising { IsStrictlyIncreasing (map (λ call. call.asked) self.now) }
         ensures found { IfSome result (λ place. (call : PlainCall) × (slice_get self.now place ≡ Some call) × (call.asked ≡ at)) }
         ensures none { IfNone result ((place : ℕ) (call : PlainCall) → slice_get self.now place ≡ Some call → call.asked ≡ at → ⊥) }
     {
-        match self.rows.get(near) {
-            Some(row) if row.asked == at => Some(near),
+        match self.rows.get(hint) {
+            Some(row) if row.asked == at => Some(hint),
             _ => self.place_of(at),
         }
     }

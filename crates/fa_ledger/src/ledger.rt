@@ -1,6 +1,6 @@
 //! A ledger, event by event.
 
-ghost use Rattle.std.specs.Prelude.{◌≡◌, ◌∷◌, ◌++◌, [], ℕ, List, length, IfErr, OnOk, OnErr};
+ghost use Rattle.std.specs.Prelude.{◌≡◌, ◌<◌, ◌^◌, ◌∷◌, ◌++◌, [], ℕ, List, length, IfErr, OnOk, OnErr};
 ghost use Rattle.fa_capture.specs.Message.{Message};
 ghost use Rattle.fa_session.specs.Events.{event_shown};
 ghost use Rattle.fa_ledger.specs.Passing.{Passes};
@@ -91,7 +91,7 @@ impl<'a> Ledger<'a> {
     /// # Cost
     ///
     /// Expected constant time, as of hash tables, for each event, for each item of a BATCH_FORGET and for each entry of a
-    /// listing, and for an answer whose event has not the place of its call for a mark ([`next_place`](Ledger::next_place)) a
+    /// listing, and for an answer whose event has not the place of its call for a tag ([`next_place`](Ledger::next_place)) a
     /// logarithm of the calls. It keeps 96 bytes for each tree request, with where its messages lie, an entry for each node that is
     /// known, for each key that is open and for each offset that an answer on such a key has; all grow by doubling. The names of
     /// the nodes that a listing gives take a list of their own. No message bytes are copied.
@@ -107,12 +107,16 @@ impl<'a> Ledger<'a> {
         Ok(())
     }
 
-    /// The place that the next tree request has among the calls. Where the session is marked with it before each message
-    /// ([`Session::mark`](fa_session::Session::mark)), each answer tells at which place its call stands.
+    /// The place that the next tree request has among the calls: how many there are. Where the session has it for a tag before each
+    /// message ([`Session::set_tag`](fa_session::Session::set_tag)), the answer to each tree request tells at which place its call
+    /// stands.
     ///
     /// Takes no memory, in constant time.
+    // There are fewer than 2 ^ 24 messages, so the condition always holds.
     #[inline(always)]
-    pub fn next_place(&self) -> u32 {
+    pub fn next_place(&self) -> u32
+        ensures { length self.now.calls < 2 ^ 32 → result ≡ length self.now.calls }
+    {
         u32::try_from(self.books.calls.len()).unwrap_or(u32::MAX)
     }
 

@@ -259,7 +259,8 @@ impl<'a> Row<'a> {
     /// What is known of it, if it waits for its answer.
     #[inline(always)]
     pub fn waiting_call(&self) -> Option<WaitingCall>
-        ensures some { IfSome result (λ waiting. (answer_kept self.now ≡ None) × (waiting ≡ waiting_of (row_shown self.now))) }
+        ensures known { IfSome result (λ waiting. waiting ≡ waiting_of (row_shown self.now)) }
+        ensures unanswered { IfSome result (λ waiting. answer_kept self.now ≡ None) }
         ensures none { IfNone result (answer_kept self.now ≢ None) }
     {
         match self.answered {

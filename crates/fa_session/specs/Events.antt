@@ -16,7 +16,7 @@ pub data PlainEvent : Type 0 where
 -- what an event shows
 abbrev pub event_shown : Event → PlainEvent
 event_shown (declared.Asked at message) = Asked at (request_shown message.request)
-event_shown (declared.Answered at asked mark messages) = Answered at asked (request_shown messages.to.request) (reply_shown messages.reply)
+event_shown (declared.Answered at asked tag messages) = Answered at asked (request_shown messages.to.request) (reply_shown messages.reply)
 event_shown (declared.Notice at) = Notice at
 
 -- The event of the message that follows these messages: a request, the reply to the request that it answers, or a
@@ -29,5 +29,5 @@ IsEvent before m (Notice at) = (at ≡ length before) × IsNotificationMessage m
 -- The bytes of the event's own message, if it has them, are these. A notification has none.
 abbrev pub HasBytes : List ℕ → Event → Type 0
 HasBytes bytes (declared.Asked at message) = message.bytes.now ≡ bytes
-HasBytes bytes (declared.Answered at asked mark messages) = messages.bytes.now ≡ bytes
+HasBytes bytes (declared.Answered at asked tag messages) = messages.bytes.now ≡ bytes
 HasBytes bytes (declared.Notice at) = Unit {0}

@@ -46,8 +46,8 @@ pub enum Event<'a> {
         at: u32,
         /// The number of the request's message.
         asked: u32,
-        /// The mark that the session had when the request came ([`Session::mark`](crate::Session::mark)).
-        mark: u32,
+        /// The tag that the session had when the request came ([`Session::set_tag`](crate::Session::set_tag)).
+        tag: u32,
         /// Both messages.
         messages: ReplyMessages<'a>,
     },

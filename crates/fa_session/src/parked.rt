@@ -62,7 +62,7 @@ impl Parked {
         let waiting = Outstanding::from_owned(alloc, seed, &self.waiting).map_err(|_| AllocError)?;
         Ok(Session {
             messages: self.messages,
-            mark: 0,
+            tag: 0,
             negotiated: self.negotiated,
             waiting,
         })

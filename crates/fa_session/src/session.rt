@@ -30,8 +30,8 @@ use std::marker::Model;
 pub struct Session<'a> {
     /// How many messages came.
     pub(crate) messages: u32,
-    /// The mark of the requests that come next.
-    pub(crate) mark: u32,
+    /// The tag of the requests that come next.
+    pub(crate) tag: u32,
     /// The flags that both sides set at INIT, once it was answered.
     pub(crate) negotiated: Option<u32>,
     /// The outstanding requests.
@@ -57,7 +57,7 @@ impl<'a> Session<'a> {
     {
         Session {
             messages: 0,
-            mark: 0,
+            tag: 0,
             negotiated: None,
             waiting: Outstanding::new(alloc, seed),
         }
@@ -74,16 +74,17 @@ impl<'a> Session<'a> {
         self.negotiated
     }
 
-    /// Marks the requests that come from now on with a number of the caller's, until another one is given. The event of an answer has
-    /// the mark of its request. A session begins with the mark 0.
+    /// Gives the requests that come from now on a tag, a number of the caller's, until another one is given. The event of an answer
+    /// has the tag of its request. A session begins with the tag 0, also where it was put aside; the requests that were outstanding
+    /// then keep theirs.
     ///
     /// Takes no memory, in constant time.
-    // What a session shows has no marks, so that no clause says which one comes back: who reads it has to look whether it fits.
+    // What a session shows has no tags, so that no clause says which one comes back: who reads it has to look whether it fits.
     #[inline(always)]
-    pub fn mark(&mut self, mark: u32)
+    pub fn set_tag(&mut self, tag: u32)
         ensures { self.new ≡ self.old }
     {
-        self.mark = mark;
+        self.tag = tag;
     }
 
     /// Takes the next message, if it is allowed after the messages so far: what it is.
@@ -192,7 +193,7 @@ impl<'a> Session<'a> {
         Ok(Event::Answered {
             at,
             asked: waiting.at,
-            mark: waiting.mark,
+            tag: waiting.tag,
             messages,
         })
     }
@@ -281,7 +282,7 @@ impl<'a> Session<'a> {
         if !message.request.body.may_be_answered() {
             return Ok(self.next_number());
         }
-        let waiting = Waiting::new(self.messages, self.mark, message);
+        let waiting = Waiting::new(self.messages, self.tag, message);
         self.waiting.insert(waiting)?;
         Ok(self.next_number())
     }

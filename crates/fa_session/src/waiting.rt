@@ -15,8 +15,8 @@ use std::mem::size_of;
 pub(crate) struct Waiting<'a> {
     /// The number of its message.
     pub at: u32,
-    /// The mark that the session had when it came.
-    pub mark: u32,
+    /// The tag that the session had when it came.
+    pub tag: u32,
     /// Its unique.
     pub unique: u64,
     /// Its message.
@@ -25,19 +25,19 @@ pub(crate) struct Waiting<'a> {
     pub ghost said: { RequestSaid bytes.now unique } by { RequestSaid-prop bytes.now unique },
 }
 
-const _: () = prove!(size_of::<Waiting<'static>>() <= 64);
+const _: () = prove!(size_of::<Waiting<'static>>() <= 32);
 
 impl<'a> Waiting<'a> {
-    /// The request of this number, with a mark.
+    /// The request of this number, with a tag.
     #[inline(always)]
-    pub fn new(at: u32, mark: u32, message: &RequestMessage<'a>) -> Self
+    pub fn new(at: u32, tag: u32, message: &RequestMessage<'a>) -> Self
         ensures at { result.at ≡ at }
         ensures unique { result.unique ≡ message.now.request.unique }
         ensures bytes { result.bytes.now ≡ message.now.bytes.now }
     {
         Waiting {
             at,
-            mark,
+            tag,
             unique: message.request.unique,
             bytes: message.bytes,
         }
@@ -69,7 +69,7 @@ impl<'a> Waiting<'a> {
         let bytes = self.bytes.to_vec(alloc)?;
         Ok(OwnedWaiting {
             at: self.at,
-            mark: self.mark,
+            tag: self.tag,
             unique: self.unique,
             bytes,
         })
@@ -81,8 +81,8 @@ impl<'a> Waiting<'a> {
 pub(crate) struct OwnedWaiting {
     /// The number of its message.
     pub at: u32,
-    /// The mark that the session had when it came.
-    pub mark: u32,
+    /// The tag that the session had when it came.
+    pub tag: u32,
     /// Its unique.
     pub unique: u64,
     /// Its message.
@@ -100,7 +100,7 @@ impl OwnedWaiting {
     {
         Waiting {
             at: self.at,
-            mark: self.mark,
+            tag: self.tag,
             unique: self.unique,
             bytes: self.bytes.as_slice(),
         }

@@ -289,7 +289,7 @@ fn refused_in_reverse(alloc: Global) -> Sample {
     sample
 }
 
-/// What is seen of the message with this number in such a session. Message 1,002 answers the last request, 1,001, whose mark is
+/// What is seen of the message with this number in such a session. Message 1,002 answers the last request, 1,001, whose tag is
 /// 1,002.
 fn seen_in_reverse(number: u32) -> (Told, u64, u64, i32, u32) {
     let asked = if number < 1002 {
@@ -318,13 +318,13 @@ fn many_requests_answered_in_reverse(rt: HostRuntime) {
     let seen = seen_of_each(rt.alloc(), refused_in_reverse(rt.alloc())).expect(&rt, "memory");
     assert_eq!(rt; seen.len(), 2002);
     for (number, seen) in (0..2002).zip(&seen) {
-        let found = (seen.told, seen.unique, seen.node, seen.error, seen.mark);
+        let found = (seen.told, seen.unique, seen.node, seen.error, seen.tag);
         assert!(rt; found == seen_in_reverse(number), "message {number}");
     }
 }
 
 #[test]
-fn marks_outlast_a_session_that_is_put_aside(rt: HostRuntime) {
+fn tags_outlast_a_session_that_is_put_aside(rt: HostRuntime) {
     let sample = Sample::new(rt.alloc())
         .init(2)
         .init_answer(2)
@@ -334,7 +334,7 @@ fn marks_outlast_a_session_that_is_put_aside(rt: HostRuntime) {
         .error(4, ENOENT);
     let seen = seen_of_each_apart(rt.alloc(), sample).expect(&rt, "memory");
     // INIT is the first message that is handed in, the LOOKUPs the third and the fourth.
-    assert!(rt; seen.iter().map(|seen| seen.mark).eq([0, 1, 0, 0, 4, 3]));
+    assert!(rt; seen.iter().map(|seen| seen.tag).eq([0, 1, 0, 0, 4, 3]));
 }
 
 static INIT: &[u8; 56] = b"\x38\0\0\0\x1a\0\0\0\x02\0\0\0\0\0\0\0\0\0\0\0\0\0\0\0\

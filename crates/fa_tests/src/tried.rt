@@ -26,7 +26,7 @@ pub enum Told {
 }
 
 /// What a session tells of a message, and the flags that are settled then. Of a request or its reply also the request's
-/// unique and node, the error of a refusal, and of a reply the mark of the request; else these are 0.
+/// unique and node, the error of a refusal, and of a reply the tag of the request; else these are 0.
 #[derive(Clone, Copy, PartialEq, Eq)]
 pub struct Seen {
     pub told: Told,
@@ -34,7 +34,7 @@ pub struct Seen {
     pub unique: u64,
     pub node: u64,
     pub error: i32,
-    pub mark: u32,
+    pub tag: u32,
 }
 
 /// Nothing seen yet.
@@ -44,7 +44,7 @@ pub const UNSEEN: Seen = Seen {
     unique: 0,
     node: 0,
     error: 0,
-    mark: 0,
+    tag: 0,
 };
 
 /// What an event shows.
@@ -59,7 +59,7 @@ fn seen_in(event: &Event<'_>) -> Seen {
         Event::Answered {
             at,
             asked,
-            mark,
+            tag,
             messages,
         } => Seen {
             told: Told::Answered(*at, *asked),
@@ -69,7 +69,7 @@ fn seen_in(event: &Event<'_>) -> Seen {
                 Reply::Refused(error) => *error,
                 _ => 0,
             },
-            mark: *mark,
+            tag: *tag,
             ..UNSEEN
         },
         Event::Notice { at } => Seen {
@@ -96,7 +96,7 @@ impl<'a> Tried<'a> {
         }
     }
 
-    /// Hands in a message, under its place among those that were handed in, counted from 1, as its mark: what the session tells of
+    /// Hands in a message, under its place among those that were handed in, counted from 1, as its tag: what the session tells of
     /// it.
     pub fn hand_in(&mut self, packet: &Packet<'a>) -> Seen
         requires { ShowsAtMost self.old.taken self.old.session }
@@ -106,7 +106,7 @@ impl<'a> Tried<'a> {
             return UNSEEN;
         }
         self.taken += 1;
-        self.session.mark(u32::try_from(self.taken).unwrap_or(0));
+        self.session.set_tag(u32::try_from(self.taken).unwrap_or(0));
         match self.session.accept(packet) {
             Ok(event) => seen_in(&event),
             Err(SessionError::Refused(code)) => Seen {

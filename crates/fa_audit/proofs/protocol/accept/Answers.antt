@@ -11,12 +11,12 @@ use Rattle.fa_audit.proofs.protocol.accept.Goals as goal
 pub returns-in_err-event-clause-refused : goal.returns-in_err-event-clause-refused
 returns-in_err-event-clause-refused c =
     let p = err_from_is_err_and c.from_residual.result c.from_residual.ensures.1 in
-    rw (p.1, p.2) (λ before both few. session_refuses before (message c.args.packet.now) c.in_err-event.field-0.0 (c.in_err-event.ensures.refused before (rw c.mark.ensures both.session)))
+    rw (p.1, p.2) (λ before both few. session_refuses before (message c.args.packet.now) c.in_err-event.field-0.0 (c.in_err-event.ensures.refused before (rw c.set_tag.ensures both.session)))
 
 pub returns-clause-shows : goal.returns-clause-shows
 returns-clause-shows c before both few =
     let m = message c.args.packet.now in
-    let session = subst (λ (marked : PlainSession). Shows before marked) (sym c.mark.ensures) both.session in
+    let session = subst (λ (tagged : PlainSession). Shows before tagged) (sym c.set_tag.ensures) both.session in
     record {
       session = c.in_ok-event.ensures.shows before session;
       ledger = c.in_ok-accept.ensures.shows before m

@@ -22,8 +22,8 @@ returns-clause-some c =
     let items = c.self.inside.rows.items in
     let found = c.in_ok-place.ensures.found in
     let same = row_there items c.in_ok-place.place found.0 c.index.result.now (subst (λ (calls : List PlainCall). slice_get calls c.in_ok-place.place ≡ Some found.0) (sym c.self.view_is) found.1) c.index.ensures in
-    let waiting = c.in_ok-waiting.ensures.some in (
+    let waiting = c.in_ok-waiting.ensures in (
       found.0,
-      record { there = found.1; numbered = found.2; unanswered = rw same waiting.0 },
-      rw same waiting.1,
+      record { there = found.1; numbered = found.2; unanswered = rw same waiting.unanswered },
+      rw same waiting.known,
     )

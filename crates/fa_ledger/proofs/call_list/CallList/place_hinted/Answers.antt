@@ -5,14 +5,14 @@ use Rattle.fa_ledger.specs.declared.row.Row.{Row}
 use Rattle.fa_ledger.specs.Calls.{PlainCall}
 use Rattle.fa_ledger.specs.parts.RowParts.{row_shown}
 use Rattle.fa_ledger.proofs.CallListLemmas.{shown_at}
-use Rattle.fa_ledger.proofs.call_list.CallList.place_near.Goals as goal
+use Rattle.fa_ledger.proofs.call_list.CallList.place_hinted.Goals as goal
 
 pub returns-in-Some-clause-found : goal.returns-in-Some-clause-found
 returns-in-Some-clause-found c =
     let row = c.in-Some.row.now in
-    let there = shown_at c.deref.result.now c.args.near row c.in-Some.ensures.lookup.1 c.in-Some.ensures.lookup.3.0 in (
+    let there = shown_at c.deref.result.now c.args.hint row c.in-Some.ensures.lookup.1 c.in-Some.ensures.lookup.3.0 in (
       row_shown row,
-      subst (λ (calls : List PlainCall). slice_get calls c.args.near ≡ Some (row_shown row)) c.self.view_is
-          (subst (λ (rows : List Row). slice_get (map row_shown rows) c.args.near ≡ Some (row_shown row)) c.deref.ensures.value there),
+      subst (λ (calls : List PlainCall). slice_get calls c.args.hint ≡ Some (row_shown row)) c.self.view_is
+          (subst (λ (rows : List Row). slice_get (map row_shown rows) c.args.hint ≡ Some (row_shown row)) c.deref.ensures.value there),
       grind (arith, nat_tests, c.if-row-at.true),
     )
