@@ -155,7 +155,7 @@ pub fn reply_body<'a>(asked: &Request<'_>, p: &Packet<'a>) -> Result<Reply<'a>, 
     said(asked, header.error, body).ok_or(codes::REPLY_BODY)
 }
 
-/// The reply to a request that a message is known to be: [`reply_body`] told it before.
+/// The reply to a request that a message is known to be, as where [`reply_body`] answered `Ok`.
 ///
 /// Takes no memory. The time is constant: the entries of a listing are not looked at.
 pub fn known_reply<'a>(asked: &Request<'_>, p: &Packet<'a>) -> Reply<'a>

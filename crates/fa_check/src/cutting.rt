@@ -27,8 +27,8 @@ use std::alloc::{AllocError, Global};
 ///
 /// # Cost
 ///
-/// Memory for the entries that are left. Time linear in the entries, with a logarithm of the calls for each, and in the names
-/// and listings of the messages of those whose requests were answered later.
+/// Memory for the entries that are left. Time linear in the entries, with a logarithm of the calls for each, and that of
+/// [`Call::operation`](fa_ledger::Call::operation) for those whose requests were answered later.
 pub fn cut(
     alloc: Global,
     calls: &Calls<'_>,

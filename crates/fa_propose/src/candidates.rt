@@ -123,8 +123,8 @@ impl Candidates {
     }
 }
 
-/// Puts an entry into the map of the others: apart from `insert`, which so clears no room for what the map answers. An error says
-/// that memory was refused, and nothing is changed.
+/// Puts an entry into the map of the others. An error says that memory was refused, and nothing is changed.
+// It is kept out of `insert`, so that where no map is asked no room is made for what one answers.
 #[inline(never)]
 fn insert_other(
     others: &mut BTreeMap<Rank, Entry>,

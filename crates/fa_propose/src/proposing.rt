@@ -35,9 +35,9 @@ pub const MAX_TRIED: usize = 64;
 /// # Cost
 ///
 /// Memory for a byte a message, for a byte, a rank and an entry a call, and for what the steps take, along one
-/// [`Replay`](fa_tree::Replay). Time linear in the messages, with a logarithm of the calls for each call and each try, and in the
-/// names and listings of answered calls, which are read for their ranks, beside the steps that are tried: at most [`MAX_TRIED`] at
-/// a place. Those that are refused are tried again at the next.
+/// [`Replay`](fa_tree::Replay). Time linear in the messages, with a logarithm of the calls for each call and each try, and that of
+/// [`Call::operation`](fa_ledger::Call::operation) for each answered call, which is read for its rank, beside the steps that are
+/// tried: at most [`MAX_TRIED`] at a place. Those that are refused are tried again at the next.
 pub fn propose(alloc: Global, calls: &Calls<'_>, tree: Tree) -> Result<Vec<Entry>, AllocError>
     ensures { IfOk result (λ order. (c : List Message) → AreMessagesOf calls.now c → IsProposal c tree order.items) }
 {

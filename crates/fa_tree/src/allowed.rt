@@ -29,8 +29,8 @@ impl Tree {
     ///
     /// None where the tree knows no file for a node that the call names, or no open directory for its handle.
     ///
-    /// Takes no memory. Time in the bytes of the names of the call, which are looked up; where a directory is moved, time in the
-    /// directories on the way up too.
+    /// Takes no memory. Time in the bytes of the names of the call, which are looked up, and that of
+    /// [`Call::operation`](fa_ledger::Call::operation); where a directory is moved, time in the directories on the way up too.
     pub fn allows_success(&self, calls: &Calls<'_>, k: usize) -> Option<bool>
         requires { k < length calls.now.list }
         ensures known { IfSome result (λ allowed. OfCallAt calls.now.list k (λ call. OfRule self.now call (λ rule. IsTrue allowed ↔ rule.needs))) }
@@ -51,7 +51,8 @@ impl Tree {
     ///
     /// None where the tree knows no file for a node that the call names, or no open directory for its handle.
     ///
-    /// Takes no memory. Time in the bytes of the names of the call, which are looked up.
+    /// Takes no memory. Time in the bytes of the names of the call, which are looked up, and that of
+    /// [`Call::operation`](fa_ledger::Call::operation).
     pub fn gives_cause(&self, calls: &Calls<'_>, k: usize, error: i32) -> Option<bool>
         requires { k < length calls.now.list }
         ensures known { IfSome result (λ gives. OfCallAt calls.now.list k (λ call. OfRule self.now call (λ rule. IsTrue gives ↔ HasCause rule error))) }
