@@ -1,6 +1,6 @@
 -- Names that came into a directory after it was opened: what is known of each opening stays as names come and go.
-use Rattle.std.proofs.Common.{◌≡◌, ℕ, ◌<◌, ◌≤◌, Bool, true, false, cond, List, [], ◌∷◌, ◌++◌, length, take, get_or, Option, None, Some, refl, sym, ap, subst, ◌∙◌, inl, inr, arith}
-use Rattle.std.specs.Prelude.{All, Vec, nat_lt, slice_get, option_map}
+use Rattle.std.proofs.Common.{◌≡◌, ℕ, ◌<◌, ◌≤◌, Bool, true, false, cond, List, [], ◌∷◌, ◌++◌, length, take, get_or, Option, None, Some, Result, Ok, Err, refl, sym, ap, subst, ◌∙◌, inl, inr, arith}
+use Rattle.std.specs.Prelude.{All, Vec, nat_lt, slice_get, option_map, OnOk, OnErr}
 use Rattle.std.specs.Option.{option_and_then}
 use Rattle.std.specs.Ordering.{eq_by_cmp}
 use Rattle.std.specs.declared.alloc.Global.{Global}
@@ -19,9 +19,10 @@ use Rattle.fa_tree.specs.State as state
 use Rattle.fa_tree.specs.State.{file_eq, place_cmp}
 use Rattle.fa_tree.specs.parts.BirthParts.{HasNotStayed, places_of, NoneStayedBehind, AreOldPlaces, AreSamePlaces, ArePlacesKept}
 use Rattle.fa_tree.specs.parts.MemberParts.{members_of}
-use Rattle.fa_tree.specs.parts.NameViews.{has_stayed}
+use Rattle.fa_tree.specs.parts.NameViews.{has_stayed, AreStampsWithin}
 use Rattle.fa_tree.specs.parts.PlaceLaws.{place_cmp_total}
 use Rattle.fa_tree.specs.parts.SlotParts.{slot_at, gone_at, IsChangedAt, HaveSameSlots}
+use Rattle.fa_tree.proofs.ViewLemmas.{within_put}
 
 -- ---- slots of names that came later
 
@@ -109,3 +110,22 @@ all_from_first P xs n first rest k d within = elim (cases_lt k n) [
   | inl early ↦ subst P (get_or-take n xs k d early) (first k d (let long = length-take n xs in omega (arith, long, early, within)))
   | inr late ↦ rest k (get_or xs k d) late (slice_get-get_or xs k d within)
 ]
+
+-- ---- a name is put
+
+-- stamps count openings that there are, and behind the places that an opening noted none has stayed
+abbrev pub AreKnownSince : List (Place × Slot) → List (FileId × Vec ℕ Global) → List Opening → Type 0
+AreKnownSince slots table openings = AreStampsWithin (length openings) slots × AreOldPlaces slots table openings
+
+-- that stays so, whether the name is put or memory was refused
+pub births_put : {A E : Type 0} (r : Result A E) (old new : List (Place × Slot)) (before after : List (FileId × Vec ℕ Global)) (place : state.Place) (file : FileId) (born : ℕ) (openings : List Opening)
+    → born ≡ length openings → OnOk r (IsChangedAt place (λ _. Some (There file born)) old new) → OnOk r (ArePlacesKept place old before new after)
+    → OnErr r (AreSamePlaces old before new after) → OnErr r (new ≡ old) → AreKnownSince old before openings → AreKnownSince new after openings
+births_put (Ok v) old new before after place file born openings count wrote kept same stays known = (
+  within_put _ old new place file born count wrote known.0,
+  opened_kept old new before after place (λ _. Some (There file born)) kept wrote openings (λ at less slot. born_later at born file (omega (arith, less, count))) known.1,
+)
+births_put (Err e) old new before after place file born openings count wrote kept same stays known = (
+  subst (AreStampsWithin (length openings)) (sym stays) known.0,
+  opened_alike old new before after openings same (λ q. ap (λ slots. slot_at slots q) stays) known.1,
+)

@@ -17,38 +17,13 @@ use Rattle.fa_tree.specs.State.{place_cmp}
 use Rattle.fa_tree.specs.declared.open.Opening.{Opening}
 use Rattle.fa_tree.specs.declared.slots.Place.{Place}
 use Rattle.fa_tree.specs.declared.slots.Slot.{Slot}
-use Rattle.fa_tree.specs.declared.holders.Holder.{Holder}
-use Rattle.fa_tree.specs.declared.holders.Holders.{Holders}
 use Rattle.fa_tree.specs.parts.PlaceLaws.{place_cmp_total, places_apart, names_apart}
 use Rattle.fa_tree.specs.parts.BirthParts.{places_of}
 use Rattle.fa_tree.specs.parts.SlotParts.{place_of, file_in, names_shown, HaveSameSlots}
 use Rattle.fa_tree.specs.parts.MemberParts.{members_of, AreMembers}
-use Rattle.fa_tree.specs.parts.HolderParts.{entry_of, listed, tabled, AreCounted}
 use Rattle.fa_tree.specs.parts.NameViews.{was_since, has_stayed, since_shown, stayed_shown, open_shown, handles_shown, shown}
 use Rattle.fa_tree.proofs.NameLemmas.{get-names_shown, get-stayed_shown, contains-since_shown}
 use Rattle.fa_tree.proofs.ViewLemmas.{handles_changed}
-
--- ---- entries of maps
-
--- where their keys and their values are the same, the entries are
-pub entries_same : {K X : Type 0} (es fs : List (K × X)) → AllZip (λ p q. (q.0 ≡ p.0) × (q.1 ≡ p.1)) es fs → fs ≡ es
-entries_same es fs alike = same_from_all_zip _ es fs alike (λ p q same i. (same.0 i, same.1 i))
-
--- ---- what is counted of files
-
-pub entry_alike : (new old : Holders) → new.list.items ≡ old.list.items → new.table.entries ≡ old.table.entries → (file : FileId) → entry_of new file ≡ entry_of old file
-unfolding entry_of
-entry_alike new old list table file = λ i. option_or (listed (list i) file) (tabled (table i) file)
-
--- the same counts are right of the same names
-pub counted_alike : (names other : FinMap place_cmp FileId) (new old : FileId → Holder) → names ≡ other → ((file : FileId) → new file ≡ old file)
-    → AreCounted other old → AreCounted names new
-counted_alike names other new old is same counted =
-    subst (λ ns. AreCounted ns new) (sym is)
-    (record {
-      links = λ file. ap (λ h. h.links) (same file) ∙ counted.links file;
-      inside = λ directory. ap (λ h. h.inside) (same directory) ∙ counted.inside directory;
-    })
 
 -- ---- the indexes of places
 

@@ -6,11 +6,10 @@ pub mod ChangeLemmas
 pub mod ChangedLemmas
 pub mod ContentsLemmas
 pub mod CopyLemmas
+pub mod CountLemmas
 pub mod EditedLemmas
-pub mod EntryLemmas
 pub mod ExchangeLemmas
 pub mod FileLemmas
-pub mod HolderLemmas
 pub mod JudgeLemmas
 pub mod JudgingLemmas
 pub mod KeptLemmas

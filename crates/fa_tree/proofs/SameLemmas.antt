@@ -20,7 +20,7 @@ use Rattle.fa_ledger.specs.contracts.name.NodeNamePartialEq.TheImpl as same_name
 use Rattle.fa_ledger.specs.declared.name.NodeName.{NodeName}
 use Rattle.fa_tree.specs.declared.id.FileId.{FileId}
 use Rattle.fa_tree.specs.contracts.id.FileIdPartialEq.TheImpl as same_id
-use Rattle.fa_tree.specs.declared.file as declared
+use Rattle.fa_tree.specs.declared.files.CountedFile.{CountedFile}
 use Rattle.fa_tree.specs.declared.open.Opening.{Opening}
 use Rattle.fa_tree.specs.declared.slots.Place.{Place}
 use Rattle.fa_tree.specs.declared.slots.Slot.{Slot}
@@ -84,14 +84,14 @@ within_both {K} {X} total apart m n there back = same_map total apart m n (λ q.
 
 -- ---- files, nodes and names
 
-pub files_within : (table : List (FileId × declared.File.File)) (others : FinMap file_cmp state.File)
-    → All (λ e. map.get others e.0 ≡ Some (file_shown e.1)) table → IsMapWithin (files_shown table) others
+pub files_within : (table : List (FileId × CountedFile)) (others : FinMap file_cmp state.File)
+    → All (λ e. map.get others e.0 ≡ Some (file_shown e.1.file)) table → IsMapWithin (files_shown table) others
 files_within table others all key x there = by (lookup (same_id.eq-value.it key) table) refl (sym (get_files table key) ∙ there)
   where
-    by : (found : Option declared.File.File) → lookup (same_id.eq-value.it key) table ≡ found → option_map file_shown found ≡ Some x → map.get others key ≡ Some x
+    by : (found : Option CountedFile) → lookup (same_id.eq-value.it key) table ≡ found → option_map (λ (e : CountedFile). file_shown e.file) found ≡ Some x → map.get others key ≡ Some x
     by None was is = absurd (let clash : None ≡ Some x = is in cc)
     by (Some f) was is =
-        let at = found_among (λ e. map.get others e.0 ≡ Some (file_shown e.1)) (same_id.eq-value.it key) table all f was in
+        let at = found_among (λ e. map.get others e.0 ≡ Some (file_shown e.1.file)) (same_id.eq-value.it key) table all f was in
         ap (map.get others) (same_equal key at.0 at.1) ∙ at.2 ∙ is
 
 pub nodes_within : (table : List (NodeName × FileId)) (others : FinMap node_cmp FileId)

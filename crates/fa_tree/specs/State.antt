@@ -1,11 +1,13 @@
 -- The tree: which file each name of a directory is, what each file is, which file each node name stands for, and the
 -- directories that are open.
-use Rattle.std.specs.Prelude.{◌≡◌, ◌⊎◌, ℕ, Bool, List, count_by, Option, Some, None}
+use Rattle.std.specs.Prelude.{◌≡◌, ◌⊎◌, ◌+◌, ◌*◌, ℕ, Bool, List, count_by, Option, Some, None}
 use Rattle.std.specs.Ordering.{nat_cmp, ordering_then, eq_by_cmp}
 use Rattle.std.specs.Cmp.Lexicographic.{slice_cmp}
 use Rattle.std.specs.declared.cmp.Ordering.{Ordering}
 use Rattle.std.specs.declared.cmp.Ordering.TheVariants.{Less, Equal, Greater}
 use Rattle.std.specs.FinMap.{FinMap, get, entries}
+use Rattle.std.specs.Hash as fed
+use Rattle.std.specs.Hash.{HashWrites}
 use Rattle.std.specs.FinSet.{FinSet}
 use Rattle.fa_bodies.specs.declared.mode.Kind.{Kind}
 use Rattle.fa_bodies.specs.declared.mode.Kind.TheVariants.{Directory, Regular, Symlink}
@@ -28,6 +30,15 @@ abbrev pub file_pair : FileId → ℕ × ℕ
 file_pair file_id.Root = (0, 0)
 file_pair (file_id.Added n) = (1, n)
 file_pair (file_id.Made asked) = (2, asked)
+
+-- a number for each file, and no two have one; it is what a file feeds a hasher
+abbrev pub file_number : FileId → ℕ
+file_number file_id.Root = 0
+file_number (file_id.Added n) = n * 4 + 1
+file_number (file_id.Made asked) = asked * 4 + 2
+
+abbrev pub file_fed : FileId → HashWrites
+file_fed f = fed.u64 (file_number f)
 
 abbrev pub file_cmp : FileId → FileId → Ordering
 file_cmp a b = ordering_then (nat_cmp (file_pair a).0 (file_pair b).0) (nat_cmp (file_pair a).1 (file_pair b).1)

@@ -11,7 +11,7 @@ pub mod MemberParts
 pub mod NameParts
 pub mod NameViews
 -- what is counted of files
-pub mod HolderParts
+pub mod CountParts
 -- what is within another
 pub mod SameParts
 -- openings, and open directories; names that came later

@@ -90,7 +90,10 @@ impl Stored {
         requires { MayBeUnlinked self.old.store directory name.now }
         ensures { self.new ≡ stored_edited (Removed directory name.now ∷ []) self.old }
     {
-        self.names.remove(directory, name);
+        match self.names.remove(directory, name) {
+            Some(file) => self.files.count_removed(directory, file),
+            None => {}
+        }
     }
 
     /// Takes the name of a directory away, if it is there.
@@ -98,7 +101,10 @@ impl Stored {
         ensures { self.new ≡ stored_edited (Removed directory name.now ∷ []) self.old }
     {
         match self.names.remove(directory, name) {
-            Some(file) => self.parents.remove(file),
+            Some(file) => {
+                self.files.count_removed(directory, file);
+                self.parents.remove(file);
+            }
             None => {}
         }
     }
@@ -120,8 +126,12 @@ impl Stored {
             None => Ok(()),
             Some(file) if taken == Some(file) => Ok(()),
             Some(file) => {
+                // For the clause that names are few, as in `link`.
+                let _ = self.names.places();
                 self.names
                     .rename(old_directory, old_name, new_directory, new_name, file)?;
+                self.files
+                    .count_moved(old_directory, new_directory, file, taken);
                 if let Some(other) = taken {
                     self.parents.remove(other);
                 }

@@ -9,7 +9,8 @@ pub enum StepError {
     /// The tree does not allow it: the code of the first check that fails, one of [`codes`](fa_capture::codes).
     #[error("not allowed, by code {0}")]
     Refused(u16),
-    /// Memory for a file, its bytes, a name, a node or an open directory, or for what was listed so far, was refused.
+    /// Memory for a file, its bytes, a name, a node or an open directory, or for what was listed so far, was refused; or a file was to be
+    /// put in by name where there are 2^32.
     #[error("out of memory")]
     Memory,
 }

@@ -85,10 +85,10 @@ impl Stored {
     {
         match self.files.get(file) {
             Some(there) => Some(Facts {
-                kind: there.kind,
-                bits: there.bits,
-                size: there.contents.len(),
-                links: self.links(file),
+                kind: there.file.kind,
+                bits: there.file.bits,
+                size: there.file.contents.len(),
+                links: there.counts.links,
                 further: false,
             }),
             None => None,
@@ -307,7 +307,7 @@ impl Stored {
         ensures { IsTrue result ↔ IsTargetOf self.now.store file target.now }
     {
         match self.files.get(file) {
-            Some(there) => there.contents.is(target),
+            Some(there) => there.file.contents.is(target),
             None => false,
         }
     }
@@ -317,7 +317,7 @@ impl Stored {
         ensures { IsTrue result ↔ IsReadFrom self.now.store file direct offset size given.now }
     {
         match self.files.get(file) {
-            Some(there) => there.contents.is_read(direct, offset, size, given),
+            Some(there) => there.file.contents.is_read(direct, offset, size, given),
             None => false,
         }
     }

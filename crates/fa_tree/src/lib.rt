@@ -13,7 +13,6 @@ mod facts;
 mod far_pages;
 mod file;
 mod files;
-mod holders;
 mod id;
 mod in_use;
 mod judging;

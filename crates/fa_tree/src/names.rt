@@ -1,12 +1,13 @@
 //! Which file each name of a directory is, and the directories that are open.
 
-ghost use Rattle.std.specs.Prelude.{◌≡◌, ◌≢◌, ◌↔◌, ◌∷◌, [], ℕ, List, count_by, IsTrue, Some, None, IfSome, IfNone, IfOk, OnOk, OnErr};
+ghost use Rattle.std.specs.Prelude.{◌≡◌, ◌≢◌, ◌<◌, ◌≤◌, ◌^◌, ◌∷◌, [], ℕ, IsTrue, Some, None, IfSome, IfNone, IfOk, OnOk, OnErr};
+ghost use Rattle.std.specs.FinMap as map;
 ghost use Rattle.fa_tree.specs.declared.id.FileId.{FileId};
-ghost use Rattle.std.specs.FinMap.{get, entries};
+ghost use Rattle.std.specs.FinMap.{get};
 ghost use Rattle.std.specs.Option.{option_map};
 ghost use Rattle.std.specs.declared.cmp.Ordering.TheVariants.{Greater};
 ghost use Rattle.fa_tree.specs.State as state;
-ghost use Rattle.fa_tree.specs.State.{file_eq, place_cmp};
+ghost use Rattle.fa_tree.specs.State.{place_cmp};
 ghost use Rattle.fa_tree.specs.Alike.{IsInUse};
 ghost use Rattle.fa_tree.specs.Edits.Edit.{Added, Removed};
 ghost use Rattle.fa_tree.specs.Renaming.{moved, exchanged};
@@ -14,7 +15,6 @@ ghost use Rattle.fa_tree.specs.parts.NameParts.{NamesShown, no_names, edited, op
 ghost use Rattle.fa_tree.specs.parts.OpenParts.{open_of};
 
 use crate::digest::digest_of;
-use crate::holders::Holders;
 use crate::id::FileId;
 use crate::in_use::InUse;
 use crate::open::{Opening, Openings};
@@ -27,16 +27,13 @@ use std::marker::Model;
 /// The names of directories, with their files, and the directories that are open, with what was in them since then.
 ///
 /// Of the names of a directory that is open nothing is copied: each name has the number of openings before it came, or
-/// before it went, and each opening is told by its number. How many names a file has, and how many are in a directory is
-/// kept as names come and go, and not looked for among all places.
+/// before it went, and each opening is told by its number.
 #[derive(Drop)]
 pub(crate) struct Names {
     /// For each place that ever had a name what is there.
     slots: Slots,
     /// All openings.
     openings: Openings,
-    /// What is counted of each file.
-    holders: Holders,
 }
 
 impl Model for Names {
@@ -48,15 +45,13 @@ impl Model for Names {
     ghost coded = { names_code };
 
     ghost use Rattle.std.specs.Prelude.{length};
-    ghost use Rattle.fa_tree.specs.parts.SlotParts.{names_shown};
     ghost use Rattle.fa_tree.specs.parts.NameViews.{shown, AreStampsWithin};
-    ghost use Rattle.fa_tree.specs.parts.HolderParts.{held, AreCounted};
 
     ghost view = { λ n. shown n.slots.table.entries n.openings };
 
     ghost use Rattle.fa_tree.specs.parts.BirthParts.{AreOldPlaces};
 
-    ghost invariant = { λ n. AreStampsWithin (length n.openings) n.slots.table.entries × AreCounted (names_shown n.slots.table.entries) (held n.holders) × AreOldPlaces n.slots.table.entries n.slots.members.table.entries n.openings };
+    ghost invariant = { λ n. AreStampsWithin (length n.openings) n.slots.table.entries × AreOldPlaces n.slots.table.entries n.slots.members.table.entries n.openings };
 }
 
 impl Names {
@@ -69,7 +64,6 @@ impl Names {
         Names {
             slots: Slots::new(alloc, seed),
             openings: Openings::new(alloc, seed),
-            holders: Holders::new(alloc, seed),
         }
     }
 
@@ -79,13 +73,8 @@ impl Names {
         ensures { IfOk result (λ names. names ≡ self.now) }
     {
         let openings = self.openings.copy()?;
-        let holders = self.holders.copy()?;
         let slots = self.slots.copy()?;
-        Ok(Names {
-            slots,
-            openings,
-            holders,
-        })
+        Ok(Names { slots, openings })
     }
 
     /// The file that a name in a directory is for, if it is there.
@@ -144,46 +133,17 @@ impl Names {
 
     /// About so many bytes of memory are taken. Time in the places.
     pub fn weight(&self) -> u64 {
-        self.slots
-            .weight()
-            .saturating_add(self.openings.weight())
-            .saturating_add(self.holders.weight())
+        self.slots.weight().saturating_add(self.openings.weight())
     }
 
-    /// Whether a directory has no name.
+    /// How many places ever had a name.
     ///
-    /// Takes no memory, in expected constant time.
-    pub fn is_empty(&self, directory: FileId) -> bool
-        ensures { IsTrue result ↔ ((name : List ℕ) → get self.now.names (directory, name) ≡ None) }
+    /// Takes no memory, in constant time.
+    pub fn places(&self) -> usize
+        ensures most { map.len self.now.names ≤ result }
+        ensures few { result < 2 ^ 63 }
     {
-        self.holders.get(directory).inside == 0
-    }
-
-    /// Whether a file has a name.
-    ///
-    /// Takes no memory, in expected constant time.
-    pub fn is_named(&self, file: FileId) -> bool
-        ensures { IsTrue result ↔ ((directory : FileId) × (name : List ℕ) × (get self.now.names (directory, name) ≡ Some file)) }
-    {
-        self.holders.get(file).links != 0
-    }
-
-    /// How many names a file has.
-    ///
-    /// Takes no memory, in expected constant time.
-    pub fn links(&self, file: FileId) -> usize
-        ensures { result ≡ count_by (λ entry. file_eq entry.1 file) (entries self.now.names) }
-    {
-        self.holders.get(file).links
-    }
-
-    /// How many names are in a directory.
-    ///
-    /// Takes no memory, in expected constant time.
-    pub fn inside(&self, directory: FileId) -> usize
-        ensures { result ≡ count_by (λ entry. file_eq entry.0.0 directory) (entries self.now.names) }
-    {
-        self.holders.get(directory).inside
+        self.slots.len()
     }
 
     /// The least place that has a name for a file, if one has: in the order of directories, and in a directory of names.
@@ -203,30 +163,15 @@ impl Names {
     /// Puts a name into a directory, for a file. A name that is there already is another's from then on. An error says that
     /// memory was refused, and nothing is changed.
     ///
-    /// Takes no memory where the directory ever had the name and the file one, and copies the name where it is new. Expected
-    /// constant time but for reading the name and for growing.
+    /// Takes no memory where the directory ever had the name, and copies it where it is new. Expected constant time but for reading
+    /// the name and for growing.
     pub fn put(&mut self, directory: FileId, name: &[u8], file: FileId) -> Result<(), AllocError>
         ensures put { OnOk result (self.new ≡ edited (Removed directory name.now ∷ Added directory name.now file ∷ []) self.old) }
         ensures unchanged { OnErr result (self.new ≡ self.old) }
     {
         let born = self.openings.len();
-        // `len` is called for its clause that slots are few, so that no count of names is too large.
-        let _ = self.slots.len();
-        self.holders.make_room_for(directory, file)?;
-        match self.slots.insert(directory, name, file, born) {
-            Ok(old) => {
-                self.holders.put(directory, old, file);
-                if let Some(old) = old {
-                    self.holders.forget(old);
-                }
-                Ok(())
-            }
-            Err(error) => {
-                self.holders.forget(file);
-                self.holders.forget(directory);
-                Err(error)
-            }
-        }
+        self.slots.insert(directory, name, file, born)?;
+        Ok(())
     }
 
     /// Puts a name into a directory that has none like it, for a file. An error says that memory was refused, and nothing is
@@ -239,40 +184,18 @@ impl Names {
         ensures unchanged { OnErr result (self.new ≡ self.old) }
     {
         let born = self.openings.len();
-        // `len` is called for its clause that slots are few, as in `put`.
-        let _ = self.slots.len();
-        self.holders.make_room_for(directory, file)?;
-        match self.slots.insert_free(directory, name, file, born) {
-            Ok(()) => {
-                self.holders.put(directory, None, file);
-                Ok(())
-            }
-            Err(error) => {
-                self.holders.forget(file);
-                self.holders.forget(directory);
-                Err(error)
-            }
-        }
+        self.slots.insert_free(directory, name, file, born)
     }
 
     /// Takes a name out of a directory, and answers the file that it was for, if it is there.
     ///
-    /// Takes no memory, and what is counted of the file goes with its last name; the place stays. Expected constant time but for
-    /// reading the name.
+    /// Takes no memory, and the place stays. Expected constant time but for reading the name.
     pub fn remove(&mut self, directory: FileId, name: &[u8]) -> Option<FileId>
         ensures file { result ≡ get self.old.names (directory, name.now) }
         ensures gone { self.new ≡ edited (Removed directory name.now ∷ []) self.old }
     {
         let at = self.openings.len();
-        let old = self.slots.remove(directory, name, at);
-        match old {
-            Some(file) => {
-                self.holders.remove(directory, file);
-                self.holders.forget(file);
-                Some(file)
-            }
-            None => None,
-        }
+        self.slots.remove(directory, name, at)
     }
 
     /// Moves the name of a file to another place. A name that is there already is the file's from then on. An error says that
@@ -317,12 +240,8 @@ impl Names {
         let _ = &self.slots;
         if other != file {
             let born = self.openings.len();
-            // `len` is called for its clause that slots are few, as in `put`.
-            let _ = self.slots.len();
             self.slots.replace(old_directory, old_name, other, born);
             self.slots.replace(new_directory, new_name, file, born);
-            self.holders.put(old_directory, Some(file), other);
-            self.holders.put(new_directory, Some(other), file);
         }
     }
 

@@ -16,7 +16,7 @@ use indexmap::IndexMap;
 use std::alloc::{AllocError, Global};
 
 /// An entry of the table takes about so many bytes.
-const NODE_WEIGHT: u64 = 64;
+const NODE_WEIGHT: u64 = 56;
 
 /// The files that names of nodes stand for.
 #[derive(Drop)]

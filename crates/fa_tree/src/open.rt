@@ -28,7 +28,7 @@ use std::alloc::{AllocError, Global};
 use std::marker::Model;
 
 /// An opening takes about so many bytes, with its place in the list.
-const OPENING_WEIGHT: u64 = 64;
+const OPENING_WEIGHT: u64 = 56;
 
 /// The opening of a directory, by the request of this number.
 #[derive(Clone, Copy)]

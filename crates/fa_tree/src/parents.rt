@@ -14,7 +14,7 @@ use indexmap::IndexMap;
 use std::alloc::{AllocError, Global};
 
 /// An entry of the table takes about so many bytes.
-const PARENT_WEIGHT: u64 = 72;
+const PARENT_WEIGHT: u64 = 56;
 
 /// The directory that a directory is in, and a hint for the next step up: where the entry of that one stood in the table when this was
 /// noted. It may stand elsewhere by now, or have none, as the root, so no clause speaks of it.

@@ -4,7 +4,7 @@ ghost use Rattle.std.specs.Prelude.{◌≡◌, ◌↔◌, ℕ, List, option_map,
 ghost use Rattle.std.specs.FinMap as map;
 ghost use Rattle.fa_tree.specs.declared.id.FileId.{FileId};
 ghost use Rattle.fa_tree.specs.Building.{IsNonDirectory};
-ghost use Rattle.fa_tree.specs.State.{IsFree, IsParent, IsDirectory, IsRegular, IsSymlink, IsLinked, IsLinkedDirectory, IsEmptyDirectory, IsBelow, links};
+ghost use Rattle.fa_tree.specs.State.{IsFree, IsParent, IsDirectory, IsRegular, IsSymlink, IsLinked, IsLinkedDirectory, IsEmptyDirectory, IsBelow};
 
 use crate::id::FileId;
 use crate::parents::Parent;
@@ -17,7 +17,7 @@ impl Stored {
         ensures { result ≡ option_map (λ f. f.kind) (map.get self.now.store.files file) }
     {
         match self.files.get(file) {
-            Some(file) => Some(file.kind),
+            Some(there) => Some(there.file.kind),
             None => None,
         }
     }
@@ -71,14 +71,14 @@ impl Stored {
     fn has_no_names(&self, directory: FileId) -> bool
         ensures { IsTrue result ↔ ((name : List ℕ) → IsFree self.now.store directory name) }
     {
-        self.names.is_empty(directory)
+        self.files.counts(directory).inside == 0
     }
 
     /// Whether it is the root or has a name. In expected constant time.
     pub(crate) fn is_linked(&self, file: FileId) -> bool
         ensures { IsTrue result ↔ IsLinked self.now.store file }
     {
-        file == self.root() || self.names.is_named(file)
+        file == self.root() || self.files.counts(file).links != 0
     }
 
     /// Whether it is a directory that is linked.
@@ -93,13 +93,6 @@ impl Stored {
         ensures { IsTrue result ↔ IsEmptyDirectory self.now.store file }
     {
         self.is_directory(file) && self.has_no_names(file)
-    }
-
-    /// How many names a file has. In expected constant time.
-    pub(crate) fn links(&self, file: FileId) -> usize
-        ensures { result ≡ links self.now.store file }
-    {
-        self.names.links(file)
     }
 
     /// Whether the directory `below` is below the file `above`.

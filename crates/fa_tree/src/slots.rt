@@ -24,7 +24,7 @@ use std::alloc::{AllocError, Global};
 use std::hash::{Hash, Hasher};
 
 /// A place takes about so many bytes, with its slot and its index among those of its directory, beside those of its name.
-const PLACE_WEIGHT: u64 = 112;
+const PLACE_WEIGHT: u64 = 96;
 
 /// A place: a directory, and a name in it.
 #[derive(Drop, PartialEq, Eq)]

@@ -147,7 +147,11 @@ impl Stored {
         ensures linked { OnOk result (self.new ≡ stored_of (tree_linked (as_tree self.old) directory name.now file)) }
         ensures unchanged { OnErr result (self.new ≡ self.old) }
     {
-        self.names.add(directory, name, file)
+        // The places are counted for the clause that names are few, so that no count of them is too large.
+        let _ = self.names.places();
+        self.names.add(directory, name, file)?;
+        self.files.count_added(directory, file);
+        Ok(())
     }
 
     /// Makes a file in a directory under a name, which is to be known by this.
@@ -165,6 +169,8 @@ impl Stored {
         ensures unchanged { OnErr result (self.new ≡ self.old) }
     {
         let kind = file.kind;
+        // For the clause that names are few, as in `link`.
+        let _ = self.names.places();
         self.files.insert(id, file)?;
         match self.parents.add(id, kind, directory) {
             Ok(()) => {}
@@ -174,7 +180,10 @@ impl Stored {
             }
         }
         match self.names.add(directory, name, id) {
-            Ok(()) => Ok(()),
+            Ok(()) => {
+                self.files.add_inside(directory);
+                Ok(())
+            }
             Err(error) => {
                 self.parents.remove(id);
                 self.files.remove(id);
@@ -183,7 +192,8 @@ impl Stored {
         }
     }
 
-    /// Puts a file into a directory under a name, and answers what it is known by.
+    /// Puts a file into a directory under a name, and answers what it is known by. Where there are 2^32 files, it is as if memory were
+    /// refused.
     pub fn add(&mut self, directory: FileId, name: &[u8], file: File) -> Result<FileId, AllocError>
         requires { MayBeMade self.old.store directory name.now }
         ensures next { IfOk result (λ id. id ≡ next_added (as_tree self.old)) }
@@ -191,7 +201,10 @@ impl Stored {
         ensures added { OnOk result (self.new ≡ stored_of (tree_added (as_tree self.old) directory name.now (file_shown file))) }
         ensures unchanged { OnErr result (self.new ≡ self.old) }
     {
-        let id = FileId::Added(self.files.len());
+        let Ok(number) = u32::try_from(self.files.len()) else {
+            return Err(AllocError);
+        };
+        let id = FileId::Added(number);
         self.make(id, directory, name, file)?;
         Ok(id)
     }

@@ -33,10 +33,10 @@ impl Stored {
     {
         match self.files.get(file) {
             Some(there) => Some(FileFacts {
-                kind: there.kind,
-                bits: there.bits,
-                size: there.contents.len() as u64,
-                names: self.links(file),
+                kind: there.file.kind,
+                bits: there.file.bits,
+                size: there.file.contents.len() as u64,
+                names: there.counts.links,
             }),
             None => None,
         }
@@ -46,7 +46,7 @@ impl Stored {
     fn count_names_in(&self, directory: FileId) -> usize
         ensures { result ≡ names_inside self.now.store directory }
     {
-        self.names.inside(directory)
+        self.files.counts(directory).inside
     }
 
     /// The least place that has a name for a file, if one has.
@@ -62,7 +62,7 @@ impl Stored {
         ensures { result ≡ option_and_then (λ f. slice_get f.bytes offset) (map.get self.now.store.files file) }
     {
         match self.files.get(file) {
-            Some(there) => there.contents.byte(offset),
+            Some(there) => there.file.contents.byte(offset),
             None => None,
         }
     }

@@ -147,7 +147,8 @@ impl Tree {
     /// `Refused` with [`SUCCESS_NOT_ALLOWED`](fa_capture::codes::SUCCESS_NOT_ALLOWED) tells that the parent is no directory or
     /// is not linked, that the name is there or is not permitted, that a file of this type may not have this body (regular
     /// files have any, symbolic links a target, others none), or that the body has more than
-    /// [`MAX_FILE_BYTES`](fa_bodies::MAX_FILE_BYTES) bytes; `Memory` that memory was refused. The tree is then as it was.
+    /// [`MAX_FILE_BYTES`](fa_bodies::MAX_FILE_BYTES) bytes; `Memory` that memory was refused, or that the tree has 2^32 files. The tree
+    /// is then as it was.
     ///
     /// Expected time and memory in the bytes of the name and the body, but for what growing costs.
     pub fn add(

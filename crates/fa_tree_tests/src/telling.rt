@@ -36,7 +36,7 @@ const FILES: &[Added] = &[
 ];
 
 /// A file by its number, the root as 0.
-fn file(number: usize) -> FileId {
+fn file(number: u32) -> FileId {
     if number == 0 {
         FileId::Root
     } else {
@@ -47,10 +47,10 @@ fn file(number: usize) -> FileId {
 /// A file by its number; its type, its permission bits, how many bytes and how many names it has; how many names are in it; and the
 /// number of the least directory that has a name for it, with the least name there.
 type Told = (
-    usize,
+    u32,
     (Kind, u32, u64, usize),
     usize,
-    Option<(usize, &'static [u8])>,
+    Option<(u32, &'static [u8])>,
 );
 
 static FILES_TOLD: [Told; 6] = [
@@ -83,7 +83,7 @@ fn is_told(tree: &Tree, told: &Told) -> bool {
 }
 
 /// The number of a file, an offset, and the byte there.
-static BYTES: [(usize, u64, Option<u8>); 8] = [
+static BYTES: [(u32, u64, Option<u8>); 8] = [
     (2, 0, Some(b'h')),
     (2, 4, Some(b'o')),
     (2, 5, None),
@@ -181,7 +181,7 @@ const OPENED: &[Sent] = &[
 ];
 
 /// A name, whether it was there since the root was opened, and the number of the file that stayed.
-static SINCE: [(&[u8], bool, Option<usize>); 4] = [
+static SINCE: [(&[u8], bool, Option<u32>); 4] = [
     (b"a", true, None),
     (b"b", true, Some(2)),
     (b"c", true, Some(3)),
@@ -189,7 +189,7 @@ static SINCE: [(&[u8], bool, Option<usize>); 4] = [
 ];
 
 /// Whether a name was there, and a file stayed under it, as a row says.
-fn is_since(tree: &Tree, name: &[u8], had: bool, stayed: Option<usize>) -> bool {
+fn is_since(tree: &Tree, name: &[u8], had: bool, stayed: Option<u32>) -> bool {
     let expected = match stayed {
         Some(number) => Some(file(number)),
         None => None,

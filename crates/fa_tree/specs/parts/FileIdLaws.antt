@@ -10,7 +10,7 @@ use Rattle.std.specs.FinMap.{IsAntisymmetric, nat_cmp-IsAntisymmetric}
 use Rattle.fa_tree.specs.declared.id.FileId.{FileId}
 use Rattle.fa_tree.specs.declared.id.FileId.TheVariants.{Root, Added, Made}
 use Rattle.fa_tree.specs.contracts.id.FileIdPartialEq.TheImpl as derived
-use Rattle.fa_tree.specs.State.{file_pair, file_cmp, file_eq}
+use Rattle.fa_tree.specs.State.{file_pair, file_cmp, file_eq, file_number}
 
 -- ---- the order
 
@@ -86,3 +86,17 @@ same_equal a b is = same_file a b (file_ties a b ∙ is)
 
 pub equal_tested : (a b : FileId) → a ≡ b → derived.eq-value.it a b ≡ true
 equal_tested a b is = sym (file_ties a b) ∙ file_tested a b is
+
+-- ---- the number that a file feeds a hasher
+
+-- no two files have one number
+pub number_apart : (a b : FileId) → file_number a ≡ file_number b → a ≡ b
+number_apart Root Root same = refl
+number_apart Root (Added m) same = absurd (omega (arith, same))
+number_apart Root (Made q) same = absurd (omega (arith, same))
+number_apart (Added n) Root same = absurd (omega (arith, same))
+number_apart (Added n) (Added m) same = let one : n ≡ m = omega (arith, same) in ap (λ k. Added k) one
+number_apart (Added n) (Made q) same = absurd (omega (arith, same))
+number_apart (Made p) Root same = absurd (omega (arith, same))
+number_apart (Made p) (Added m) same = absurd (omega (arith, same))
+number_apart (Made p) (Made q) same = let one : p ≡ q = omega (arith, same) in ap (λ k. Made k) one

@@ -1,40 +1,29 @@
-use Rattle.std.proofs.Common.{is_some, sym, ap, ◌∙◌}
+use Rattle.std.proofs.Common.{is_some, refl, sym, ap}
 use Rattle.std.proofs.lemmas.Result.{on_ok_weaker, on_err_weaker}
-use Rattle.fa_tree.specs.declared.file.File.{File}
 use Rattle.fa_tree.specs.Contents.{resized}
-use Rattle.fa_tree.specs.Rules.{with_file}
+use Rattle.fa_tree.specs.declared.files.CountedFile.{CountedFile}
 use Rattle.fa_tree.specs.parts.FileParts.{with_bytes}
-use Rattle.fa_tree.proofs.FileLemmas.{bytes_changed, files_unchanged, files_kept}
+use Rattle.fa_tree.proofs.CountLemmas.{counts_stay, counts_there}
+use Rattle.fa_tree.proofs.FileLemmas.{bytes_changed, files_unchanged, files_kept, with_contents}
 use Rattle.fa_tree.proofs.files.Files.resize.Goals as goal
-use Rattle.fa_tree.proofs.files.Files.resize.Goals.{in-Some, in-None}
 
-pub returns-clause-resized : goal.returns-clause-resized
-returns-clause-resized c =
-    elim c.match-get_mut.branch [
-      | in-Some w ↦
-          let was : File = w.in-Some.file.now in
-          let now : File = record { kind = was.kind; bits = was.bits; contents = w.resize.new.self } in
-          let wrote = (c.get_mut.follows.holds now).3 (ap is_some (sym w.in-Some.ensures.value)) in
-          rw (w.result-is, w.self-inside-is)
-          (on_ok_weaker w.resize.result (λ same.
-          bytes_changed c.self.inside.by_id.entries (c.get_mut.follows.lender now).entries c.args.id was w.resize.new.self (λ bytes. resized bytes c.args.size) (sym w.in-Some.ensures.value) same wrote.0
-          ∙ ap (λ files. with_file files c.args.id (with_bytes (λ bytes. resized bytes c.args.size))) c.self.view_is) w.resize.ensures.resized)
-      | in-None w ↦
-          rw (w.result-is, w.self-inside-is, c.get_mut.follows.holds-at-none)
-          (files_unchanged c.self.inside.by_id.entries c.args.id (with_bytes (λ bytes. resized bytes c.args.size)) (sym w.in-None.ensures.value)
-          ∙ ap (λ files. with_file files c.args.id (with_bytes (λ bytes. resized bytes c.args.size))) c.self.view_is)
-    ]
+pub returns-in-Some : goal.returns-in-Some
+returns-in-Some c =
+    let old = c.args.self.now.by_id.entries in
+    let was : CountedFile = c.in-Some.entry.now in
+    let now : CountedFile = with_contents was c.resize.new.self in
+    let new = (c.get_mut.follows.lender now).entries in
+    let wrote = (c.get_mut.follows.holds now).3 (ap is_some (sym c.in-Some.ensures.value)) in
+    record {
+      resized = on_ok_weaker c.resize.result (λ same. bytes_changed old new c.args.id was c.resize.new.self (λ bytes. resized bytes c.args.size) (sym c.in-Some.ensures.value) same wrote.0) c.resize.ensures.resized;
+      unchanged = on_err_weaker c.resize.result (λ same. files_kept old new c.args.id was c.resize.new.self (sym c.in-Some.ensures.value) same wrote.0) c.resize.ensures.unchanged;
+      counts = counts_stay old new c.args.id now wrote.0 (counts_there old c.args.id was c.in-Some.ensures.value);
+    }
 
-pub returns-clause-unchanged : goal.returns-clause-unchanged
-returns-clause-unchanged c =
-    elim c.match-get_mut.branch [
-      | in-Some w ↦
-          let was : File = w.in-Some.file.now in
-          let now : File = record { kind = was.kind; bits = was.bits; contents = w.resize.new.self } in
-          let wrote = (c.get_mut.follows.holds now).3 (ap is_some (sym w.in-Some.ensures.value)) in
-          rw (w.result-is, w.self-inside-is)
-          (on_err_weaker w.resize.result (λ same.
-          files_kept c.self.inside.by_id.entries (c.get_mut.follows.lender now).entries c.args.id was w.resize.new.self (sym w.in-Some.ensures.value) same wrote.0
-          ∙ c.self.view_is) w.resize.ensures.unchanged)
-      | in-None w ↦ rw (w.result-is) tt
-    ]
+pub returns-in-None : goal.returns-in-None
+returns-in-None c =
+    rw (c.get_mut.follows.holds-at-none) (record {
+      resized = files_unchanged c.args.self.now.by_id.entries c.args.id (with_bytes (λ bytes. resized bytes c.args.size)) (sym c.in-None.ensures.value);
+      unchanged = tt;
+      counts = λ of. refl;
+    })

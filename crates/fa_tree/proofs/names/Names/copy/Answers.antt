@@ -1,11 +1,9 @@
 use Rattle.std.proofs.Common.{length, ap, sym, subst, ◌∙◌}
-use Rattle.std.specs.Option.{unwrap_or}
-use Rattle.fa_tree.specs.parts.HolderParts.{no_holder, held}
-use Rattle.fa_tree.specs.parts.SlotParts.{slot_at, names_shown}
+use Rattle.fa_tree.specs.parts.SlotParts.{slot_at}
 use Rattle.fa_tree.specs.parts.NameViews.{IsStampWithin, shown}
 use Rattle.fa_tree.specs.parts.BirthParts.{AreOldPlaces}
 use Rattle.fa_tree.proofs.BirthLemmas.{opened_alike}
-use Rattle.fa_tree.proofs.CopyLemmas.{counted_alike, names_alike, shown_alike}
+use Rattle.fa_tree.proofs.CopyLemmas.{shown_alike}
 use Rattle.fa_tree.proofs.names.Names.copy.Goals as goal
 
 pub invariant_of-result : goal.invariant_of-result
@@ -15,11 +13,8 @@ invariant_of-result c =
       (λ place.
           subst (λ openings. IsStampWithin (length openings) (slot_at new place)) (sym c.in_ok-openings.ensures)
           (subst (IsStampWithin (length c.self.inside.openings)) (sym (c.in_ok-slots.ensures.slots place)) (c.self.invariant.0 place))),
-      counted_alike (names_shown new) (names_shown old) (held c.in_ok-holders.holders) (held c.self.inside.holders)
-          (names_alike new old c.in_ok-slots.ensures.slots)
-          (λ file. ap (λ e. unwrap_or e no_holder) (c.in_ok-holders.ensures file)) c.self.invariant.1,
       subst (AreOldPlaces new c.in_ok-slots.slots.members.table.entries) (sym c.in_ok-openings.ensures)
-          (opened_alike old new c.self.inside.slots.members.table.entries c.in_ok-slots.slots.members.table.entries c.self.inside.openings c.in_ok-slots.ensures.places c.in_ok-slots.ensures.slots c.self.invariant.2),
+          (opened_alike old new c.self.inside.slots.members.table.entries c.in_ok-slots.slots.members.table.entries c.self.inside.openings c.in_ok-slots.ensures.places c.in_ok-slots.ensures.slots c.self.invariant.1),
     )
 
 pub returns : goal.returns

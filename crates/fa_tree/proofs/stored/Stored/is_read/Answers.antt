@@ -7,6 +7,6 @@ use Rattle.fa_tree.proofs.stored.Stored.is_read.Goals as goal
 
 pub returns-in-Some : goal.returns-in-Some
 returns-in-Some c =
-    let file : File = file_shown c.in-Some.there.now in
+    let file : File = file_shown c.in-Some.there.now.file in
     of_this c.args.self.now.store.files c.args.file file (λ f. IsReadAs c.args.direct (readable f.bytes c.args.offset c.args.size) c.args.given.now) c.is_read.result
-    (file_there (stored_shown c.self.inside) c.args.self.now c.args.file file c.self.view_is c.in-Some.ensures) c.is_read.ensures
+    (file_there (stored_shown c.self.inside) c.args.self.now c.args.file file c.self.view_is c.in-Some.ensures.file) c.is_read.ensures

@@ -7,6 +7,6 @@ use Rattle.fa_tree.proofs.stored.Stored.is_target.Goals as goal
 
 pub returns-in-Some : goal.returns-in-Some
 returns-in-Some c =
-    let file : File = file_shown c.in-Some.there.now in
+    let file : File = file_shown c.in-Some.there.now.file in
     of_this c.args.self.now.store.files c.args.file file (λ f. c.args.target.now ≡ f.bytes) c.is.result
-    (file_there (stored_shown c.self.inside) c.args.self.now c.args.file file c.self.view_is c.in-Some.ensures) c.is.ensures
+    (file_there (stored_shown c.self.inside) c.args.self.now c.args.file file c.self.view_is c.in-Some.ensures.file) c.is.ensures

@@ -1,3 +1,4 @@
+use Rattle.fa_tree.specs.parts.FileParts.{files_shown}
 use Rattle.fa_tree.proofs.ParentLemmas.{names_stay}
 use Rattle.fa_tree.proofs.stored.Stored.open.Goals as goal
 
