@@ -36,11 +36,6 @@ impl Band {
         Some(Band { first, last })
     }
 
-    /// Whether the message of this number has a column.
-    pub fn has(&self, number: u32) -> bool {
-        self.first <= number && number <= self.last
-    }
-
     /// Whether a bar from one message to another has a part here.
     pub fn meets(&self, begins: u32, ends: u32) -> bool
         ensures { IsTrue result ↔ ((begins ≤ self.now.last) × (self.now.first ≤ ends)) }
@@ -100,12 +95,12 @@ impl Band {
 
     /// Where the middle of a mark lies, if its column is here.
     pub fn place_of(&self, mark: &Mark) -> Option<u64> {
-        let column = mark.column();
+        let middle = mark.middle();
+        let column = middle / COLUMN;
         if column < u64::from(self.first) || column > u64::from(self.last) {
             return None;
         }
-        mark.middle()
-            .checked_sub(u64::from(self.first) * COLUMN)?
-            .checked_add(SIDE)
+        let left = u64::from(self.first) * COLUMN;
+        Some(middle.saturating_sub(left).saturating_add(SIDE))
     }
 }

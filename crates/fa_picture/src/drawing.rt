@@ -2,21 +2,20 @@
 
 use crate::escape::{write_content, write_markup};
 use crate::exchanges::Exchanges;
-use crate::fault::Fault;
 use crate::fitting::{Letters, write_fitted};
 use crate::layout::{HEADING_LINE, SIDE, WIDTH};
 use crate::legend::Legend;
-use crate::painting::{Facts, height, paint};
+use crate::painting::{height, paint};
 use crate::palette::write_style;
 use crate::scene::{Scene, Subject};
-use crate::shapes::{Anchor, close_text, length, measure, open_text};
+use crate::shapes::{Anchor, length, measure, open_text};
 use crate::window::View;
 use crate::words::Words;
 use fa_show::Text;
 use std::alloc::{AllocError, Global};
 
 /// Whether a picture says above it what it is of.
-#[derive(Clone, Copy, Debug, PartialEq, Eq)]
+#[derive(Clone, Copy)]
 pub enum Heading {
     /// The line of the verdict, or how many messages there are.
     Verdict,
@@ -47,7 +46,6 @@ impl Heading {
 pub struct Drawing<'a, 'e> {
     exchanges: &'e Exchanges,
     scene: Scene<'a>,
-    fault: Fault,
     has_order: bool,
     words: Words,
 }
@@ -74,7 +72,6 @@ impl<'a, 'e> Drawing<'a, 'e> {
         Ok(Drawing {
             exchanges,
             scene: Scene::of(alloc, subject, exchanges, view)?,
-            fault: subject.fault,
             has_order: !subject.order.is_empty(),
             words: Words::new(alloc)?,
         })
@@ -85,16 +82,18 @@ impl<'a, 'e> Drawing<'a, 'e> {
     ///
     /// Takes no memory, in time linear in the messages that are drawn and in the bars, as often as these have a part in a band.
     pub fn write(&mut self, text: &mut Text, verdict: Option<&str>, heading: Heading) {
-        let legend = Legend::of(&self.scene, self.fault, self.has_order);
+        let legend = Legend::of(&self.scene, self.exchanges.fault, self.has_order);
         let bottom = heading.top().saturating_add(height(&self.scene));
         self.take_name(verdict);
         self.open(text, bottom.saturating_add(legend.height()));
         self.write_heading(text, heading);
-        let facts = Facts {
-            exchanges: self.exchanges,
-            fault: self.fault,
-        };
-        paint(text, &mut self.words, facts, &self.scene, heading.top());
+        paint(
+            text,
+            &mut self.words,
+            self.exchanges,
+            &self.scene,
+            heading.top(),
+        );
         legend.write(text, bottom);
         write_markup(text, "</svg>\n");
     }
@@ -139,7 +138,7 @@ impl<'a, 'e> Drawing<'a, 'e> {
 
     /// Writes the heading, and which messages are drawn.
     fn write_heading(&self, text: &mut Text, heading: Heading) {
-        if heading == Heading::Verdict {
+        if let Heading::Verdict = heading {
             open_text(text, "h", SIDE, HEADING_LINE, Anchor::Start);
             write_fitted(
                 text,
@@ -147,7 +146,7 @@ impl<'a, 'e> Drawing<'a, 'e> {
                 WIDTH - 2 * SIDE,
                 Letters::Large,
             );
-            close_text(text);
+            text.word("</text>");
         }
         let Some(window) = self.scene.window else {
             return;
@@ -157,7 +156,7 @@ impl<'a, 'e> Drawing<'a, 'e> {
         text.field(" to ", u64::from(window.last));
         text.field(" of ", u64::from(self.scene.messages));
         text.word(", a column each: &gt; to the server, &lt; from it");
-        close_text(text);
+        text.word("</text>");
     }
 }
 

@@ -4,7 +4,7 @@ use bitflags::Flags;
 use fa_bodies::{FattrFlags, OpenFlags, RequestBody};
 
 /// What a request may do to the tree, whatever it is answered.
-#[derive(Clone, Copy, PartialEq, Eq)]
+#[derive(Clone, Copy)]
 pub(crate) enum Effect {
     /// It acts on the tree, and leaves it as it is.
     Leaves,

@@ -6,7 +6,7 @@ ghost use Rattle.fa_picture.specs.Escape.{IsWrittenFor, entity_of};
 use fa_show::Text;
 
 /// A character that markup has a meaning for, by its entity.
-#[derive(Clone, Copy, PartialEq, Eq)]
+#[derive(Clone, Copy)]
 pub(crate) enum Named {
     Less,
     Greater,
@@ -29,7 +29,7 @@ impl Named {
 }
 
 /// What is written for a byte of text in markup.
-#[derive(Clone, Copy, PartialEq, Eq)]
+#[derive(Clone, Copy)]
 pub(crate) enum Written {
     /// The byte.
     Itself(u8),

@@ -1,9 +1,10 @@
 //! Which message answers which.
 
 use crate::fault::Fault;
+use crate::scene::readable;
 use fa_bodies::{Request, opcodes};
 use fa_capture::{Capture, Direction, Packet, Seed};
-use fa_show::{Fate, Line, message_in, request_in};
+use fa_show::{Fate, Line, message_in};
 use indexmap::IndexMap;
 use std::alloc::{AllocError, Global};
 
@@ -12,7 +13,8 @@ use std::alloc::{AllocError, Global};
 pub struct Exchanges {
     /// By the numbers of messages: of a request its reply, of a reply its request.
     partners: Vec<Option<u32>>,
-    fault: Fault,
+    /// What is at fault, which is left out of what follows.
+    pub(crate) fault: Fault,
 }
 
 impl Exchanges {
@@ -28,8 +30,8 @@ impl Exchanges {
     ///
     /// # Cost
     ///
-    /// Expected the time of [`request_in`] for each message. Eight bytes for each, and an entry for each of the most requests that wait at
-    /// once.
+    /// Expected the time of [`request_in`](fa_show::request_in) for each message. Eight bytes for each, and an entry for each of the most
+    /// requests that wait at once.
     pub fn of(alloc: Global, capture: &Capture<'_>, fault: Fault) -> Result<Exchanges, AllocError> {
         let mut exchanges = Exchanges {
             partners: Vec::new(alloc),
@@ -47,10 +49,11 @@ impl Exchanges {
         waiting: &mut IndexMap<u64, u32, Seed>,
     ) -> Result<(), AllocError> {
         for packet in capture.packets() {
-            match packet.direction {
-                Direction::ToServer => self.ask(&packet, waiting)?,
-                Direction::FromServer => self.answer(&packet, waiting)?,
-            }
+            let taken = match packet.direction {
+                Direction::ToServer => self.ask(&packet, waiting),
+                Direction::FromServer => self.answer(&packet, waiting),
+            };
+            taken?;
         }
         Ok(())
     }
@@ -97,7 +100,7 @@ impl Exchanges {
 
     /// Takes in the next message, with the one that goes with it: its number.
     fn begin(&mut self, partner: Option<u32>) -> Result<u32, AllocError> {
-        let number = u32::try_from(self.partners.len()).map_err(|_| AllocError)?;
+        let number = number_at(self.partners.len())?;
         self.partners.push(partner)?;
         Ok(number)
     }
@@ -107,7 +110,10 @@ impl Exchanges {
     ///
     /// Takes no memory, in constant time.
     pub fn partner(&self, number: u32) -> Option<u32> {
-        *self.partners.get(number as usize)?
+        match self.partners.get(number as usize) {
+            Some(partner) => *partner,
+            None => None,
+        }
     }
 
     /// Whether a request of this number that has no reply is taken to wait for one: not where it is refused, or is an INTERRUPT, which a
@@ -123,11 +129,9 @@ impl Exchanges {
     ///
     /// Takes no memory, in constant time.
     pub fn ended_by(&self, number: u32) -> Option<u32> {
-        let asked = self.partner(number)?;
-        if self.partner(asked) == Some(number) {
-            Some(asked)
-        } else {
-            None
+        match self.partner(number) {
+            Some(asked) if self.partner(asked) == Some(number) => Some(asked),
+            _ => None,
         }
     }
 
@@ -153,11 +157,18 @@ impl Exchanges {
     }
 }
 
+/// The number of what stands at this place: where it is none of 32 bits, memory is as good as refused.
+pub(crate) fn number_at(place: usize) -> Result<u32, AllocError> {
+    match u32::try_from(place) {
+        Ok(number) => Ok(number),
+        Err(_) => Err(AllocError),
+    }
+}
+
 /// The unique with which a message is a request that may be answered, if it is one.
 fn unique_to_answer(packet: &Packet<'_>) -> Option<u64> {
-    let asked = request_in(packet)?;
-    match &asked.request {
-        Ok(request) if request.body.may_be_answered() => Some(request.unique),
+    match readable(packet) {
+        Some(request) if request.body.may_be_answered() => Some(request.unique),
         _ => None,
     }
 }

@@ -3,7 +3,7 @@
 use fa_order::Entry;
 
 /// What is at fault in a capture, or in an order that is to explain it.
-#[derive(Clone, Copy, Debug, PartialEq, Eq)]
+#[derive(Clone, Copy)]
 pub enum Fault {
     /// Nothing.
     Nothing,

@@ -27,11 +27,6 @@ impl Letters {
             Letters::Large => 728,
         }
     }
-
-    /// How many letters fit in so many tenths of a unit.
-    fn fitting(self, room: u64) -> u64 {
-        room.saturating_mul(10) / self.width()
-    }
 }
 
 /// Three dots in one letter, by its number.
@@ -39,7 +34,7 @@ const ELLIPSIS: &str = "&#8230;";
 
 /// Writes as much of a text as fits in so many tenths of a unit: where something is left out, an ellipsis in its place.
 pub(crate) fn write_fitted(text: &mut Text, words: &[u8], room: u64, letters: Letters) {
-    let most = letters.fitting(room);
+    let most = room.saturating_mul(10) / letters.width();
     if words.len() as u64 <= most {
         return write_content(text, words);
     }

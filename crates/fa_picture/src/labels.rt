@@ -45,15 +45,10 @@ pub(crate) fn objects(text: &mut Text, request: &Request<'_>) {
         | RequestBody::Link { new_name: name, .. } => text.name(name),
         RequestBody::Init(_) | RequestBody::BatchForget { .. } => {}
         body => {
-            node(text, request);
+            text.field("node ", request.node);
             extent(text, body);
         }
     }
-}
-
-/// Writes the node of a request.
-fn node(text: &mut Text, request: &Request<'_>) {
-    text.field("node ", request.node);
 }
 
 /// Writes the size and the offset of a request on a node.
@@ -86,7 +81,7 @@ pub(crate) fn shorter(text: &mut Text, request: &Request<'_>) {
         | RequestBody::Readdirplus(_)
         | RequestBody::Setattr(_) => {
             text.begin(0);
-            node(text, request);
+            text.field("node ", request.node);
         }
         _ => {}
     }

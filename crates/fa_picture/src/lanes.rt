@@ -1,5 +1,6 @@
 //! Lanes, one below the other, in which bars lie.
 
+use crate::exchanges::number_at;
 use std::alloc::{AllocError, Global};
 
 /// The lanes, each by the number of the last message that it is taken up to.
@@ -23,14 +24,18 @@ impl Lanes {
             Some(taken) => *taken = ends,
             None => self.taken_up_to.push(ends)?,
         }
-        u32::try_from(lane).map_err(|_| AllocError)
+        number_at(lane)
     }
 
     /// The place of the first lane that is free from a message on: behind all others, if none of them is.
     fn first_free(&self, begins: u32) -> usize {
-        self.taken_up_to
-            .iter()
-            .position(|taken| *taken < begins)
-            .unwrap_or(self.taken_up_to.len())
+        let mut lane: usize = 0;
+        for taken in self.taken_up_to.iter() {
+            if *taken < begins {
+                break;
+            }
+            lane = lane.saturating_add(1);
+        }
+        lane
     }
 }

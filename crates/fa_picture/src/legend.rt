@@ -7,7 +7,7 @@ use crate::shapes::{Anchor, Area, rectangle, words};
 use fa_show::Text;
 
 /// How a bar may look.
-#[derive(Clone, Copy, PartialEq, Eq)]
+#[derive(Clone, Copy)]
 enum Look {
     Leaves,
     MayChange,
@@ -113,11 +113,19 @@ pub(crate) struct Legend {
 impl Legend {
     /// The looks that a picture has.
     pub fn of(scene: &Scene<'_>, fault: Fault, has_order: bool) -> Legend {
-        Legend {
-            has_unanswered: scene.has_unanswered(),
-            has_fault: scene.has(fault),
+        let mut legend = Legend {
+            has_unanswered: false,
+            has_fault: false,
             has_order,
+        };
+        for bar in scene.bars.iter() {
+            legend.has_unanswered |= bar.is_unanswered();
+            legend.has_fault |= bar.is_at_fault(fault);
         }
+        for diamond in scene.diamonds.iter() {
+            legend.has_fault |= fault.is_at(diamond.at);
+        }
+        legend
     }
 
     /// Whether it explains a look.
@@ -186,7 +194,7 @@ fn write_look(text: &mut Text, look: Look, left: u64, top: u64) {
         height: SAMPLE.1,
     };
     rectangle(text, look.classes(), &area, ROUNDING);
-    if look == Look::MayChange {
+    if let Look::MayChange = look {
         area.width = EDGE;
         rectangle(text, "edge", &area, 0);
     }

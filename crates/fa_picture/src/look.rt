@@ -5,7 +5,6 @@ use crate::bars::Bar;
 use crate::effect::Effect;
 use crate::fault::Fault;
 use crate::labels::is_error;
-use crate::layout::ROUNDING;
 use fa_show::Text;
 
 /// How a bar looks in a band.
@@ -17,12 +16,14 @@ pub(crate) struct Look {
     /// Whether its answer is an error.
     pub is_error: bool,
     pub is_unanswered: bool,
-    /// Whether its request may change the tree.
-    pub may_change: bool,
     /// Whether its request stands in a band before.
     pub is_begun: bool,
     /// Whether its answer stands in a band behind.
     pub goes_on: bool,
+    /// Whether one of its ends stands in another band.
+    pub is_open: bool,
+    /// Whether its left edge is thick: where a request begins that may change the tree.
+    pub has_edge: bool,
 }
 
 impl Look {
@@ -30,30 +31,18 @@ impl Look {
     pub fn of(bar: &Bar<'_>, band: &Band, fault: Fault) -> Look {
         let effect = Effect::of(&bar.request.body);
         let is_at_fault = bar.is_at_fault(fault);
+        let is_begun = bar.begins < band.first;
+        let goes_on = bar.ends > band.last;
         Look {
             class: if is_at_fault { "bad" } else { effect.class() },
             is_at_fault,
             is_error: is_error(bar.answer.as_ref()),
             is_unanswered: bar.is_unanswered(),
-            may_change: effect == Effect::MayChange,
-            is_begun: bar.begins < band.first,
-            goes_on: bar.ends > band.last,
+            is_begun,
+            goes_on,
+            is_open: is_begun || goes_on,
+            has_edge: !is_begun && matches!(effect, Effect::MayChange),
         }
-    }
-
-    /// Whether one of its ends stands in another band.
-    pub fn is_open(&self) -> bool {
-        self.is_begun || self.goes_on
-    }
-
-    /// Whether its left edge is thick: where a request begins that may change the tree.
-    pub fn has_edge(&self) -> bool {
-        self.may_change && !self.is_begun
-    }
-
-    /// How round its corners are.
-    pub fn rounding(&self) -> u64 {
-        if self.is_open() { 0 } else { ROUNDING }
     }
 
     /// Writes an element's name with the classes of the bar: a hollow one is answered by an error, a dashed one never.

@@ -18,8 +18,8 @@ impl Share {
     /// The part of the entry of this number, which is placed behind a message: one of as many as are. `moments` has, for each entry, the
     /// message behind which it is placed.
     pub fn of(moments: &[u32], entry: u32, behind: u32) -> Share {
-        let before = moments.partition_point(|moment| *moment < behind);
-        let up_to = moments.partition_point(|moment| *moment <= behind);
+        let before = placed_before(moments, behind);
+        let up_to = placed_before(moments, behind.saturating_add(1));
         let place = (entry as usize).saturating_sub(before).saturating_add(1);
         let entries = up_to.saturating_sub(before).max(place);
         Share {
@@ -35,6 +35,11 @@ impl Share {
         let parts = u64::from(self.entries) + 1;
         (u64::from(self.place) * COLUMN + parts / 2) / parts
     }
+}
+
+/// How many entries are placed behind a message before this one, by their `moments`.
+fn placed_before(moments: &[u32], message: u32) -> usize {
+    moments.partition_point(|moment| *moment < message)
 }
 
 /// The place in the picture at which a request may have taken effect: behind a message, before the next one.
@@ -75,10 +80,5 @@ impl Mark {
         ensures before_answer { result ≤ column_middle self.now.ends }
     {
         u64::from(self.behind) * COLUMN + COLUMN / 2 + self.share.length()
-    }
-
-    /// The number of the column in which its middle is.
-    pub fn column(&self) -> u64 {
-        self.middle() / COLUMN
     }
 }

@@ -3,7 +3,7 @@
 use crate::fault::Fault;
 
 /// What was found of a server, which is seen in the colour of the verdict.
-#[derive(Clone, Copy, Debug, PartialEq, Eq)]
+#[derive(Clone, Copy)]
 pub enum Outcome {
     /// Nothing is at fault: green.
     Legal,

@@ -2,8 +2,8 @@
 
 use crate::effect::Effect;
 use crate::exchanges::Exchanges;
+use crate::scene::readable;
 use fa_capture::{Capture, Direction, Packet};
-use fa_show::request_in;
 
 /// The number of the first request on the tree that came while another one had no answer yet, if there is one.
 pub(crate) fn first_overlap(capture: &Capture<'_>, exchanges: &Exchanges) -> Option<u32> {
@@ -26,11 +26,8 @@ fn acts_on_tree(packet: &Packet<'_>) -> bool {
     if packet.direction == Direction::FromServer {
         return false;
     }
-    let Some(asked) = request_in(packet) else {
-        return false;
-    };
-    match &asked.request {
-        Ok(request) => Effect::of(&request.body) != Effect::Apart,
-        Err(_) => false,
+    match readable(packet) {
+        Some(request) => !matches!(Effect::of(&request.body), Effect::Apart),
+        None => false,
     }
 }

@@ -3,9 +3,8 @@
 use crate::drawing::{Drawing, Heading};
 use crate::escape::{write_content, write_markup};
 use crate::exchanges::Exchanges;
-use crate::fault::Fault;
 use crate::outcome::Outcome;
-use crate::reasons::{mention, write_reasons};
+use crate::reasons::write_reasons;
 use crate::rows::write_rows;
 use crate::scene::Subject;
 use crate::script::SCRIPT;
@@ -21,13 +20,13 @@ pub const DEFAULT_ROWS: u32 = 160;
 /// How many bytes there is room for in the line of a message. Where names and data are shortened, it has fewer.
 const LINE_ROOM: usize = 16_384;
 
-/// The beginning of a page: it takes nothing from elsewhere.
+/// The beginning of a page, up to its title: it takes nothing from elsewhere.
 const HEAD: &str =
-    "<!doctype html>\n<html lang=\"en\"><head><meta charset=\"utf-8\"><meta name=\"viewport\" content=\"width=device-width,initial-scale=1\">\n<meta http-equiv=\"Content-Security-Policy\" content=\"default-src 'none'; style-src 'unsafe-inline'; script-src 'unsafe-inline'\">\n";
+    "<!doctype html>\n<html lang=\"en\"><head><meta charset=\"utf-8\"><meta name=\"viewport\" content=\"width=device-width,initial-scale=1\">\n<meta http-equiv=\"Content-Security-Policy\" content=\"default-src 'none'; style-src 'unsafe-inline'; script-src 'unsafe-inline'\">\n<title>";
 
-/// The filter, which is hidden until the script is there, and the heads of the columns.
+/// The heading of the messages, the filter, which is hidden until the script is there, and the heads of the columns.
 const FILTER: &str =
-    "<div class=\"tools\" id=\"tools\" hidden><input id=\"filter\" type=\"search\" placeholder=\"filter: words such as  node 2  or  ENOENT\" aria-label=\"filter\"><span class=\"s\" id=\"told\"></span></div>\n<table><thead><tr><th>message</th><th>unique</th><th>what it says</th><th>entry</th></tr></thead><tbody>\n";
+    "<h2>Messages</h2>\n<div class=\"tools\" id=\"tools\" hidden><input id=\"filter\" type=\"search\" placeholder=\"filter: words such as  node 2  or  ENOENT\" aria-label=\"filter\"><span class=\"s\" id=\"told\"></span></div>\n<table><thead><tr><th>message</th><th>unique</th><th>what it says</th><th>entry</th></tr></thead><tbody>\n";
 
 /// What a page tells of what was judged.
 #[derive(Clone, Copy)]
@@ -49,7 +48,6 @@ struct Page<'a, 'e> {
     exchanges: &'e Exchanges,
     drawing: Drawing<'a, 'e>,
     table: Table<'a>,
-    fault: Fault,
     /// How many messages the capture has.
     messages: u32,
     /// The line of the message that is written next.
@@ -72,11 +70,10 @@ impl<'a, 'e> Page<'a, 'e> {
         };
         Ok(Page {
             exchanges,
+            line: Text::new(alloc, LINE_ROOM, false)?,
             drawing: Drawing::of(alloc, subject, exchanges, drawn)?,
             table,
-            fault: subject.fault,
             messages: subject.capture.messages,
-            line: Text::new(alloc, LINE_ROOM, false)?,
         })
     }
 
@@ -96,14 +93,12 @@ impl<'a, 'e> Page<'a, 'e> {
         write_markup(text, "<h2>The requests around it</h2>\n");
         self.drawing
             .write(text, Some(findings.verdict), Heading::Nothing);
-        write_markup(text, "<h2>Messages</h2>\n");
         write_markup(text, FILTER);
         write_rows(
             text,
             &mut self.line,
             &self.table,
             self.exchanges,
-            self.fault,
             self.messages,
         );
         write_markup(text, "</tbody></table></main><script>");
@@ -127,7 +122,6 @@ impl<'a, 'e> Page<'a, 'e> {
 /// Writes all before what a page shows.
 fn write_head(text: &mut Text, verdict: &str) {
     write_markup(text, HEAD);
-    write_markup(text, "<title>");
     write_content(text, verdict.as_bytes());
     write_markup(text, "</title><style>");
     write_style(text);
@@ -158,20 +152,13 @@ pub fn report(
     view: View,
 ) -> Result<Text, AllocError> {
     let exchanges = Exchanges::of(alloc, &subject.capture, subject.fault)?;
-    let table = table_of(alloc, subject, &exchanges, findings.reasons, view)?;
+    let table = Table::of(
+        alloc,
+        subject,
+        &exchanges,
+        findings.reasons.as_bytes(),
+        view,
+    )?;
     let mut page = Page::of(alloc, subject, &exchanges, table, view)?;
     page.text(alloc, findings)
-}
-
-/// The table of the messages around the one that the view says, and of those to which the reasons link.
-fn table_of<'a>(
-    alloc: Global,
-    subject: &Subject<'a, '_>,
-    exchanges: &Exchanges,
-    reasons: &Text,
-    view: View,
-) -> Result<Table<'a>, AllocError> {
-    let mut named = Vec::new(alloc);
-    mention(reasons.as_bytes(), &mut named)?;
-    Table::of(alloc, subject, exchanges, &named, view)
 }

@@ -2,22 +2,14 @@
 
 use crate::band::Band;
 use crate::exchanges::Exchanges;
-use crate::fault::Fault;
 use crate::layout::{COLUMN, GAP, HEAD, NUMBER_LINE, PITCH, RULE_MARGINS};
 use crate::painting_bars::paint_bar;
 use crate::painting_diamonds::paint_diamond;
 use crate::scene::{Scene, Strip};
-use crate::shapes::{Anchor, Stroke, close_text, line, open_text};
+use crate::shapes::{Anchor, Stroke, close_line, open_text};
 use crate::words::Words;
 use fa_capture::Direction;
 use fa_show::Text;
-
-/// What is said of the messages that are drawn.
-#[derive(Clone, Copy)]
-pub(crate) struct Facts<'a> {
-    pub exchanges: &'a Exchanges,
-    pub fault: Fault,
-}
 
 /// How high the bands of a scene are, with what is free between them.
 pub(crate) fn height(scene: &Scene<'_>) -> u64 {
@@ -39,7 +31,7 @@ fn strip_height(strip: &Strip) -> u64 {
 pub(crate) fn paint(
     text: &mut Text,
     words: &mut Words,
-    facts: Facts<'_>,
+    exchanges: &Exchanges,
     scene: &Scene<'_>,
     top: u64,
 ) {
@@ -47,7 +39,14 @@ pub(crate) fn paint(
     for strip in scene.strips.iter() {
         let bottom = top.saturating_add(strip_height(strip));
         paint_columns(text, scene, &strip.band, top, bottom);
-        paint_strip(text, words, facts, scene, strip, top.saturating_add(HEAD));
+        paint_strip(
+            text,
+            words,
+            exchanges,
+            scene,
+            strip,
+            top.saturating_add(HEAD),
+        );
         top = bottom.saturating_add(GAP);
     }
 }
@@ -69,7 +68,8 @@ fn paint_rule(text: &mut Text, left: u64, top: u64, bottom: u64) {
         from: (left, top.saturating_add(RULE_MARGINS.0)),
         to: (left, bottom.saturating_sub(RULE_MARGINS.1)),
     };
-    line(text, "rule", &stroke);
+    text.word("<line class=\"rule\"");
+    close_line(text, &stroke);
 }
 
 /// Writes the number of a message, and which way it went.
@@ -86,14 +86,14 @@ fn paint_number(text: &mut Text, scene: &Scene<'_>, number: u32, middle: u64, to
         Some(Direction::FromServer) => " &lt;",
         Some(Direction::ToServer) | None => " &gt;",
     });
-    close_text(text);
+    text.word("</text>");
 }
 
 /// Writes the bars of a band, and what stands alone there.
 fn paint_strip(
     text: &mut Text,
     words: &mut Words,
-    facts: Facts<'_>,
+    exchanges: &Exchanges,
     scene: &Scene<'_>,
     strip: &Strip,
     top: u64,
@@ -103,7 +103,7 @@ fn paint_strip(
             paint_bar(
                 text,
                 words,
-                facts,
+                exchanges,
                 bar,
                 &strip.band,
                 lane_top(top, bar.lane),
@@ -115,7 +115,7 @@ fn paint_strip(
             break;
         }
         let top = lane_top(top, diamond.lane);
-        paint_diamond(text, words, facts, diamond, &strip.band, top);
+        paint_diamond(text, words, exchanges, diamond, &strip.band, top);
     }
 }
 

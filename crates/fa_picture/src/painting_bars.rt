@@ -5,18 +5,18 @@ ghost use Rattle.std.specs.Prelude.{◌≤◌};
 use crate::band::{Band, Extent};
 use crate::bars::Bar;
 use crate::escape::write_content;
+use crate::exchanges::Exchanges;
 use crate::fitting::{Letters, write_fitted};
+use crate::labels::shorter;
 use crate::layout::{
-    BAR, CODE_LINE, CODE_ROOM, DIGIT_HALF, MARK_HALF, MARK_HEIGHT, MARK_LINES, PADDING, SIDE,
-    WIDTH, WORD_LINES,
+    BAR, CODE_LINE, CODE_ROOM, DIGIT_HALF, MARK_HALF, MARK_HEIGHT, MARK_LINES, PADDING, ROUNDING,
+    SIDE, WIDTH, WORD_LINES,
 };
 use crate::look::Look;
 use crate::mark::Mark;
-use crate::painting::Facts;
 use crate::painting_diamonds::paint_code;
 use crate::shapes::{
-    Anchor, Area, Stroke, close_line, close_rectangle, close_text, measure, open_group, open_text,
-    rectangle, words as write_words,
+    Anchor, Area, Stroke, close_line, close_rectangle, measure, open_group, open_text, rectangle,
 };
 use crate::words::Words;
 use fa_show::Text;
@@ -50,33 +50,27 @@ const BETWEEN: u64 = 60;
 struct Inside {
     left: u64,
     right: u64,
-    top: u64,
+    /// How much room there is between them.
+    room: u64,
+    /// Where the words of the first line stand.
+    first_line: u64,
+    /// Where those of the second line stand.
+    second_line: u64,
 }
 
 impl Inside {
     /// The room for words in a bar.
     fn of(extent: &Extent, look: &Look, top: u64) -> Inside {
-        let edge = if look.has_edge() { EDGE / 2 } else { 0 };
+        let edge = if look.has_edge { EDGE / 2 } else { 0 };
+        let left = extent.left.saturating_add(edge).saturating_add(PADDING);
+        let right = extent.right.saturating_sub(PADDING);
         Inside {
-            left: extent.left.saturating_add(edge).saturating_add(PADDING),
-            right: extent.right.saturating_sub(PADDING),
-            top,
+            left,
+            right,
+            room: right.saturating_sub(left),
+            first_line: top.saturating_add(WORD_LINES.0),
+            second_line: top.saturating_add(WORD_LINES.1),
         }
-    }
-
-    /// How wide it is.
-    fn room(self) -> u64 {
-        self.right.saturating_sub(self.left)
-    }
-
-    /// Where the words of the first line stand.
-    fn first_line(self) -> u64 {
-        self.top.saturating_add(WORD_LINES.0)
-    }
-
-    /// Where those of the second line stand.
-    fn second_line(self) -> u64 {
-        self.top.saturating_add(WORD_LINES.1)
     }
 }
 
@@ -89,7 +83,7 @@ fn width(words: &Text, letter: u64) -> u64 {
 pub(crate) fn paint_bar(
     text: &mut Text,
     words: &mut Words,
-    facts: Facts<'_>,
+    exchanges: &Exchanges,
     bar: &Bar<'_>,
     band: &Band,
     top: u64,
@@ -97,10 +91,10 @@ pub(crate) fn paint_bar(
     if !band.meets(bar.begins, bar.ends) {
         return;
     }
-    let look = Look::of(bar, band, facts.fault);
+    let look = Look::of(bar, band, exchanges.fault);
     let extent = band.extent(bar.begins, bar.ends);
     let inside = Inside::of(&extent, &look, top);
-    words.take_bar(facts.exchanges, bar, &look);
+    words.take_bar(exchanges, bar, &look);
     open_group(text, look.class);
     write_content(text, words.title_lines());
     text.word("</title>");
@@ -114,7 +108,7 @@ pub(crate) fn paint_bar(
         let left = inside.left.min(WIDTH - CODE_ROOM);
         paint_code(
             text,
-            facts,
+            exchanges.fault,
             left,
             top.saturating_add(CODE_LINE),
             Anchor::Start,
@@ -131,21 +125,22 @@ fn paint_body(text: &mut Text, look: &Look, extent: &Extent, top: u64) {
         width: extent.right.saturating_sub(extent.left),
         height: BAR,
     };
+    let rounding = if look.is_open { 0 } else { ROUNDING };
     look.open(text, "rect");
-    if look.is_open() {
+    if look.is_open {
         text.word(" open");
     }
     text.word("\"");
-    close_rectangle(text, &area, look.rounding());
-    if look.is_open() {
+    close_rectangle(text, &area, rounding);
+    if look.is_open {
         paint_sides(text, look, extent, top);
     }
-    if look.has_edge() {
+    if look.has_edge {
         let edge = Area {
             width: EDGE,
             ..area
         };
-        rectangle(text, "edge", &edge, look.rounding() / 2);
+        rectangle(text, "edge", &edge, rounding / 2);
     }
 }
 
@@ -173,15 +168,16 @@ fn paint_side(text: &mut Text, look: &Look, from: (u64, u64), to: (u64, u64)) {
 /// Writes the operation, squeezed where it fits so alone. Where not even this one is shown, but the number of a request in a band before
 /// is.
 fn paint_operation(text: &mut Text, words: &mut Words, bar: &Bar<'_>, look: &Look, inside: Inside) {
-    let room = inside.room();
+    let room = inside.room;
     let squeezes = width(&words.operation, OPERATION_LETTER) > room && room > LEAST_SQUEEZED;
     let is_cut = width(&words.operation, SQUEEZED_LETTER) > room;
     if is_cut && look.is_begun {
-        words.take_number(bar.begins);
+        words.operation.begin(0);
+        words.operation.number(u64::from(bar.begins));
     }
     text.word("<text class=\"op in\"");
     measure(text, "x", inside.left);
-    measure(text, "y", inside.first_line());
+    measure(text, "y", inside.first_line);
     if squeezes && !is_cut {
         measure(text, "textLength", room);
         text.word(" lengthAdjust=\"spacingAndGlyphs\"");
@@ -192,12 +188,12 @@ fn paint_operation(text: &mut Text, words: &mut Words, bar: &Bar<'_>, look: &Loo
     } else {
         write_content(text, words.operation.as_bytes());
     }
-    close_text(text);
+    text.word("</text>");
 }
 
 /// Writes what a request acts on, and at the right what came of it, where there is room for both; else the error, if it is one.
 fn paint_objects(text: &mut Text, words: &mut Words, bar: &Bar<'_>, look: &Look, inside: Inside) {
-    let room = inside.room();
+    let room = inside.room;
     let letter = if look.is_error { ERROR_LETTER } else { LETTER };
     let beside = room
         .saturating_sub(width(&words.result, letter))
@@ -208,7 +204,7 @@ fn paint_objects(text: &mut Text, words: &mut Words, bar: &Bar<'_>, look: &Look,
     if beside > LEAST_BESIDE || words.objects.len() == 0 {
         paint_result(text, words, look, inside);
         if width(&words.objects, LETTER) > beside {
-            words.take_node(&bar.request);
+            shorter(&mut words.objects, &bar.request);
         }
         paint_fitted(text, "in", words.objects.as_bytes(), inside, beside);
     } else if look.is_error {
@@ -221,9 +217,9 @@ fn paint_objects(text: &mut Text, words: &mut Words, bar: &Bar<'_>, look: &Look,
 /// Writes what came of a request, at the right.
 fn paint_result(text: &mut Text, words: &Words, look: &Look, inside: Inside) {
     let class = if look.is_error { "err in" } else { "s in" };
-    open_text(text, class, inside.right, inside.second_line(), Anchor::End);
-    write_fitted(text, words.result.as_bytes(), inside.room(), Letters::Small);
-    close_text(text);
+    open_text(text, class, inside.right, inside.second_line, Anchor::End);
+    write_fitted(text, words.result.as_bytes(), inside.room, Letters::Small);
+    text.word("</text>");
 }
 
 /// Writes words in the second line, at the left, if there are any.
@@ -231,15 +227,9 @@ fn paint_fitted(text: &mut Text, class: &str, words: &[u8], inside: Inside, room
     if words.is_empty() {
         return;
     }
-    open_text(
-        text,
-        class,
-        inside.left,
-        inside.second_line(),
-        Anchor::Start,
-    );
+    open_text(text, class, inside.left, inside.second_line, Anchor::Start);
     write_fitted(text, words, room, Letters::Small);
-    close_text(text);
+    text.word("</text>");
 }
 
 /// Writes where the order places a request, with the place of its entry, if that is in the band.
@@ -267,7 +257,7 @@ fn paint_mark(text: &mut Text, bar: &Bar<'_>, mark: &Mark, band: &Band, top: u64
         Anchor::Start,
     );
     text.number(u64::from(entry));
-    close_text(text);
+    text.word("</text>");
 }
 
 /// How many digits a number has.

@@ -3,10 +3,11 @@
 use crate::band::Band;
 use crate::diamonds::Diamond;
 use crate::escape::write_content;
+use crate::exchanges::Exchanges;
+use crate::fault::Fault;
 use crate::fitting::{Letters, write_fitted};
 use crate::layout::{COLUMN, DIAMOND_LINES};
-use crate::painting::Facts;
-use crate::shapes::{Anchor, close_text, length, open_group, open_text};
+use crate::shapes::{Anchor, length, open_group, open_text};
 use crate::words::Words;
 use fa_show::Text;
 
@@ -17,7 +18,7 @@ const HALF: u64 = 70;
 pub(crate) fn paint_diamond(
     text: &mut Text,
     words: &mut Words,
-    facts: Facts<'_>,
+    exchanges: &Exchanges,
     diamond: &Diamond<'_>,
     band: &Band,
     top: u64,
@@ -26,8 +27,8 @@ pub(crate) fn paint_diamond(
         return;
     }
     let middle = band.left_of(diamond.at).saturating_add(COLUMN / 2);
-    let is_at_fault = facts.fault.is_at(diamond.at);
-    words.take_diamond(facts.exchanges, diamond);
+    let is_at_fault = exchanges.fault.is_at(diamond.at);
+    words.take_diamond(exchanges, diamond);
     open_group(text, if is_at_fault { "flag" } else { "mark" });
     write_content(text, words.title_lines());
     text.word("</title>");
@@ -46,11 +47,11 @@ pub(crate) fn paint_diamond(
         Anchor::Middle,
     );
     write_fitted(text, words.result.as_bytes(), COLUMN, letters);
-    close_text(text);
+    text.word("</text>");
     if is_at_fault {
         paint_code(
             text,
-            facts,
+            exchanges.fault,
             middle,
             top.saturating_add(DIAMOND_LINES.2),
             Anchor::Middle,
@@ -68,11 +69,11 @@ fn paint_shape(text: &mut Text, x: u64, y: u64) {
 }
 
 /// Writes the code of what is at fault.
-pub(crate) fn paint_code(text: &mut Text, facts: Facts<'_>, x: u64, y: u64, anchor: Anchor) {
-    let Some((_, code)) = facts.fault.coded() else {
+pub(crate) fn paint_code(text: &mut Text, fault: Fault, x: u64, y: u64, anchor: Anchor) {
+    let Some((_, code)) = fault.coded() else {
         return;
     };
     open_text(text, "err", x, y, anchor);
     text.field("code ", u64::from(code));
-    close_text(text);
+    text.word("</text>");
 }

@@ -1,5 +1,7 @@
 //! The lines of an explanation, taken apart.
 
+use fa_bodies::split_at_byte;
+
 /// A piece of a line.
 #[derive(Clone, Copy)]
 pub(crate) enum Piece<'t> {
@@ -72,8 +74,7 @@ impl<'t> Pieces<'t> {
     /// Takes a number: that of a message, if `>` or `<` stands behind it at the start of a line, or an operation in parentheses.
     fn number(&mut self) -> Piece<'t> {
         let is_start = self.is_start;
-        let count = self.left.iter().take_while(|b| b.is_ascii_digit()).count();
-        let digits = self.take(count);
+        let digits = self.take(count_digits(self.left));
         let is_message = match self.left {
             [b' ', b'>' | b'<', ..] => is_start,
             [b' ', b'(', b'A'..=b'Z', ..] => true,
@@ -88,18 +89,38 @@ impl<'t> Pieces<'t> {
 
 /// How many bytes stand at the front from a mark to the next one, with both: all, if there is no other.
 fn length_between(bytes: &[u8], mark: u8) -> usize {
-    match bytes.iter().skip(1).position(|b| *b == mark) {
-        Some(place) => place.saturating_add(2),
+    match split_at_byte(behind(bytes, 1), mark) {
+        Some((between, _)) => between.len().saturating_add(2),
         None => bytes.len(),
+    }
+}
+
+/// How many digits stand at the front.
+pub(crate) fn count_digits(bytes: &[u8]) -> usize {
+    let mut count: usize = 0;
+    for byte in bytes {
+        if !byte.is_ascii_digit() {
+            break;
+        }
+        count = count.saturating_add(1);
+    }
+    count
+}
+
+/// What stands behind so many bytes.
+pub(crate) fn behind(bytes: &[u8], count: usize) -> &[u8] {
+    match bytes.split_at_checked(count) {
+        Some((_, behind)) => behind,
+        None => &[],
     }
 }
 
 /// The number that digits are, if it is one of 32 bits.
 fn number_of(digits: &[u8]) -> Option<u32> {
-    let mut number: u32 = 0;
+    let mut number: u64 = 0;
     for digit in digits {
-        let value = u32::from(digit.wrapping_sub(b'0'));
-        number = number.checked_mul(10)?.checked_add(value)?;
+        let value = u64::from(digit.wrapping_sub(b'0'));
+        number = number.saturating_mul(10).saturating_add(value);
     }
-    Some(number)
+    u32::try_from(number).ok()
 }

@@ -25,7 +25,7 @@ impl<'t> Reason<'t> {
     fn of(line: &'t [u8]) -> Self {
         match line.split_at_checked(LABEL) {
             Some((label, text)) => Reason {
-                label: without_blanks(label),
+                label: label.trim_ascii_end(),
                 text,
             },
             None => Reason {
@@ -33,15 +33,6 @@ impl<'t> Reason<'t> {
                 text: &[],
             },
         }
-    }
-}
-
-/// The bytes without the blanks behind them.
-fn without_blanks(bytes: &[u8]) -> &[u8] {
-    let blanks = bytes.iter().rev().take_while(|b| **b == b' ').count();
-    match bytes.split_at_checked(bytes.len().saturating_sub(blanks)) {
-        Some((words, _)) => words,
-        None => bytes,
     }
 }
 
@@ -109,7 +100,7 @@ fn write_linked(text: &mut Text, line: &[u8], table: &Table<'_>) {
                 write_content(text, code);
                 write_markup(text, "</code>");
             }
-            Some(Piece::Message(number)) if table.has(number) => write_link(text, number),
+            Some(Piece::Message(number)) if table.row(number).is_some() => write_link(text, number),
             Some(Piece::Message(number)) => text.number(u64::from(number)),
             None => break,
         }

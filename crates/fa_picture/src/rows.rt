@@ -3,6 +3,7 @@
 use crate::escape::{write_content, write_markup};
 use crate::exchanges::Exchanges;
 use crate::fault::Fault;
+use crate::pieces::{behind, count_digits};
 use crate::reasons::write_link;
 use crate::table::{Row, Table};
 use fa_bodies::split_at_byte;
@@ -18,13 +19,12 @@ pub(crate) fn write_rows(
     line: &mut Text,
     table: &Table<'_>,
     exchanges: &Exchanges,
-    fault: Fault,
     messages: u32,
 ) {
     let mut next: u32 = 0;
     for row in table.rows.iter() {
         write_gap(text, next, row.number);
-        write_row(text, line, table, exchanges, fault, row);
+        write_row(text, line, table, exchanges, row);
         next = row.number.saturating_add(1);
     }
     write_gap(text, next, messages);
@@ -47,13 +47,12 @@ fn write_row(
     line: &mut Text,
     table: &Table<'_>,
     exchanges: &Exchanges,
-    fault: Fault,
     row: &Row<'_>,
 ) {
     line.begin(0);
     let answered = answered_by(table, exchanges, row);
     exchanges.line(row.number, row.packet, answered).write(line);
-    open_row(text, exchanges, fault, row);
+    open_row(text, exchanges, row);
     let words = Words::of(line.as_bytes());
     write_content(text, words.way);
     write_markup(text, "</td><td class=\"n\">");
@@ -77,11 +76,14 @@ fn answered_by<'a>(
         return None;
     }
     let asked = exchanges.partner(row.number)?;
-    Some((asked, table.row(asked)?.packet))
+    match table.row(asked) {
+        Some(request) => Some((asked, request.packet)),
+        None => None,
+    }
 }
 
 /// Writes the beginning of a row, up to which way the message went.
-fn open_row(text: &mut Text, exchanges: &Exchanges, fault: Fault, row: &Row<'_>) {
+fn open_row(text: &mut Text, exchanges: &Exchanges, row: &Row<'_>) {
     let number = u64::from(row.number);
     let partner = exchanges.partner(row.number);
     text.field("<tr id=\"m", number);
@@ -91,7 +93,8 @@ fn open_row(text: &mut Text, exchanges: &Exchanges, fault: Fault, row: &Row<'_>)
         text.number(u64::from(partner));
     }
     write_markup(text, "\"");
-    write_class(text, is_at_fault(fault, row, partner), row.packet.direction);
+    let is_at_fault = is_at_fault(exchanges.fault, row, partner);
+    write_class(text, is_at_fault, row.packet.direction);
     text.field("><td class=\"n\">", number);
     write_markup(text, " ");
 }
@@ -187,9 +190,10 @@ fn write_words(text: &mut Text, words: &[u8], row: &Row<'_>, answered: Option<(u
         return write_content(text, left);
     };
     let end = place.saturating_add(ANSWERS.len());
+    let rest = behind(left, end);
     write_content(text, front(left, end));
     write_link(text, asked);
-    write_content(text, behind_digits(behind(left, end)));
+    write_content(text, behind(rest, count_digits(rest)));
 }
 
 /// Whether a message is a reply that tells an error.
@@ -211,22 +215,6 @@ fn front(bytes: &[u8], count: usize) -> &[u8] {
     }
 }
 
-/// What stands behind so many bytes.
-fn behind(bytes: &[u8], count: usize) -> &[u8] {
-    match bytes.split_at_checked(count) {
-        Some((_, behind)) => behind,
-        None => &[],
-    }
-}
-
-/// What stands behind digits.
-fn behind_digits(bytes: &[u8]) -> &[u8] {
-    behind(
-        bytes,
-        bytes.iter().take_while(|b| b.is_ascii_digit()).count(),
-    )
-}
-
 /// Where it stands in a line which request a message answers: not between quotes, where the capture's own bytes stand.
 fn place_of_answers(words: &[u8]) -> Option<usize> {
     let mut is_quoted = false;
@@ -235,7 +223,9 @@ fn place_of_answers(words: &[u8]) -> Option<usize> {
         if !is_quoted && left.starts_with(ANSWERS) {
             return Some(place);
         }
-        let (first, rest) = left.split_first()?;
+        let Some((first, rest)) = left.split_first() else {
+            break;
+        };
         is_quoted = is_quoted != (*first == b'"');
         left = rest;
     }

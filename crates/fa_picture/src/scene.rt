@@ -49,7 +49,7 @@ pub(crate) struct Scene<'a> {
     /// By rising numbers of their requests.
     pub bars: Vec<Bar<'a>>,
     /// By rising numbers.
-    diamonds: Vec<Diamond<'a>>,
+    pub diamonds: Vec<Diamond<'a>>,
     pub strips: Vec<Strip>,
 }
 
@@ -107,10 +107,11 @@ impl<'a> Scene<'a> {
             if choice.window.has(number) {
                 self.directions.push(packet.direction)?;
             }
-            match packet.direction {
-                Direction::ToServer => self.take_request(choice, &mut lanes, number, packet)?,
-                Direction::FromServer => self.take_reply(choice, &mut lanes, number, packet)?,
-            }
+            let taken = match packet.direction {
+                Direction::ToServer => self.take_request(choice, &mut lanes, number, packet),
+                Direction::FromServer => self.take_reply(choice, &mut lanes, number, packet),
+            };
+            taken?;
             number = number.saturating_add(1);
         }
         Ok(())
@@ -161,7 +162,10 @@ impl<'a> Scene<'a> {
         packet: Packet<'a>,
     ) -> Result<(), AllocError> {
         let Some(asked) = choice.exchanges.ended_by(number) else {
-            let answered = self.request(choice.exchanges.partner(number));
+            let answered = match choice.exchanges.partner(number) {
+                Some(asked) => self.request(asked),
+                None => None,
+            };
             return self.take_alone(choice.window, lanes, number, packet, answered);
         };
         if let Some(bar) = self.bar_mut(asked) {
@@ -190,9 +194,14 @@ impl<'a> Scene<'a> {
         Ok(())
     }
 
+    /// How many bars begin before the message of this number.
+    fn bars_before(&self, number: u32) -> usize {
+        self.bars.partition_point(|bar| bar.begins < number)
+    }
+
     /// The bar of the request of this number, if it is drawn.
     fn bar_mut(&mut self, asked: u32) -> Option<&mut Bar<'a>> {
-        let place = self.bars.partition_point(|bar| bar.begins < asked);
+        let place = self.bars_before(asked);
         match self.bars.get_mut(place) {
             Some(bar) if bar.begins == asked => Some(bar),
             _ => None,
@@ -200,14 +209,10 @@ impl<'a> Scene<'a> {
     }
 
     /// The message of the request of this number, behind the number, if it is drawn.
-    fn request(&self, asked: Option<u32>) -> Option<(u32, Packet<'a>)> {
-        let asked = asked?;
-        let place = self.bars.partition_point(|bar| bar.begins < asked);
-        let bar = self.bars.get(place)?;
-        if bar.begins == asked {
-            Some((asked, bar.packet))
-        } else {
-            None
+    fn request(&self, asked: u32) -> Option<(u32, Packet<'a>)> {
+        match self.bars.get(self.bars_before(asked)) {
+            Some(bar) if bar.begins == asked => Some((asked, bar.packet)),
+            _ => None,
         }
     }
 
@@ -243,14 +248,14 @@ impl<'a> Scene<'a> {
         let mut bars = Vec::new(alloc);
         let mut begun = 0;
         if let Some(before) = self.strips.last() {
-            begun = self.bars.partition_point(|bar| bar.begins < band.first);
+            begun = self.bars_before(band.first);
             for place in before.bars.iter() {
                 if self.goes_on(*place, &band) {
                     bars.push(*place)?;
                 }
             }
         }
-        for place in begun..self.bars.partition_point(|bar| bar.begins <= band.last) {
+        for place in begun..self.bars_before(band.last.saturating_add(1)) {
             bars.push(place)?;
         }
         let lanes = self.lanes(&bars, &band);
@@ -291,19 +296,13 @@ impl<'a> Scene<'a> {
 
     /// Which way the message of this number went, if it is drawn.
     pub fn direction(&self, number: u32) -> Option<Direction> {
-        let place = number.checked_sub(self.window?.first)?;
-        self.directions.get(place as usize).copied()
-    }
-
-    /// Whether a request that is drawn was never answered.
-    pub fn has_unanswered(&self) -> bool {
-        self.bars.iter().any(|bar| bar.is_unanswered())
-    }
-
-    /// Whether a message that is drawn is at fault.
-    pub fn has(&self, fault: Fault) -> bool {
-        let has_bar = self.bars.iter().any(|bar| bar.is_at_fault(fault));
-        has_bar || self.diamonds.iter().any(|diamond| fault.is_at(diamond.at))
+        match self.window {
+            Some(window) if window.first <= number => {
+                let place = number.saturating_sub(window.first);
+                self.directions.get(place as usize).copied()
+            }
+            _ => None,
+        }
     }
 }
 
@@ -327,6 +326,9 @@ fn window_of(subject: &Subject<'_, '_>, exchanges: &Exchanges, view: View) -> Op
 }
 
 /// What a message asks for, if it is read.
-fn readable<'a>(packet: &Packet<'a>) -> Option<Request<'a>> {
-    request_in(packet)?.request.ok()
+pub(crate) fn readable<'a>(packet: &Packet<'a>) -> Option<Request<'a>> {
+    match request_in(packet) {
+        Some(asked) => asked.request.ok(),
+        None => None,
+    }
 }

@@ -71,15 +71,8 @@ pub(crate) fn close_line(text: &mut Text, stroke: &Stroke) {
     text.word("/>");
 }
 
-/// Writes a line of a class.
-pub(crate) fn line(text: &mut Text, name: &str, stroke: &Stroke) {
-    text.word("<line");
-    class(text, name);
-    close_line(text, stroke);
-}
-
 /// To which side of its place a text goes.
-#[derive(Clone, Copy, PartialEq, Eq)]
+#[derive(Clone, Copy)]
 pub(crate) enum Anchor {
     /// It begins there, or lies as its class says.
     Start,
@@ -101,16 +94,11 @@ pub(crate) fn open_text(text: &mut Text, name: &str, x: u64, y: u64, anchor: Anc
     text.character(b'>');
 }
 
-/// Writes the end of a text.
-pub(crate) fn close_text(text: &mut Text) {
-    text.word("</text>");
-}
-
 /// Writes words of a class that are no markup.
 pub(crate) fn words(text: &mut Text, name: &str, x: u64, y: u64, anchor: Anchor, words: &[u8]) {
     open_text(text, name, x, y, anchor);
     write_content(text, words);
-    close_text(text);
+    text.word("</text>");
 }
 
 /// Writes a group of a class, with the beginning of its title.

@@ -1,6 +1,7 @@
 //! Which messages the page has.
 
 use crate::exchanges::Exchanges;
+use crate::reasons::mention;
 use crate::scene::{Subject, centre};
 use crate::window::View;
 use fa_capture::{Capture, Packet};
@@ -24,15 +25,16 @@ pub(crate) struct Table<'a> {
 }
 
 impl<'a> Table<'a> {
-    /// So many messages around the one that the view says, as in a picture; and others that are named, each with the one that goes with it.
+    /// So many messages around the one that the view says, as in a picture; and those that the reasons name, each with the one that goes
+    /// with it.
     pub fn of(
         alloc: Global,
         subject: &Subject<'a, '_>,
         exchanges: &Exchanges,
-        named: &[u32],
+        reasons: &[u8],
         view: View,
     ) -> Result<Table<'a>, AllocError> {
-        let numbers = numbers(alloc, subject, exchanges, named, view)?;
+        let numbers = numbers(alloc, subject, exchanges, reasons, view)?;
         let mut table = Table {
             rows: Vec::new(alloc),
         };
@@ -43,17 +45,14 @@ impl<'a> Table<'a> {
 
     /// Takes in the messages of these numbers, which rise.
     fn take_messages(&mut self, capture: &Capture<'a>, numbers: &[u32]) -> Result<(), AllocError> {
-        let mut left = numbers.iter();
-        let mut next = left.next().copied();
         let mut number: u32 = 0;
         for packet in capture.packets() {
-            if next == Some(number) {
+            if numbers.get(self.rows.len()) == Some(&number) {
                 self.rows.push(Row {
                     number,
                     packet,
                     entry: None,
                 })?;
-                next = left.next().copied();
             }
             number = number.saturating_add(1);
         }
@@ -64,7 +63,7 @@ impl<'a> Table<'a> {
     fn take_order(&mut self, order: &[Entry]) {
         let mut place: u32 = 0;
         for entry in order {
-            let at = self.rows.partition_point(|row| row.number < entry.at);
+            let at = self.rows_before(entry.at);
             match self.rows.get_mut(at) {
                 Some(row) if row.number == entry.at => row.entry = Some(place),
                 _ => {}
@@ -75,27 +74,24 @@ impl<'a> Table<'a> {
 
     /// The row of the message of this number, if it is there.
     pub fn row(&self, number: u32) -> Option<&Row<'a>> {
-        let at = self.rows.partition_point(|row| row.number < number);
-        let row = self.rows.get(at)?;
-        if row.number == number {
-            Some(row)
-        } else {
-            None
+        match self.rows.get(self.rows_before(number)) {
+            Some(row) if row.number == number => Some(row),
+            _ => None,
         }
     }
 
-    /// Whether the message of this number is there.
-    pub fn has(&self, number: u32) -> bool {
-        self.row(number).is_some()
+    /// How many rows are of messages before the one of this number.
+    fn rows_before(&self, number: u32) -> usize {
+        self.rows.partition_point(|row| row.number < number)
     }
 }
 
-/// The numbers of the messages that the table has, each once, rising.
+/// The numbers of the messages that the table has, each once, rising. Behind them may stand numbers in the reasons that no message has.
 fn numbers(
     alloc: Global,
     subject: &Subject<'_, '_>,
     exchanges: &Exchanges,
-    named: &[u32],
+    reasons: &[u8],
     view: View,
 ) -> Result<Vec<u32>, AllocError> {
     let count = subject.capture.messages;
@@ -104,28 +100,24 @@ fn numbers(
         .saturating_sub(most / 2)
         .min(count.saturating_sub(most));
     let mut numbers = Vec::new(alloc);
+    mention(reasons, &mut numbers)?;
     for number in first..count.min(first.saturating_add(most)) {
-        take_exchange(&mut numbers, exchanges, number)?;
+        numbers.push(number)?;
     }
-    for number in named {
-        if *number < count {
-            take_exchange(&mut numbers, exchanges, *number)?;
-        }
-    }
+    take_partners(&mut numbers, exchanges)?;
     numbers.sort_unstable();
     numbers.dedup();
     Ok(numbers)
 }
 
-/// Takes in the number of a message, and that of the one that goes with it.
-fn take_exchange(
-    numbers: &mut Vec<u32>,
-    exchanges: &Exchanges,
-    number: u32,
-) -> Result<(), AllocError> {
-    numbers.push(number)?;
-    if let Some(partner) = exchanges.partner(number) {
-        numbers.push(partner)?;
+/// Takes in the numbers of the messages that go with those of these numbers.
+fn take_partners(numbers: &mut Vec<u32>, exchanges: &Exchanges) -> Result<(), AllocError> {
+    for place in 0..numbers.len() {
+        if let Some(number) = numbers.get(place).copied() {
+            if let Some(partner) = exchanges.partner(number) {
+                numbers.push(partner)?;
+            }
+        }
     }
     Ok(())
 }

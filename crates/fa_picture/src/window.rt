@@ -9,7 +9,7 @@ pub const DEFAULT_MESSAGES: u32 = 48;
 const PART_BEFORE: u32 = 3;
 
 /// Which messages are to be drawn.
-#[derive(Clone, Copy, Debug, PartialEq, Eq)]
+#[derive(Clone, Copy)]
 pub struct View {
     /// The number of the message around which they are: where nothing is asked for that at fault, or else the first request on the tree that
     /// came while another one had no answer yet, or else the first message.
@@ -29,7 +29,7 @@ impl View {
 }
 
 /// The messages that are drawn, from the first to the last.
-#[derive(Clone, Copy, Debug, PartialEq, Eq)]
+#[derive(Clone, Copy)]
 pub(crate) struct Window {
     pub first: u32,
     pub last: u32,

@@ -5,7 +5,6 @@ use crate::diamonds::Diamond;
 use crate::exchanges::Exchanges;
 use crate::labels;
 use crate::look::Look;
-use fa_bodies::Request;
 use fa_capture::Direction;
 use fa_show::{Text, message_in, words};
 use std::alloc::{AllocError, Global};
@@ -55,17 +54,6 @@ impl Words {
         labels::objects(&mut self.objects, &bar.request);
         self.result.begin(0);
         labels::result(&mut self.result, &bar.request, bar.answer.as_ref());
-    }
-
-    /// Takes the number of a bar's request alone in the place of its operation.
-    pub fn take_number(&mut self, number: u32) {
-        self.operation.begin(0);
-        self.operation.number(u64::from(number));
-    }
-
-    /// Takes the node alone in the place of what a request acts on, where that is longer and has no name.
-    pub fn take_node(&mut self, request: &Request<'_>) {
-        labels::shorter(&mut self.objects, request);
     }
 
     /// Takes the lines of a request and of its answer, and its place in the order.

@@ -24,7 +24,7 @@ use fa_show::Text;
 use std::alloc::{AllocError, Global};
 
 /// What is made of an answer on an order.
-#[derive(Clone, Copy, Debug, PartialEq, Eq)]
+#[derive(Clone, Copy)]
 pub enum OrderPage<'t> {
     /// A picture, which is no verdict.
     Picture(View),

@@ -11,7 +11,7 @@ use fa_picture::{Fault, View};
 use fa_show::Text;
 
 /// What a report says of its source, and which messages it has.
-#[derive(Clone, Copy, Debug, PartialEq, Eq)]
+#[derive(Clone, Copy)]
 pub struct ReportView<'t> {
     /// What was judged, as the names of files.
     pub source: &'t str,
