@@ -57,17 +57,22 @@ pub struct Expected {
 /// The attributes in the answer to a request that are not those of the file.
 pub(crate) fn other_attributes<'a>(tree: &Tree, case: &Case<'a>) -> Option<OtherAttributes<'a>> {
     match &case.operation {
-        Operation::List(list) => Some(OtherAttributes::Listed(other_listed(tree, case, list)?)),
+        Operation::List(list) => match other_listed(tree, case, list) {
+            Some(listed) => Some(OtherAttributes::Listed(listed)),
+            None => None,
+        },
         Operation::Act(action) => other_told(tree, case, action),
     }
 }
 
 /// The first entry of a listing whose attributes tell another type.
 fn other_listed<'a>(tree: &Tree, case: &Case<'_>, list: &List<'a>) -> Option<ListedType<'a>> {
-    let Outcome::Succeeds(entries) = &list.outcome else {
+    let (Outcome::Succeeds(entries), Some(directory)) = (
+        &list.outcome,
+        directory_listed(tree, case),
+    ) else {
         return None;
     };
-    let directory = directory_listed(tree, case)?;
     for dirent in *entries {
         if let Some(other) = other_type(tree, directory, &dirent) {
             return Some(other);
@@ -81,8 +86,10 @@ fn other_type<'a>(tree: &Tree, directory: FileId, dirent: &Dirent<'a>) -> Option
     if !gives_node(dirent) {
         return None;
     }
-    let mode = dirent.entry.as_ref()?.attr.mode;
-    let file = tree.find(directory, dirent.name)?;
+    let (Some(entry), Some(file)) = (&dirent.entry, tree.find(directory, dirent.name)) else {
+        return None;
+    };
+    let mode = entry.attr.mode;
     let kind = tree.facts(file)?.kind;
     if mode.file_type() == Some(kind) {
         return None;
@@ -102,15 +109,14 @@ fn other_told<'a>(
     case: &Case<'_>,
     action: &Action<'_>,
 ) -> Option<OtherAttributes<'a>> {
-    let expected = expected_of(tree, case, action)?;
-    Some(OtherAttributes::Told {
-        told: attributes_told(action)?,
-        expected,
-        before: match expected.file {
-            Some(file) => of_file(tree, file),
-            None => None,
-        },
-    })
+    match (expected_of(tree, case, action), attributes_told(action)) {
+        (Some(expected), Some(told)) => Some(OtherAttributes::Told {
+            told,
+            expected,
+            before: of_file(tree, expected.file),
+        }),
+        _ => None,
+    }
 }
 
 /// The attributes that an answer tells.
@@ -139,12 +145,9 @@ fn attributes_told(action: &Action<'_>) -> Option<Attributes> {
 /// What attributes an answer to an action has to tell.
 fn expected_of(tree: &Tree, case: &Case<'_>, action: &Action<'_>) -> Option<Expected> {
     match action {
-        Action::Create {
-            name,
-            mode,
-            umask,
-            ..
-        } => of_created(tree, case, name, made(Kind::Regular, *mode, *umask)),
+        Action::Create { mode, umask, .. } => {
+            of_created(tree, case, made(Kind::Regular, *mode, *umask))
+        }
         Action::Symlink { .. } | Action::Mkdir { .. } | Action::Mknod { .. } => of_made(action),
         _ => of_known(tree, case, action),
     }
@@ -152,23 +155,31 @@ fn expected_of(tree: &Tree, case: &Case<'_>, action: &Action<'_>) -> Option<Expe
 
 /// The same of an action on a file that is there.
 fn of_known(tree: &Tree, case: &Case<'_>, action: &Action<'_>) -> Option<Expected> {
+    let known = of_file(tree, file_succeeded(tree, case, action))?;
+    Some(match action {
+        Action::Setattr { setattr, .. } => known.behind_setattr(setattr),
+        Action::Link { .. } => known.with_a_link(),
+        _ => known,
+    })
+}
+
+/// The file whose attributes the success of an action tells, if it does.
+pub(crate) fn file_succeeded(tree: &Tree, case: &Case<'_>, action: &Action<'_>) -> Option<FileId> {
     match action {
-        Action::Getattr { .. } => of_file(tree, case.node_in(tree)?),
-        Action::Setattr { setattr, .. } => {
-            Some(of_file(tree, case.node_in(tree)?)?.behind_setattr(setattr))
-        }
-        Action::Link { .. } => Some(of_file(tree, case.other_in(tree)?)?.with_a_link()),
-        Action::Lookup { name, .. } => { of_file(tree, tree.find(case.node_in(tree)?, name)?) }
+        Action::Getattr { .. } | Action::Setattr { .. } => case.node_in(tree),
+        Action::Lookup { .. } | Action::Create { .. } => case.named_in(tree),
+        Action::Link { .. } => case.other_in(tree),
         _ => None,
     }
 }
 
 /// The same of a CREATE, which opens the file that has the name: of a new one, where there is none.
-fn of_created(tree: &Tree, case: &Case<'_>, name: &[u8], new: Expected) -> Option<Expected> {
-    match tree.find(case.node_in(tree)?, name) {
-        Some(file) => Some(of_file(tree, file)?.behind_open(case)),
-        None => Some(new),
+fn of_created(tree: &Tree, case: &Case<'_>, new: Expected) -> Option<Expected> {
+    let file = case.named_in(tree);
+    if file.is_none() {
+        return Some(new);
     }
+    Some(of_file(tree, file)?.behind_open(case))
 }
 
 /// The same of an action that makes a file, but for a CREATE.
@@ -183,16 +194,16 @@ fn of_made(action: &Action<'_>) -> Option<Expected> {
     }
 }
 
-/// The attributes of a file as it is.
-fn of_file(tree: &Tree, file: FileId) -> Option<Expected> {
+/// The attributes of a file as it is, if it is there.
+fn of_file(tree: &Tree, file: Option<FileId>) -> Option<Expected> {
     let FileFacts {
         kind,
         bits,
         size,
         names,
-    } = tree.facts(file)?;
+    } = tree.facts(file?)?;
     Some(Expected {
-        file: Some(file),
+        file,
         kind,
         bits,
         size,

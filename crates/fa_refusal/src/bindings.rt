@@ -36,18 +36,22 @@ pub(crate) fn other_binding<'c>(
 
 /// The node that the answer to an action gives.
 fn given_by_action<'c>(tree: &Tree, case: &Case<'c>, action: &Action<'_>) -> Option<Binding<'c>> {
-    let node = node_given(case, 0)?;
-    let place = case.first_place()?;
+    let (Some(node), Some(place)) = (node_given(case, 0), case.first_place()) else {
+        return None;
+    };
     let file = match action {
         Action::Link { .. } => case.other_in(tree),
-        _ => tree.find(case.node_in(tree)?, place.name),
+        _ => case.named_in(tree),
     };
-    Some(Binding {
-        node,
-        other: tree.file_of(&node)?,
-        file,
-        name: place.name,
-    })
+    match tree.file_of(&node) {
+        Some(other) => Some(Binding {
+            node,
+            other,
+            file,
+            name: place.name,
+        }),
+        None => None,
+    }
 }
 
 /// The first node of a listing that is given for another file.
@@ -101,12 +105,18 @@ fn other_among<'c>(
 
 /// The directory that a request lists.
 pub(crate) fn directory_listed(tree: &Tree, case: &Case<'_>) -> Option<FileId> {
-    Some(tree.open_directory(case.call.handle?)?.directory())
+    match case.opened_in(tree) {
+        Some(opened) => Some(opened.directory()),
+        None => None,
+    }
 }
 
 /// The node at this place of those that an answer gives.
 fn node_given(case: &Case<'_>, place: usize) -> Option<NodeName> {
-    Some(*case.call.answer.as_ref()?.given.names().get(place)?)
+    match &case.call.answer {
+        Some(answer) => answer.given.names().get(place).copied(),
+        None => None,
+    }
 }
 
 /// The file that a node stands for, or was given for by an entry before.

@@ -4,7 +4,7 @@ ghost use Rattle.std.specs.Prelude.{◌≡◌, Some, slice_get, IfSome};
 ghost use Rattle.fa_ledger.specs.Calls.{call_shown};
 
 use fa_ledger::{Action, Call, Calls, NodeName, Operation};
-use fa_tree::{FileId, Tree};
+use fa_tree::{FileId, OpenedDirectory, Tree};
 
 /// A tree request, with what it asks for and what came of it.
 #[derive(Clone, Copy)]
@@ -65,20 +65,21 @@ impl<'c> Case<'c> {
 
     /// The name in the directory of its node, if it has one, with that node.
     pub fn first_place(&self) -> Option<NamedPlace<'c>> {
-        let name = name_of(self.action()?)?;
-        Some(NamedPlace {
-            node: self.call.node,
-            name,
-        })
+        match name_of(self.action()) {
+            Some(name) => Some(NamedPlace {
+                node: self.call.node,
+                name,
+            }),
+            None => None,
+        }
     }
 
     /// The new name of a RENAME, with the node of the new directory.
     pub fn second_place(&self) -> Option<NamedPlace<'c>> {
-        let name = new_name_of(self.action()?)?;
-        Some(NamedPlace {
-            node: self.call.other?,
-            name,
-        })
+        match (self.call.other, new_name_of(self.action())) {
+            (Some(node), Some(name)) => Some(NamedPlace { node, name }),
+            _ => None,
+        }
     }
 
     /// The file of its node in a tree, if the tree knows the node. Takes no memory.
@@ -93,34 +94,50 @@ impl<'c> Case<'c> {
             None => None,
         }
     }
+
+    /// The file in a tree that has its name in the directory of its node, if it has a name and there is one. Takes no memory.
+    pub(crate) fn named_in(&self, tree: &Tree) -> Option<FileId> {
+        match (self.node_in(tree), name_of(self.action())) {
+            (Some(directory), Some(name)) => tree.find(directory, name),
+            _ => None,
+        }
+    }
+
+    /// The directory that it lists, as it was opened in a tree, if it was. Takes no memory.
+    pub(crate) fn opened_in<'t>(&self, tree: &'t Tree) -> Option<OpenedDirectory<'t>> {
+        match self.call.handle {
+            Some(handle) => tree.open_directory(handle),
+            None => None,
+        }
+    }
 }
 
 /// The name that an action has in the directory of its node, if it has one.
-fn name_of<'c>(action: &Action<'c>) -> Option<&'c [u8]> {
+fn name_of<'c>(action: Option<&Action<'c>>) -> Option<&'c [u8]> {
     match action {
-        Action::Lookup { name, .. }
-        | Action::Symlink { name, .. }
-        | Action::Mknod { name, .. }
-        | Action::Mkdir { name, .. }
-        | Action::Unlink { name, .. }
-        | Action::Rmdir { name, .. }
-        | Action::Create { name, .. } => Some(*name),
-        Action::Rename { old_name, .. } | Action::Rename2 { old_name, .. } => Some(*old_name),
-        Action::Link { new_name, .. } => Some(*new_name),
-        Action::Getattr { .. }
-        | Action::Setattr { .. }
-        | Action::Readlink { .. }
-        | Action::Open { .. }
-        | Action::Read { .. }
-        | Action::Write { .. }
-        | Action::Opendir { .. } => None,
+        Some(
+            Action::Lookup { name, .. }
+            | Action::Symlink { name, .. }
+            | Action::Mknod { name, .. }
+            | Action::Mkdir { name, .. }
+            | Action::Unlink { name, .. }
+            | Action::Rmdir { name, .. }
+            | Action::Create { name, .. },
+        ) => Some(*name),
+        Some(Action::Rename { old_name, .. } | Action::Rename2 { old_name, .. }) => {
+            Some(*old_name)
+        }
+        Some(Action::Link { new_name, .. }) => Some(*new_name),
+        _ => None,
     }
 }
 
 /// The name to which an action moves another, if it does.
-fn new_name_of<'c>(action: &Action<'c>) -> Option<&'c [u8]> {
+fn new_name_of<'c>(action: Option<&Action<'c>>) -> Option<&'c [u8]> {
     match action {
-        Action::Rename { new_name, .. } | Action::Rename2 { new_name, .. } => Some(*new_name),
+        Some(Action::Rename { new_name, .. } | Action::Rename2 { new_name, .. }) => {
+            Some(*new_name)
+        }
         _ => None,
     }
 }

@@ -1,7 +1,7 @@
 //! Bytes and targets that are not those of the file: code 85.
 
 use crate::case::Case;
-use crate::history::BytePlace;
+use crate::history::{BytePlace, sized};
 use fa_ledger::{Action, Outcome};
 use fa_tree::{FileId, Tree};
 
@@ -31,23 +31,26 @@ pub struct Difference {
 
 /// What the answer to a request says of the bytes of a file.
 pub(crate) fn reading_of<'c>(tree: &Tree, case: &Case<'c>) -> Option<Reading<'c>> {
-    let file = tree.file_of(&case.call.node)?;
-    let size = tree.facts(file)?.size;
-    match case.action()? {
-        Action::Readlink {
-            outcome: Outcome::Succeeds(answered),
-        } => Some(Reading {
+    let (file, size) = sized(tree, case.node_in(tree))?;
+    match case.action() {
+        Some(
+            Action::Readlink {
+                outcome: Outcome::Succeeds(answered),
+            },
+        ) => Some(Reading {
             file,
             offset: 0,
             answered: *answered,
             expected: size,
             is_target: true,
         }),
-        Action::Read {
-            offset,
-            size: asked,
-            outcome: Outcome::Succeeds(answered),
-        } => {
+        Some(
+            Action::Read {
+                offset,
+                size: asked,
+                outcome: Outcome::Succeeds(answered),
+            },
+        ) => {
             Some(Reading {
                 file,
                 offset: *offset,

@@ -50,7 +50,7 @@ impl Trial {
         let Some(step) = Case::of(refused.calls, entry.at) else {
             return Ok(false);
         };
-        let before = history.before(tree, &step)?;
+        let before = history.before(tree, &step);
         if !take_step(tree, replay, entry)? {
             return Ok(false);
         }

@@ -10,7 +10,7 @@ use crate::refused::Refused;
 use crate::unmet::{Unmet, first_unmet};
 use fa_capture::codes;
 use fa_ledger::Outcome;
-use fa_tree::{FileId, OpenedDirectory, Tree};
+use fa_tree::{FileId, Tree};
 use std::alloc::AllocError;
 
 /// Why a tree refuses a step, by its code.
@@ -85,31 +85,23 @@ impl<'a, 't> Finding<'a, 't> {
     }
 
     /// Asks a history for all that is told of a request that this tree refuses.
-    pub(crate) fn ask(
-        &self,
-        history: &mut History,
-        tree: &Tree,
-        case: &Case<'_>,
-    ) -> Result<(), AllocError> {
-        ask_for(history, case.node_in(tree))?;
-        ask_for(history, case.other_in(tree))?;
-        ask_for_name(history, tree, case.first_place())?;
-        ask_for_name(history, tree, case.second_place())?;
+    pub(crate) fn ask(&self, history: &mut History, tree: &Tree, case: &Case<'_>) {
+        ask_for(history, case.node_in(tree));
+        ask_for(history, case.other_in(tree));
+        ask_for_name(history, tree, case.first_place());
+        ask_for_name(history, tree, case.second_place());
         match self {
-            Finding::NotAllowed(_) | Finding::WithoutCause(_) => Ok(()),
+            Finding::NotAllowed(_) | Finding::WithoutCause(_) => {}
             Finding::Attributes(other) => match other {
-                OtherAttributes::Told { .. } => Ok(()),
+                OtherAttributes::Told { .. } => {}
                 OtherAttributes::Listed(listed) => history.ask_for_file(listed.file),
             },
             Finding::Given(binding) => {
                 history.ask_for_node(binding.node, binding.file);
-                history.ask_for_file(binding.other)?;
-                ask_for(history, binding.file)
+                history.ask_for_file(binding.other);
+                ask_for(history, binding.file);
             }
-            Finding::Read(reading) => {
-                history.ask_for_byte(reading.byte_place(tree));
-                Ok(())
-            }
+            Finding::Read(reading) => history.ask_for_byte(reading.byte_place(tree)),
             Finding::Listed(listing) => listing.ask(history, tree),
         }
     }
@@ -121,38 +113,28 @@ fn listed<'a, 't>(
     tree: &'t Tree,
     case: &Case<'a>,
 ) -> Result<Option<Finding<'a, 't>>, AllocError> {
-    let Some(opened) = opened_by(tree, case) else {
+    let Some(opened) = case.opened_in(tree) else {
         return Ok(None);
     };
     let listing = listing_of(refused.alloc, refused.calls, tree, &opened, case)?;
     Ok(Some(Finding::Listed(listing)))
 }
 
-/// The directory that a request lists, as it was opened.
-fn opened_by<'t>(tree: &'t Tree, case: &Case<'_>) -> Option<OpenedDirectory<'t>> {
-    tree.open_directory(case.call.handle?)
-}
-
 /// Asks for a file, if there is one.
-fn ask_for(history: &mut History, file: Option<FileId>) -> Result<(), AllocError> {
-    match file {
-        Some(file) => history.ask_for_file(file),
-        None => Ok(()),
+fn ask_for(history: &mut History, file: Option<FileId>) {
+    if let Some(file) = file {
+        history.ask_for_file(file);
     }
 }
 
 /// Asks for a place, and for the file that has its name.
-fn ask_for_name(
-    history: &mut History,
-    tree: &Tree,
-    place: Option<NamedPlace<'_>>,
-) -> Result<(), AllocError> {
+fn ask_for_name(history: &mut History, tree: &Tree, place: Option<NamedPlace<'_>>) {
     let Some(place) = place else {
-        return Ok(());
+        return;
     };
     let Some(directory) = tree.file_of(&place.node) else {
-        return Ok(());
+        return;
     };
-    history.ask_for_place(directory, place.name)?;
-    ask_for(history, tree.find(directory, place.name))
+    history.ask_for_place(directory, place.name);
+    ask_for(history, tree.find(directory, place.name));
 }

@@ -1,5 +1,6 @@
 //! What of a tree which request made, named, took away and changed last.
 
+use crate::attributes::file_succeeded;
 use crate::bindings::directory_listed;
 use crate::case::{Case, NamedPlace};
 use crate::paths::path_of;
@@ -25,6 +26,11 @@ pub struct PlaceHistory {
 }
 
 impl PlaceHistory {
+    /// Whether it is that of this name in a directory.
+    fn is_of(&self, directory: FileId, name: &[u8]) -> bool {
+        self.directory == directory && self.name.as_slice() == name
+    }
+
     /// Whether the place is as it was from the start, and no answer told so: only the first tree does.
     pub fn is_from_start(&self) -> bool {
         self.named_by.is_none() && self.taken_by.is_none() && !self.is_told
@@ -54,7 +60,7 @@ pub struct FileHistory {
 }
 
 /// A byte of a file.
-#[derive(Clone, Copy, PartialEq, Eq)]
+#[derive(Clone, Copy)]
 pub(crate) struct BytePlace {
     pub file: FileId,
     pub offset: u64,
@@ -88,6 +94,8 @@ pub struct History {
     node_of: Option<FileId>,
     /// The first other node that was given for the file of which nodes are asked for.
     pub own_node: Option<NodeGiven>,
+    /// Whether memory was refused for what is asked for, or for a path: it is not whole then.
+    pub(crate) lacks_memory: bool,
 }
 
 /// A place as it is before a step.
@@ -122,15 +130,19 @@ impl History {
             node_by: None,
             node_of: None,
             own_node: None,
+            lacks_memory: false,
         }
     }
 
     /// Asks for a place of a directory.
-    pub(crate) fn ask_for_place(
-        &mut self,
-        directory: FileId,
-        name: &[u8],
-    ) -> Result<(), AllocError> {
+    pub(crate) fn ask_for_place(&mut self, directory: FileId, name: &[u8]) {
+        if self.add_place(directory, name).is_err() {
+            self.lacks_memory = true;
+        }
+    }
+
+    /// The same, where memory may be refused.
+    fn add_place(&mut self, directory: FileId, name: &[u8]) -> Result<(), AllocError> {
         let mut owned = Vec::new(self.alloc);
         owned.extend_from_slice(name)?;
         self.places.push(PlaceHistory {
@@ -144,8 +156,8 @@ impl History {
     }
 
     /// Asks for a file.
-    pub(crate) fn ask_for_file(&mut self, file: FileId) -> Result<(), AllocError> {
-        self.files.push(FileHistory {
+    pub(crate) fn ask_for_file(&mut self, file: FileId) {
+        let asked = FileHistory {
             file,
             bytes_by: None,
             cut_by: None,
@@ -155,8 +167,10 @@ impl History {
             unnamed_by: None,
             is_told: false,
             last_path: Vec::new(self.alloc),
-        })?;
-        Ok(())
+        };
+        if self.files.push(asked).is_err() {
+            self.lacks_memory = true;
+        }
     }
 
     /// Asks for a byte of a file.
@@ -172,52 +186,73 @@ impl History {
 
     /// What is known of a place, if it was asked for. Takes no memory, and time in the places that were.
     pub fn place(&self, directory: FileId, name: &[u8]) -> Option<&PlaceHistory> {
-        self.places.iter().find(|place| place.directory == directory
-            && place.name.as_slice() == name)
+        for place in self.places.iter() {
+            if place.is_of(directory, name) {
+                return Some(place);
+            }
+        }
+        None
+    }
+
+    /// The same, to note what becomes of it.
+    fn place_mut(&mut self, directory: FileId, name: &[u8]) -> Option<&mut PlaceHistory> {
+        for place in self.places.iter_mut() {
+            if place.is_of(directory, name) {
+                return Some(place);
+            }
+        }
+        None
     }
 
     /// What is known of a file, if it was asked for. Takes no memory, and time in the files that were.
     pub fn file(&self, file: FileId) -> Option<&FileHistory> {
-        self.files.iter().find(|known| known.file == file)
+        for known in self.files.iter() {
+            if known.file == file {
+                return Some(known);
+            }
+        }
+        None
+    }
+
+    /// The same, to note what becomes of it.
+    fn file_mut(&mut self, file: FileId) -> Option<&mut FileHistory> {
+        for known in self.files.iter_mut() {
+            if known.file == file {
+                return Some(known);
+            }
+        }
+        None
     }
 
     /// Notes what a request may change, before its step.
-    pub(crate) fn before<'c>(
-        &mut self,
-        tree: &Tree,
-        case: &Case<'c>,
-    ) -> Result<Before<'c>, AllocError> {
+    pub(crate) fn before<'c>(&mut self, tree: &Tree, case: &Case<'c>) -> Before<'c> {
         let before = Before {
             first: place_before(tree, case.first_place()),
             second: place_before(tree, case.second_place()),
             file: file_before(tree, case),
         };
         if let Some(file) = losing(case, &before) {
-            self.note_path(tree, file)?;
+            self.note_path(tree, file);
         }
-        Ok(before)
+        before
     }
 
     /// Notes the path of a file that is asked for and has one name.
-    fn note_path(&mut self, tree: &Tree, file: FileId) -> Result<(), AllocError> {
+    fn note_path(&mut self, tree: &Tree, file: FileId) {
         if !has_one_name(tree, file) || self.file(file).is_none() {
-            return Ok(());
+            return;
         }
-        let path = match path_of(self.alloc, tree, file)? {
-            Some(path) => path,
-            None => Vec::new(self.alloc),
-        };
-        self.set_path(file, path);
-        Ok(())
+        match path_of(self.alloc, tree, file) {
+            Ok(Some(path)) => self.set_path(file, path),
+            Ok(None) => self.set_path(file, Vec::new(self.alloc)),
+            Err(_) => self.lacks_memory = true,
+        }
     }
 
     /// Keeps the path of a file.
     fn set_path(&mut self, file: FileId, path: Vec<u8>) {
-        for known in self.files.iter_mut() {
-            if known.file == file {
-                known.last_path = path;
-                return;
-            }
+        if let Some(known) = self.file_mut(file) {
+            known.last_path = path;
         }
     }
 
@@ -239,22 +274,10 @@ impl History {
         if let (Some((file, size)), Some(action)) = (before.file, case.action()) {
             let touched = touched_by(tree, case, action, file, size, wrote);
             self.note_touched(asked, file, &touched);
-            if leaves_whole(case, action) {
-                self.note_left_whole(asked, file);
-            }
         }
         self.note_told(tree, case, before);
         self.note_node(tree, asked);
         self.note_own_node(tree, case);
-    }
-
-    /// Notes that a request opened a file with `O_TRUNC` and did not cut it.
-    fn note_left_whole(&mut self, asked: u32, file: FileId) {
-        for known in self.files.iter_mut() {
-            if known.file == file {
-                known.left_whole_by = Some(asked);
-            }
-        }
     }
 
     /// Notes what the answer to a request told.
@@ -279,10 +302,8 @@ impl History {
 
     /// Notes that an answer told whether a name is there.
     fn note_place_told(&mut self, told: &PlaceBefore<'_>) {
-        for place in self.places.iter_mut() {
-            if place.directory == told.directory && place.name.as_slice() == told.name {
-                place.is_told = true;
-            }
+        if let Some(place) = self.place_mut(told.directory, told.name) {
+            place.is_told = true;
         }
     }
 
@@ -307,10 +328,8 @@ impl History {
 
     /// Notes that an answer told the attributes of a file.
     fn note_file_told(&mut self, file: FileId) {
-        for known in self.files.iter_mut() {
-            if known.file == file {
-                known.is_told = true;
-            }
+        if let Some(known) = self.file_mut(file) {
+            known.is_told = true;
         }
     }
 
@@ -320,41 +339,28 @@ impl History {
         if file == before.file {
             return;
         }
-        for place in self.places.iter_mut() {
-            if place.directory == before.directory && place.name.as_slice() == before.name {
-                if before.file.is_some() {
-                    place.taken_by = Some(asked);
-                }
-                if file.is_some() {
-                    place.named_by = Some(asked);
-                }
+        if let Some(place) = self.place_mut(before.directory, before.name) {
+            if before.file.is_some() {
+                place.taken_by = Some(asked);
+            }
+            if file.is_some() {
+                place.named_by = Some(asked);
             }
         }
         if let Some(lost) = before.file {
-            self.note_links(asked, lost);
-            self.note_unnamed(tree, asked, lost);
+            self.note_links(tree, asked, lost);
         }
         if let Some(named) = file {
-            self.note_links(asked, named);
+            self.note_links(tree, asked, named);
         }
     }
 
-    /// Notes that a file came to have a name more or less.
-    fn note_links(&mut self, asked: u32, file: FileId) {
-        for known in self.files.iter_mut() {
-            if known.file == file {
-                known.links_by = Some(asked);
-            }
-        }
-    }
-
-    /// Notes that a file lost a name.
-    fn note_unnamed(&mut self, tree: &Tree, asked: u32, file: FileId) {
-        if tree.is_linked(file) {
-            return;
-        }
-        for known in self.files.iter_mut() {
-            if known.file == file {
+    /// Notes that a file came to have a name more or less, and whether it has none any more.
+    fn note_links(&mut self, tree: &Tree, asked: u32, file: FileId) {
+        let is_linked = tree.is_linked(file);
+        if let Some(known) = self.file_mut(file) {
+            known.links_by = Some(asked);
+            if !is_linked {
                 known.unnamed_by = Some(asked);
             }
         }
@@ -362,18 +368,19 @@ impl History {
 
     /// Notes what a request set of a file.
     fn note_touched(&mut self, asked: u32, file: FileId, touched: &Touched) {
-        for known in self.files.iter_mut() {
-            if known.file == file {
-                if touched.bits {
-                    known.bits_by = Some(asked);
-                }
-                if touched.bytes.is_some() {
-                    known.bytes_by = Some(asked);
-                    known.left_whole_by = None;
-                }
-                if touched.cuts {
-                    known.cut_by = Some(asked);
-                }
+        if let Some(known) = self.file_mut(file) {
+            if touched.bits {
+                known.bits_by = Some(asked);
+            }
+            if touched.bytes.is_some() {
+                known.bytes_by = Some(asked);
+                known.left_whole_by = None;
+            }
+            if touched.cuts {
+                known.cut_by = Some(asked);
+            }
+            if touched.is_left_whole {
+                known.left_whole_by = Some(asked);
             }
         }
         if let (Some(byte), Some((begin, end))) = (self.byte, touched.bytes) {
@@ -423,38 +430,57 @@ struct Touched {
     filled: u64,
     /// Whether the file has fewer bytes behind it.
     cuts: bool,
+    /// Whether it opened the file with `O_TRUNC` and did not cut it.
+    is_left_whole: bool,
 }
 
 /// A place before a step.
 fn place_before<'c>(tree: &Tree, place: Option<NamedPlace<'c>>) -> Option<PlaceBefore<'c>> {
     let place = place?;
-    let directory = tree.file_of(&place.node)?;
-    Some(PlaceBefore {
-        directory,
-        name: place.name,
-        file: tree.find(directory, place.name),
-    })
+    match tree.file_of(&place.node) {
+        Some(directory) => Some(PlaceBefore {
+            directory,
+            name: place.name,
+            file: tree.find(directory, place.name),
+        }),
+        None => None,
+    }
 }
 
 /// The file whose bytes or bits a request may set, and how many bytes it has.
 fn file_before(tree: &Tree, case: &Case<'_>) -> Option<(FileId, u64)> {
-    let file = match case.action()? {
-        Action::Create { .. } => file_named(tree, case)?,
-        _ => case.node_in(tree)?,
-    };
-    Some((file, tree.facts(file)?.size))
+    match case.action() {
+        Some(Action::Create { .. }) => sized(tree, case.named_in(tree)),
+        Some(_) => sized(tree, case.node_in(tree)),
+        None => None,
+    }
+}
+
+/// A file, if there is one, and how many bytes it has.
+pub(crate) fn sized(tree: &Tree, file: Option<FileId>) -> Option<(FileId, u64)> {
+    let file = file?;
+    match tree.facts(file) {
+        Some(facts) => Some((file, facts.size)),
+        None => None,
+    }
 }
 
 /// The file that may lose its last name by a request.
 fn losing(case: &Case<'_>, before: &Before<'_>) -> Option<FileId> {
-    match case.action()? {
-        Action::Unlink { .. } | Action::Rmdir { .. } => before.first?.file,
-        Action::Rename { .. }
-        | Action::Rename2 {
-            flags: RenameFlags::Replace | RenameFlags::NoReplace,
-            ..
-        } => before.second?.file,
+    let place = match case.action() {
+        Some(Action::Unlink { .. } | Action::Rmdir { .. }) => before.first,
+        Some(
+            Action::Rename { .. }
+            | Action::Rename2 {
+                flags: RenameFlags::Replace | RenameFlags::NoReplace,
+                ..
+            },
+        ) => before.second,
         _ => None,
+    };
+    match place {
+        Some(place) => place.file,
+        None => None,
     }
 }
 
@@ -480,6 +506,7 @@ fn touched_by(
         bytes: None,
         filled: 0,
         cuts: false,
+        is_left_whole: false,
     };
     if let Outcome::Fails(_) = action.ended() {
         return none;
@@ -488,32 +515,32 @@ fn touched_by(
         Action::Setattr { setattr, .. } => Touched {
             bits: sets_bits(tree, file, setattr),
             bytes: if setattr.valid().contains(FattrFlags::SIZE) {
-                Some(parted(size, setattr.size()))
+                Some((size.min(setattr.size()), size.max(setattr.size())))
             } else {
                 None
             },
             filled: setattr.size(),
             cuts: setattr.valid().contains(FattrFlags::SIZE) && setattr.size() < size,
+            ..none
         },
         Action::Open { .. } | Action::Create { .. } => Touched {
-            bits: false,
             bytes: if case.call.truncates {
                 Some((0, size))
             } else {
                 None
             },
-            filled: 0,
             cuts: case.call.truncates && size > 0,
+            is_left_whole: leaves_whole(case, action),
+            ..none
         },
         Action::Write {
             offset,
             outcome,
             ..
         } => Touched {
-            bits: false,
             bytes: range_written(*offset, size, outcome, wrote),
             filled: *offset,
-            cuts: false,
+            ..none
         },
         _ => none,
     }
@@ -526,11 +553,6 @@ fn sets_bits(tree: &Tree, file: FileId, setattr: &SetattrBytes<'_>) -> bool {
             Some(facts) => facts.kind != Kind::Symlink,
             None => false,
         }
-}
-
-/// The bytes between two sizes.
-fn parted(size: u64, other: u64) -> (u64, u64) {
-    (size.min(other), size.max(other))
 }
 
 /// The bytes that a WRITE set of a file of this size, if it wrote some: those that it wrote, and the zeros before them behind the end.
@@ -612,29 +634,13 @@ fn is_of_type(action: &Action<'_>, error: i32) -> bool {
 
 /// The file whose attributes, or whose type at least, the answer to a request tells, if it does.
 fn file_told(tree: &Tree, case: &Case<'_>) -> Option<FileId> {
-    let action = case.action()?;
-    match case.operation.ended() {
-        Outcome::Succeeds(()) => file_succeeded(tree, case, action),
-        Outcome::Fails(error) => if is_of_type(action, error) {
-            file_named(tree, case)
+    match (case.operation.ended(), case.action()) {
+        (Outcome::Succeeds(()), Some(action)) => file_succeeded(tree, case, action),
+        (Outcome::Fails(error), Some(action)) => if is_of_type(action, error) {
+            case.named_in(tree)
         } else {
             None
         },
-        Outcome::Unanswered => None,
-    }
-}
-
-/// The file that has the name of a request, if there is one.
-fn file_named(tree: &Tree, case: &Case<'_>) -> Option<FileId> {
-    tree.find(case.node_in(tree)?, case.first_place()?.name)
-}
-
-/// The file whose attributes the success of an action tells, if it does.
-fn file_succeeded(tree: &Tree, case: &Case<'_>, action: &Action<'_>) -> Option<FileId> {
-    match action {
-        Action::Getattr { .. } | Action::Setattr { .. } => case.node_in(tree),
-        Action::Lookup { .. } | Action::Create { .. } => file_named(tree, case),
-        Action::Link { .. } => case.other_in(tree),
         _ => None,
     }
 }

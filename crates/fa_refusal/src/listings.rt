@@ -84,18 +84,6 @@ impl<'a> SoFar<'a> {
         }
         Ok(self.names.insert(name, asked)?)
     }
-
-    /// Notes the entries of an answer that count.
-    fn note_answer(
-        &mut self,
-        opened: &OpenedDirectory<'_>,
-        piece: &Piece<'a>,
-    ) -> Result<(), AllocError> {
-        for dirent in piece.entries.take(piece.count as usize) {
-            self.note(opened, dirent.name, piece.asked)?;
-        }
-        Ok(())
-    }
 }
 
 /// An answer from which a listing goes on.
@@ -122,15 +110,17 @@ fn entries_of<'a>(case: &Case<'a>) -> Option<(List<'a>, Entries<'a>)> {
 fn piece_before<'a>(calls: &'a Calls<'_>, case: &Case<'a>) -> Option<(Case<'a>, Piece<'a>)> {
     let (asked, count) = case.call.listing?.before?;
     let before = Case::of(calls, asked)?;
-    let (_, entries) = entries_of(&before)?;
-    Some((
-        before,
-        Piece {
-            asked,
-            entries,
-            count,
-        },
-    ))
+    match entries_of(&before) {
+        Some((_, entries)) => Some((
+            before,
+            Piece {
+                asked,
+                entries,
+                count,
+            },
+        )),
+        None => None,
+    }
 }
 
 /// The answers from which the listing of a request goes on, the last first.
@@ -224,10 +214,12 @@ impl<'a, 't> Listing<'a, 't> {
         so_far: &mut SoFar<'a>,
     ) -> Result<(), AllocError> {
         for piece in pieces {
-            self.note_piece(piece)?;
+            if self.pieces.len() < LAST_PIECES {
+                self.pieces.push(piece.asked)?;
+            }
         }
         for piece in pieces.iter().rev() {
-            so_far.note_answer(opened, piece)?;
+            self.note_piece(opened, piece, so_far)?;
         }
         Ok(())
     }
@@ -251,15 +243,18 @@ impl<'a, 't> Listing<'a, 't> {
         Ok(())
     }
 
-    /// Notes an answer from which it goes on.
-    fn note_piece(&mut self, piece: &Piece<'_>) -> Result<(), AllocError> {
+    /// Notes the entries that count of an answer from which it goes on.
+    fn note_piece(
+        &mut self,
+        opened: &OpenedDirectory<'_>,
+        piece: &Piece<'a>,
+        so_far: &mut SoFar<'a>,
+    ) -> Result<(), AllocError> {
         for dirent in piece.entries.take(piece.count as usize) {
             if !is_dots(dirent.name) {
                 self.listed = self.listed.saturating_add(1);
             }
-        }
-        if self.pieces.len() < LAST_PIECES {
-            self.pieces.push(piece.asked)?;
+            so_far.note(opened, dirent.name, piece.asked)?;
         }
         Ok(())
     }
@@ -325,29 +320,24 @@ impl<'a, 't> Listing<'a, 't> {
     }
 
     /// Asks a history for the places of which the lines tell, for the directory, and for the files whose entries have another type.
-    pub(crate) fn ask(&self, history: &mut History, tree: &Tree) -> Result<(), AllocError> {
-        history.ask_for_file(self.directory)?;
+    pub(crate) fn ask(&self, history: &mut History, tree: &Tree) {
+        history.ask_for_file(self.directory);
         for other in &self.types.first {
             if let Some(file) = tree.find(self.directory, other.name) {
-                history.ask_for_file(file)?;
+                history.ask_for_file(file);
             }
         }
-        ask_for_places(history, self.directory, &self.missing.first)?;
-        ask_for_places(history, self.directory, &self.never.first)?;
-        ask_for_places(history, self.directory, &self.gone.first)
+        ask_for_places(history, self.directory, &self.missing.first);
+        ask_for_places(history, self.directory, &self.never.first);
+        ask_for_places(history, self.directory, &self.gone.first);
     }
 }
 
 /// Asks for the places of these names.
-fn ask_for_places(
-    history: &mut History,
-    directory: FileId,
-    names: &[&[u8]],
-) -> Result<(), AllocError> {
+fn ask_for_places(history: &mut History, directory: FileId, names: &[&[u8]]) {
     for name in names {
-        history.ask_for_place(directory, name)?;
+        history.ask_for_place(directory, name);
     }
-    Ok(())
 }
 
 /// The names that stayed and are not listed, the least first.
@@ -391,12 +381,19 @@ fn next_missing<'t>(
 
 /// The number of the type of a file that stayed, if an entry tells another.
 fn other_kind(tree: &Tree, opened: &OpenedDirectory<'_>, dirent: &Dirent<'_>) -> Option<u32> {
-    let file = opened.stayed(dirent.name)?;
-    let expected = kind_number(tree.facts(file)?.kind);
+    let expected = kind_number(kind_of(tree, opened.stayed(dirent.name))?);
     if dirent.kind == 0 || dirent.kind == expected {
         None
     } else {
         Some(expected)
+    }
+}
+
+/// The type of a file, if it is there.
+pub(crate) fn kind_of(tree: &Tree, file: Option<FileId>) -> Option<Kind> {
+    match tree.facts(file?) {
+        Some(facts) => Some(facts.kind),
+        None => None,
     }
 }
 
@@ -410,7 +407,7 @@ pub(crate) fn gives_node(dirent: &Dirent<'_>) -> bool {
 
 /// Whether a name is `.` or `..`.
 fn is_dots(name: &[u8]) -> bool {
-    name == b".".as_slice() || name == b"..".as_slice()
+    matches!(name, [b'.'] | [b'.', b'.'])
 }
 
 /// The number of a type of files in `struct fuse_dirent`.

@@ -46,7 +46,7 @@ pub struct Beside {
 }
 
 /// What comes of a request as the next entry of an order.
-#[derive(Clone, Copy, PartialEq, Eq)]
+#[derive(Clone, Copy)]
 pub enum Next {
     /// The entry of this number names it already.
     Placed(u32),

@@ -37,8 +37,8 @@ impl Past {
     ) -> Result<Self, AllocError> {
         let mut history = History::new(refused.alloc);
         match note_past(refused, tree, case, finding, &mut history) {
-            Ok(earlier) => Ok(Past { history, earlier }),
-            Err(error) => Err(error),
+            Ok(earlier) if !history.lacks_memory => Ok(Past { history, earlier }),
+            _ => Err(AllocError),
         }
     }
 }
@@ -51,7 +51,7 @@ fn note_past(
     finding: &Finding<'_, '_>,
     history: &mut History,
 ) -> Result<Earlier, AllocError> {
-    finding.ask(history, tree, case)?;
+    finding.ask(history, tree, case);
     let is_tried = case.call.answer.is_some() && !matches!(finding, Finding::Listed(_));
     let mut first = refused.first.copy()?;
     let earlier = past_along(refused, &mut first, case, is_tried, history);

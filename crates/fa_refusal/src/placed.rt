@@ -47,7 +47,10 @@ impl Placed {
 
     /// The entry that names the request at this place among the calls, if one does. In constant time.
     pub fn entry(&self, place: usize) -> Option<u32> {
-        *self.entries.get(place)?
+        match self.entries.get(place) {
+            Some(entry) => *entry,
+            None => None,
+        }
     }
 
     /// The request of the first answer that is in no entry, with the number of that answer: these are the calls that it was made by.
@@ -64,7 +67,10 @@ impl Placed {
                 }
             }
         }
-        Some((Case::at(calls, first?)?, front))
+        match Case::at(calls, first?) {
+            Some(case) => Some((case, front)),
+            None => None,
+        }
     }
 
     /// The number of the answer to the request at this place, if it is answered and in no entry.
@@ -72,6 +78,9 @@ impl Placed {
         if self.entry(place).is_some() {
             return None;
         }
-        Some(calls.list.get(place)?.answer?.at)
+        match calls.list.get(place)?.answer {
+            Some(answer) => Some(answer.at),
+            None => None,
+        }
     }
 }

@@ -34,7 +34,10 @@ pub struct Refused<'a> {
 impl Refused<'_> {
     /// How many bytes the entry at fault says that its request wrote.
     pub fn wrote(&self) -> Option<u32> {
-        self.entries.get(self.entry as usize)?.wrote
+        match self.entries.get(self.entry as usize) {
+            Some(entry) => entry.wrote,
+            None => None,
+        }
     }
 }
 

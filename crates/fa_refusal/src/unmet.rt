@@ -8,7 +8,7 @@ use fa_ledger::{Action, Operation, Outcome};
 use fa_tree::{FileId, Kind, Tree};
 
 /// A part of what a success needs, where it does not hold.
-#[derive(Clone, Copy, PartialEq, Eq)]
+#[derive(Clone, Copy)]
 pub enum Part {
     /// The name is not there.
     NotThere,
