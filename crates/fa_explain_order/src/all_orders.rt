@@ -3,7 +3,7 @@
 use std::alloc::AllocError;
 
 /// What a search of all orders of a capture's requests found, from the tree that the server began with.
-#[derive(Clone, Copy, Debug, PartialEq, Eq)]
+#[derive(Clone, Copy)]
 pub enum AllOrders {
     /// One is legal.
     Legal,
@@ -24,7 +24,7 @@ pub trait Search {
 }
 
 /// No search is made.
-#[derive(Clone, Copy, Debug)]
+#[derive(Clone, Copy)]
 pub struct NoSearch;
 
 impl Search for NoSearch {

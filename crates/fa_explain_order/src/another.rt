@@ -1,14 +1,14 @@
 //! Whether another order explains an answer.
 
 use crate::all_orders::{AllOrders, Search};
-use crate::wording::{self, begin_request, comma};
+use crate::wording::{self, begin_request};
 use fa_ledger::Calls;
 use fa_refusal::{Beside, Case, Next, Overlaps};
 use fa_show::Text;
 use std::alloc::AllocError;
 
 /// Whether another order explains an answer, and all answers before it.
-#[derive(Clone, Copy, PartialEq, Eq)]
+#[derive(Clone, Copy)]
 pub(crate) enum Another {
     /// One is legal.
     Legal,
@@ -105,13 +105,21 @@ fn others(text: &mut Text, calls: &Calls<'_>, another: Another) -> bool {
         ),
         Another::Never => text.word("no order explains this answer"),
         Another::Until(stop) => {
-            text.word("another explains this answer, but none the one to ");
-            asked_by(text, calls, stop);
+            asked_by(
+                text,
+                calls,
+                "another explains this answer, but none the one to ",
+                stop,
+            );
             text.word(" as well (`fa_audit judge --explain`)");
         }
         Another::NeverPast(stop) => {
-            text.word("no order explains this answer, nor the one to ");
-            asked_by(text, calls, stop);
+            asked_by(
+                text,
+                calls,
+                "no order explains this answer, nor the one to ",
+                stop,
+            );
             text.word(" before it (`fa_audit judge --explain`)");
         }
         Another::Unknown | Another::Unanswered => return false,
@@ -119,44 +127,51 @@ fn others(text: &mut Text, calls: &Calls<'_>, another: Another) -> bool {
     true
 }
 
-/// Writes the request that a message answers.
-pub(crate) fn asked_by(text: &mut Text, calls: &Calls<'_>, answer: u32) {
-    if let Some(case) = answered_by(calls, answer) {
-        wording::request(text, calls, case.call.asked);
+/// Writes a word, and behind it the request that a message answers.
+pub(crate) fn asked_by(text: &mut Text, calls: &Calls<'_>, word: &str, answer: u32) {
+    match answered_by(calls, answer) {
+        Some(case) => wording::request(text, calls, word, case.call.asked),
+        None => text.word(word),
     }
 }
 
 /// The request that a message answers, if it acts on the tree.
 pub(crate) fn answered_by<'c>(calls: &'c Calls<'_>, at: u32) -> Option<Case<'c>> {
     for place in 0..calls.list.len() {
-        let case = Case::at(calls, place)?;
-        if case.call.answer.is_some_and(|answer| answer.at == at) {
-            return Some(case);
+        if let Some(case) = Case::at(calls, place) {
+            if is_answered_at(&case, at) {
+                return Some(case);
+            }
         }
     }
     None
 }
 
+/// Whether this message answers a request.
+fn is_answered_at(case: &Case<'_>, at: u32) -> bool {
+    match &case.call.answer {
+        Some(answer) => answer.at == at,
+        None => false,
+    }
+}
+
 /// Writes that two requests were under way at once before one, with what was found out of other orders.
 fn earlier_overlap(text: &mut Text, calls: &Calls<'_>, pair: (u32, u32), another: Another) {
     if others(text, calls, another) {
-        text.word("; ");
-        two_requests(text, calls, pair);
+        two_requests(text, calls, "; ", pair);
         text.word(" were under way at once before it");
     } else {
-        text.word("none was under way with it, but ");
-        two_requests(text, calls, pair);
+        two_requests(text, calls, "none was under way with it, but ", pair);
         text.word(
             " were at once: another order of what came before may explain it (`fa_audit judge`, with more `--steps` where it gives up)",
         );
     }
 }
 
-/// Writes two requests.
-fn two_requests(text: &mut Text, calls: &Calls<'_>, (first, second): (u32, u32)) {
-    wording::request(text, calls, first);
-    text.word(" and ");
-    wording::request(text, calls, second);
+/// Writes a word, and behind it two requests.
+fn two_requests(text: &mut Text, calls: &Calls<'_>, word: &str, (first, second): (u32, u32)) {
+    wording::request(text, calls, word, first);
+    wording::request(text, calls, " and ", second);
 }
 
 /// Writes the first requests that were under way with one, and how many there are, with what was found out of other orders.
@@ -170,11 +185,10 @@ fn beside(text: &mut Text, calls: &Calls<'_>, first: &[Beside], count: usize, an
     }
     text.word("under way with it ");
     text.word(if count == 1 { "was " } else { "were " });
-    let mut is_first = true;
+    let mut word = "";
     for beside in first {
-        comma(text, is_first);
-        request_beside(text, calls, beside);
-        is_first = false;
+        request_beside(text, calls, word, beside);
+        word = ", ";
     }
     if count > first.len() {
         text.field(", and ", (count - first.len()) as u64);
@@ -182,9 +196,9 @@ fn beside(text: &mut Text, calls: &Calls<'_>, first: &[Beside], count: usize, an
     }
 }
 
-/// Writes a request that was under way with another, with its entry or with what comes of it as the next.
-fn request_beside(text: &mut Text, calls: &Calls<'_>, beside: &Beside) {
-    begin_request(text, calls, beside.asked);
+/// Writes a word, and behind it a request that was under way with another, with its entry or with what comes of it as the next.
+fn request_beside(text: &mut Text, calls: &Calls<'_>, word: &str, beside: &Beside) {
+    begin_request(text, calls, word, beside.asked);
     text.word(", ");
     match beside.next {
         Next::Placed(entry) => text.field("entry ", u64::from(entry)),

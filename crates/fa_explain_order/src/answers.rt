@@ -79,11 +79,12 @@ fn split_at_answers(line: &[u8]) -> (&[u8], &[u8]) {
 
 /// What stands behind the request: how long the answer took, where it is told.
 fn behind_request(line: &[u8]) -> &[u8] {
-    match line.iter().rposition(|byte| *byte == b')') {
-        Some(place) => {
-            let (_, behind) = line.split_at(place.saturating_add(1).min(line.len()));
-            behind
+    let mut end = line.len();
+    for (place, byte) in line.iter().enumerate() {
+        if *byte == b')' {
+            end = place.saturating_add(1);
         }
-        None => &[],
     }
+    let (_, behind) = line.split_at(end.min(line.len()));
+    behind
 }

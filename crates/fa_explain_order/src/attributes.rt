@@ -5,36 +5,27 @@ use crate::looks::Looks;
 use crate::rules::{ATTRIBUTES, ENTRY_TYPES, rule_line};
 use crate::scene::Scene;
 use crate::start;
-use crate::wording::{self, comma, numbered_kind};
+use crate::wording::{self, numbered_kind};
 use bitflags::Flags;
 use fa_bodies::{Attributes, FattrFlags, Mode};
 use fa_ledger::Action;
 use fa_refusal::{Case, Expected, ListedType, NamedPlace, OtherAttributes};
 use fa_show::Text;
 use fa_tree::FileId;
-use std::alloc::AllocError;
 
 /// Writes which attributes are not those of the file: which of the lines of what to look at fit.
-pub(crate) fn explain(
-    text: &mut Text,
-    scene: &Scene<'_>,
-    other: &OtherAttributes<'_>,
-) -> Result<Looks, AllocError> {
+pub(crate) fn explain(text: &mut Text, scene: &Scene<'_>, other: &OtherAttributes<'_>) -> Looks {
     match other {
         OtherAttributes::Told { told, expected, .. } => {
-            told_lines(text, scene, told, expected)?;
-            Ok(looks(scene, other, told, expected))
+            told_lines(text, scene, told, expected);
+            looks(scene, other, told, expected)
         }
         OtherAttributes::Listed(listed) => listed_lines(text, scene, listed),
     }
 }
 
 /// Writes which entry of a READDIRPLUS has the type of another file.
-fn listed_lines(
-    text: &mut Text,
-    scene: &Scene<'_>,
-    listed: &ListedType<'_>,
-) -> Result<Looks, AllocError> {
+fn listed_lines(text: &mut Text, scene: &Scene<'_>, listed: &ListedType<'_>) -> Looks {
     rule_line(text, ENTRY_TYPES);
     text.word("differs  type of ");
     text.name(listed.name);
@@ -44,12 +35,12 @@ fn listed_lines(
     text.word(wording::kind(listed.kind));
     text.end_line();
     text.word("tree     ");
-    place(text, scene, listed.file)?;
+    place(text, scene, listed.file);
     text.word(": ");
-    facts_and_changes(text, scene, listed.file)?;
+    facts_and_changes(text, scene, listed.file);
     text.end_line();
     let is_from_start = !listed.is_listed_so && start::has_type(scene, listed.file);
-    Ok(Looks::at("type", is_from_start))
+    Looks::at("type", is_from_start)
 }
 
 /// Writes the type that a mode tells.
@@ -58,35 +49,27 @@ fn mode_type(text: &mut Text, mode: Mode) {
 }
 
 /// Writes which attributes of an action's answer are not those of the file.
-fn told_lines(
-    text: &mut Text,
-    scene: &Scene<'_>,
-    told: &Attributes,
-    expected: &Expected,
-) -> Result<(), AllocError> {
+fn told_lines(text: &mut Text, scene: &Scene<'_>, told: &Attributes, expected: &Expected) {
     rule_line(text, ATTRIBUTES);
-    file_line(text, scene, expected)?;
-    differing(text, scene, told, expected)?;
+    file_line(text, scene, expected);
+    differing(text, scene, told, expected);
     same_line(text, told, expected);
-    Ok(())
 }
 
 /// Writes the line of the file whose attributes are told.
-fn file_line(text: &mut Text, scene: &Scene<'_>, expected: &Expected) -> Result<(), AllocError> {
+fn file_line(text: &mut Text, scene: &Scene<'_>, expected: &Expected) {
     let named = scene.case.first_place();
     if expected.file.is_none() {
         made_line(text, named);
-        return Ok(());
-    }
-    if is_link(&scene.case) {
-        return match scene.case.call.other {
-            Some(other) => tree_node(text, scene, other),
-            None => Ok(()),
-        };
-    }
-    match named {
-        Some(place) => tree_name(text, scene, &place),
-        None => tree_node(text, scene, scene.case.call.node),
+    } else if is_link(&scene.case) {
+        if let Some(other) = scene.case.call.other {
+            tree_node(text, scene, other);
+        }
+    } else {
+        match named {
+            Some(place) => tree_name(text, scene, &place),
+            None => tree_node(text, scene, scene.case.call.node),
+        }
     }
 }
 
@@ -121,35 +104,18 @@ fn looks(
     if are_those_before(other) && !is_link(&scene.case) {
         return Looks::at("attributes from before the request", false);
     }
-    let links = if expected.has_links(told) {
-        None
-    } else {
-        Some(of_links(scene, told, expected))
-    };
-    let size = if expected.has_size(told) {
-        None
-    } else {
-        Some(of_size(scene, told, expected))
-    };
+    let mut looks = None;
+    if !expected.has_links(told) {
+        looks = Looks::behind(looks, of_links(scene, told, expected), false);
+    }
+    if !expected.has_size(told) {
+        looks = Looks::behind(looks, of_size(scene, told, expected), false);
+    }
     let bits = of_bits(scene, expected);
-    let (first, second) = match (links, size) {
-        (Some(links), Some(size)) => (links, Some(size)),
-        (Some(one), None) | (None, Some(one)) => {
-            (
-                one,
-                if expected.has_bits(told) {
-                    None
-                } else {
-                    Some(bits)
-                },
-            )
-        }
-        (None, None) => (bits, None),
-    };
-    Looks {
-        first,
-        second,
-        is_from_start,
+    match looks {
+        Some(looks) if expected.has_bits(told) => looks,
+        Some(looks) => looks.and(bits, false),
+        None => Looks::at(bits, false),
     }
 }
 
@@ -253,12 +219,7 @@ fn is_one_from_start(scene: &Scene<'_>, told: &Attributes, expected: &Expected) 
 }
 
 /// Writes a line for each attribute that differs.
-fn differing(
-    text: &mut Text,
-    scene: &Scene<'_>,
-    told: &Attributes,
-    expected: &Expected,
-) -> Result<(), AllocError> {
+fn differing(text: &mut Text, scene: &Scene<'_>, told: &Attributes, expected: &Expected) {
     if !expected.has_kind(told) {
         kind_line(text, told, expected);
     }
@@ -269,9 +230,8 @@ fn differing(
         size_line(text, scene, told, expected);
     }
     if !expected.has_links(told) {
-        links_line(text, scene, told, expected)?;
+        links_line(text, scene, told, expected);
     }
-    Ok(())
 }
 
 /// Writes that the type differs.
@@ -302,25 +262,18 @@ fn size_line(text: &mut Text, scene: &Scene<'_>, told: &Attributes, expected: &E
     text.field(", expected ", expected.size);
     size_origin(text, scene, expected);
     if let Some(asked) = left_whole_by(scene, told, expected) {
-        text.word("; ");
-        wording::request(text, scene.calls, asked);
+        wording::request(text, scene.calls, "; ", asked);
         text.word(" leaves it, as ATOMIC_O_TRUNC was not agreed");
     }
     text.end_line();
 }
 
 /// Writes that the links differ.
-fn links_line(
-    text: &mut Text,
-    scene: &Scene<'_>,
-    told: &Attributes,
-    expected: &Expected,
-) -> Result<(), AllocError> {
+fn links_line(text: &mut Text, scene: &Scene<'_>, told: &Attributes, expected: &Expected) {
     text.field("differs  nlink: answered ", u64::from(told.nlink));
     text.field(", expected ", expected.links);
-    links_origin(text, scene, expected)?;
+    links_origin(text, scene, expected);
     text.end_line();
-    Ok(())
 }
 
 /// Writes why permission bits are expected.
@@ -394,24 +347,19 @@ fn since_made(text: &mut Text, scene: &Scene<'_>, file: FileId, by: Option<u32>)
 }
 
 /// Writes for which names a number of links is expected.
-fn links_origin(text: &mut Text, scene: &Scene<'_>, expected: &Expected) -> Result<(), AllocError> {
+fn links_origin(text: &mut Text, scene: &Scene<'_>, expected: &Expected) {
     let Some(file) = expected.file else {
-        text.word(", as it is made");
-        return Ok(());
+        return text.word(", as it is made");
     };
-    match scene.path(file)? {
+    match scene.path(file) {
         Some(path) => {
             text.word(", for ");
             text.name(&path);
             further_names(text, scene, file);
-            if let Some(asked) = links_by(scene, expected) {
-                text.word(", since ");
-                wording::request(text, scene.calls, asked);
-            }
+            wording::request_if_any(text, scene.calls, ", since ", links_by(scene, expected));
         }
         None => text.word(", as it has no name any more"),
     }
-    Ok(())
 }
 
 /// Writes how many names a file has beside its least one.
@@ -433,29 +381,32 @@ fn same_line(text: &mut Text, told: &Attributes, expected: &Expected) {
     let size = expected.tells_size() && expected.has_size(told);
     let links = expected.tells_links() && expected.has_links(told);
     let kind = expected.has_kind(told);
-    if !(kind || bits || size || links) {
-        return;
-    }
-    text.word("same     ");
+    let mut before = "same     ";
     if kind {
+        text.word(before);
         text.word("type ");
         text.word(wording::kind(expected.kind));
+        before = ", ";
     }
     if bits {
-        comma(text, !kind);
+        text.word(before);
         text.word("bits ");
         text.octal(expected.bits, 4);
         special_bits(text, told.mode);
+        before = ", ";
     }
     if size {
-        comma(text, !(kind || bits));
+        text.word(before);
         text.field("size ", expected.size);
+        before = ", ";
     }
     if links {
-        comma(text, !(kind || bits || size));
+        text.word(before);
         text.field("nlink ", expected.links);
     }
-    text.end_line();
+    if kind || bits || size || links {
+        text.end_line();
+    }
 }
 
 /// Writes that the bits beside the permission bits are not judged, where some are told.

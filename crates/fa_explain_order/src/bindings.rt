@@ -8,41 +8,32 @@ use crate::start;
 use crate::wording::{self, node_number};
 use fa_refusal::Binding;
 use fa_show::Text;
-use std::alloc::AllocError;
 
 /// Writes which node is given for two files: which of the lines of what to look at fit. Where both are files from the start, they may
 /// be one.
-pub(crate) fn explain(
-    text: &mut Text,
-    scene: &Scene<'_>,
-    binding: &Binding<'_>,
-) -> Result<Looks, AllocError> {
+pub(crate) fn explain(text: &mut Text, scene: &Scene<'_>, binding: &Binding<'_>) -> Looks {
     rule_line(text, NODES);
     let number = node_number(&binding.node);
     text.field("given    node ", number);
     match scene.history.node_by {
-        Some(asked) => {
-            text.word(" by ");
-            wording::request(text, scene.calls, asked);
-        }
+        Some(asked) => wording::request(text, scene.calls, " by ", asked),
         None => text.word(" by this answer"),
     }
     text.word(", for ");
-    place(text, scene, binding.other)?;
+    place(text, scene, binding.other);
     text.word(": ");
-    facts_and_changes(text, scene, binding.other)?;
+    facts_and_changes(text, scene, binding.other);
     text.end_line();
     text.word("here     ");
     text.name(binding.name);
     text.word(" is ");
     match binding.file {
-        Some(file) => facts_and_changes(text, scene, file)?,
+        Some(file) => facts_and_changes(text, scene, file),
         None => text.word("made by this request"),
     }
     if let Some(own) = &scene.history.own_node {
         text.field(", was given node ", node_number(&own.node));
-        text.word(" by ");
-        wording::request(text, scene.calls, own.by);
+        wording::request(text, scene.calls, " by ", own.by);
     }
     text.field(", and is given node ", number);
     text.word(" too");
@@ -55,5 +46,5 @@ pub(crate) fn explain(
         Some(_) => "a file that has a node of its own",
         None => "",
     };
-    Ok(Looks::at(case, is_from_start))
+    Looks::at(case, is_from_start)
 }

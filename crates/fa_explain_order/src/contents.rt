@@ -7,27 +7,23 @@ use crate::scene::Scene;
 use crate::{start, wording};
 use fa_refusal::{Difference, Reading};
 use fa_show::Text;
-use std::alloc::{AllocError, Global};
+use std::alloc::AllocError;
 
 /// So many bytes are written from the first that differs on: one more than are shown.
 const SHOWN: u64 = 17;
 
 /// Writes which bytes are not those of the file: which of the lines of what to look at fit.
-pub(crate) fn explain(
-    text: &mut Text,
-    scene: &Scene<'_>,
-    reading: &Reading<'_>,
-) -> Result<Looks, AllocError> {
+pub(crate) fn explain(text: &mut Text, scene: &Scene<'_>, reading: &Reading<'_>) -> Looks {
     rule(text, scene, reading);
-    node_lines(text, scene)?;
+    node_lines(text, scene);
     if reading.answered.len() as u64 != reading.expected {
         lengths_line(text, scene, reading);
     }
     let difference = reading.difference(scene.tree);
     if let Some(difference) = &difference {
-        first_line(text, scene, reading, difference)?;
+        first_line(text, scene, reading, difference);
     }
-    Ok(looks(scene, reading, difference.is_some()))
+    looks(scene, reading, difference.is_some())
 }
 
 /// Writes the rule of the bytes.
@@ -54,8 +50,7 @@ fn lengths_line(text: &mut Text, scene: &Scene<'_>, reading: &Reading<'_>) {
     text.number(reading.expected);
     text.word(" expected");
     if let Some(asked) = left_whole_by(scene, reading) {
-        text.word("; ");
-        wording::request(text, scene.calls, asked);
+        wording::request(text, scene.calls, "; ", asked);
         text.word(" leaves them, as ATOMIC_O_TRUNC was not agreed");
     }
     text.end_line();
@@ -70,27 +65,24 @@ fn left_whole_by(scene: &Scene<'_>, reading: &Reading<'_>) -> Option<u32> {
 }
 
 /// Writes the first byte that differs, with which request set it, and how many differ.
-fn first_line(
-    text: &mut Text,
-    scene: &Scene<'_>,
-    reading: &Reading<'_>,
-    difference: &Difference,
-) -> Result<(), AllocError> {
+fn first_line(text: &mut Text, scene: &Scene<'_>, reading: &Reading<'_>, difference: &Difference) {
     text.word("differs  first at byte ");
     if reading.is_target {
         text.number(difference.first);
     } else {
         text.number(reading.offset.saturating_add(difference.first));
         text.word(" of the file");
-        if let Some(asked) = scene.history.byte_by {
-            text.word(", set by ");
-            wording::request(text, scene.calls, asked);
-        }
+        wording::request_if_any(text, scene.calls, ", set by ", scene.history.byte_by);
     }
     text.word(": answered ");
-    text.data(&answered_from(scene.alloc, reading, difference.first)?);
+    text.data(answered_from(reading, difference.first));
     text.word(", expected ");
-    text.data(&expected_from(scene, reading, difference.first)?);
+    if let Some(bytes) = scene
+        .memory
+        .noted(expected_from(scene, reading, difference.first))
+    {
+        text.data(&bytes);
+    }
     text.word("; ");
     text.number(difference.count);
     let (of, differ) = if difference.count == 1 {
@@ -101,21 +93,14 @@ fn first_line(
     text.field(of, reading.common());
     text.word(differ);
     text.end_line();
-    Ok(())
 }
 
 /// The first of the bytes that were answered, from a place on.
-fn answered_from(alloc: Global, reading: &Reading<'_>, place: u64) -> Result<Vec<u8>, AllocError> {
-    let mut bytes = Vec::new(alloc);
-    for byte in reading
-        .answered
-        .iter()
-        .skip(place as usize)
-        .take(SHOWN as usize)
-    {
-        bytes.push(*byte)?;
-    }
-    Ok(bytes)
+fn answered_from<'a>(reading: &Reading<'a>, place: u64) -> &'a [u8] {
+    let answered = reading.answered;
+    let (_, behind) = answered.split_at((place as usize).min(answered.len()));
+    let (shown, _) = behind.split_at((SHOWN as usize).min(behind.len()));
+    shown
 }
 
 /// The first of the bytes that were expected, from a place on.
@@ -124,7 +109,7 @@ fn expected_from(
     reading: &Reading<'_>,
     place: u64,
 ) -> Result<Vec<u8>, AllocError> {
-    let mut bytes = Vec::new(scene.alloc);
+    let mut bytes = Vec::new(scene.memory.alloc);
     for behind in 0..SHOWN {
         let place = place.saturating_add(behind);
         if place < reading.expected {

@@ -8,46 +8,34 @@ use crate::start;
 use crate::wording::{self, comma, numbered_kind};
 use fa_refusal::{Listing, Twice};
 use fa_show::Text;
-use std::alloc::AllocError;
 
 /// Writes what is wrong with a listing: which of the lines of what to look at fit.
-pub(crate) fn explain(
-    text: &mut Text,
-    scene: &Scene<'_>,
-    listing: &Listing<'_, '_>,
-) -> Result<Looks, AllocError> {
+pub(crate) fn explain(text: &mut Text, scene: &Scene<'_>, listing: &Listing<'_, '_>) -> Looks {
     rule_line(text, LISTINGS);
-    directory_line(text, scene, listing)?;
+    directory_line(text, scene, listing);
     listing_line(text, scene, listing);
     missing_line(text, scene, listing);
     twice_line(text, listing);
     never_line(text, scene, listing);
     types_line(text, listing);
     gone_line(text, scene, listing);
-    Ok(looks(scene, listing))
+    looks(scene, listing)
 }
 
 /// Writes the line of the directory.
-fn directory_line(
-    text: &mut Text,
-    scene: &Scene<'_>,
-    listing: &Listing<'_, '_>,
-) -> Result<(), AllocError> {
+fn directory_line(text: &mut Text, scene: &Scene<'_>, listing: &Listing<'_, '_>) {
     text.word("tree     ");
-    place(text, scene, listing.directory)?;
-    if let Some(asked) = scene.case.call.handle {
-        text.word(", opened by ");
-        wording::request(text, scene.calls, asked);
-    }
+    place(text, scene, listing.directory);
+    let opened_by = scene.case.call.handle;
+    wording::request_if_any(text, scene.calls, ", opened by ", opened_by);
     text.word(": ");
-    facts(text, scene, listing.directory)?;
+    facts(text, scene, listing.directory);
     text.end_line();
-    Ok(())
 }
 
 /// Writes the line of how far the directory was listed.
 fn listing_line(text: &mut Text, scene: &Scene<'_>, listing: &Listing<'_, '_>) {
-    let is_adrift = scene.case.call.listing.is_some_and(|from| from.adrift);
+    let is_adrift = is_adrift(scene);
     text.word("listing  ");
     if listing.pieces.is_empty() {
         text.word(if is_adrift {
@@ -77,6 +65,14 @@ fn listing_line(text: &mut Text, scene: &Scene<'_>, listing: &Listing<'_, '_>) {
     }
     text.word(", `.` and `..` not counted");
     text.end_line();
+}
+
+/// Whether the listing begins at an offset that no answer gave.
+fn is_adrift(scene: &Scene<'_>) -> bool {
+    match &scene.case.call.listing {
+        Some(from) => from.adrift,
+        None => false,
+    }
 }
 
 /// Writes how many more there are of a kind than those that are written, and ends the line.
@@ -161,8 +157,7 @@ fn never_line(text: &mut Text, scene: &Scene<'_>, listing: &Listing<'_, '_>) {
         text.name(name);
         match taken_by(scene, listing.directory, name) {
             Some(asked) => {
-                text.word(" (taken away by ");
-                wording::request(text, scene.calls, asked);
+                wording::request(text, scene.calls, " (taken away by ", asked);
                 text.word(", before the opening)");
             }
             None => text.word(" (was never in it)"),
@@ -202,10 +197,8 @@ fn gone_line(text: &mut Text, scene: &Scene<'_>, listing: &Listing<'_, '_>) {
         comma(text, is_first);
         text.name(name);
         text.word(" has a node here");
-        if let Some(asked) = taken_by(scene, listing.directory, name) {
-            text.word(", and was taken away by ");
-            wording::request(text, scene.calls, asked);
-        }
+        let taken_by = taken_by(scene, listing.directory, name);
+        wording::request_if_any(text, scene.calls, ", and was taken away by ", taken_by);
         is_first = false;
     }
     more(text, listing.gone.first.len(), listing.gone.count);
@@ -216,17 +209,17 @@ fn looks(scene: &Scene<'_>, listing: &Listing<'_, '_>) -> Looks {
     let mut looks = None;
     if listing.missing.count > 0 {
         let is_from_start = is_one_from_start(scene, listing, &listing.missing.first);
-        looks = and(looks, "a name is missing", is_from_start);
+        looks = Looks::behind(looks, "a name is missing", is_from_start);
     }
     if listing.twice.count > 0 {
-        looks = and(looks, of_names_twice(listing), false);
+        looks = Looks::behind(looks, of_names_twice(listing), false);
     }
     if listing.never.count > 0 {
         let is_from_start = is_one_from_start(scene, listing, &listing.never.first);
-        looks = and(looks, of_names_never_there(scene, listing), is_from_start);
+        looks = Looks::behind(looks, of_names_never_there(scene, listing), is_from_start);
     }
     if listing.types.count > 0 {
-        looks = and(
+        looks = Looks::behind(
             looks,
             "the type of an entry",
             is_type_from_start(scene, listing),
@@ -235,55 +228,44 @@ fn looks(scene: &Scene<'_>, listing: &Listing<'_, '_>) -> Looks {
     looks.unwrap_or(Looks::at("a node of a name that is gone", false))
 }
 
-/// These lines, if there are any, and one more.
-fn and(looks: Option<Looks>, case: &'static str, is_from_start: bool) -> Option<Looks> {
-    Some(match looks {
-        Some(looks) => looks.and(case, is_from_start),
-        None => Looks::at(case, is_from_start),
-    })
-}
-
 /// Whether one of these names is there, or not there, from the start on.
 fn is_one_from_start(scene: &Scene<'_>, listing: &Listing<'_, '_>, names: &[&[u8]]) -> bool {
-    names
-        .iter()
-        .any(|name| start::has_name(scene, listing.directory, name))
+    for name in names {
+        if start::has_name(scene, listing.directory, name) {
+            return true;
+        }
+    }
+    false
 }
 
 /// Whether the type of one of the files whose entries have another is so from the start.
 fn is_type_from_start(scene: &Scene<'_>, listing: &Listing<'_, '_>) -> bool {
-    listing.types.first.iter().any(|other| {
-        match scene.tree.find(listing.directory, other.name) {
-            Some(file) => start::has_type(scene, file),
-            None => false,
+    for other in &listing.types.first {
+        if let Some(file) = scene.tree.find(listing.directory, other.name) {
+            if start::has_type(scene, file) {
+                return true;
+            }
         }
-    })
+    }
+    false
 }
 
 /// The case of names that are listed twice: all in one answer, or in two.
 fn of_names_twice(listing: &Listing<'_, '_>) -> &'static str {
-    let is_in_two = listing
-        .twice
-        .first
-        .iter()
-        .any(|twice| twice.first != twice.second);
-    if is_in_two {
-        "a name stands in two answers"
-    } else {
-        "a name stands twice in an answer"
+    for twice in &listing.twice.first {
+        if twice.first != twice.second {
+            return "a name stands in two answers";
+        }
     }
+    "a name stands twice in an answer"
 }
 
 /// The case of names that were not there since the opening: a request took one of them away, or none was ever there.
 fn of_names_never_there(scene: &Scene<'_>, listing: &Listing<'_, '_>) -> &'static str {
-    let is_taken = listing
-        .never
-        .first
-        .iter()
-        .any(|name| taken_by(scene, listing.directory, name).is_some());
-    if is_taken {
-        "a name that went before the opening"
-    } else {
-        "a name that was never there"
+    for name in &listing.never.first {
+        if taken_by(scene, listing.directory, name).is_some() {
+            return "a name that went before the opening";
+        }
     }
+    "a name that was never there"
 }

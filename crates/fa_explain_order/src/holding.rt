@@ -13,41 +13,38 @@ const MOST_TARGET: u64 = 65_536;
 
 /// Writes the lines of the nodes and names of the request: what each of them is. A directory is told by the lines of its names,
 /// unless it is none or has no name itself.
-pub(crate) fn tree_lines(text: &mut Text, scene: &Scene<'_>) -> Result<(), AllocError> {
-    node_lines(text, scene)?;
-    name_lines(text, scene)
+pub(crate) fn tree_lines(text: &mut Text, scene: &Scene<'_>) {
+    node_lines(text, scene);
+    name_lines(text, scene);
 }
 
 /// Writes the lines of the nodes that are told by no name.
-pub(crate) fn node_lines(text: &mut Text, scene: &Scene<'_>) -> Result<(), AllocError> {
+pub(crate) fn node_lines(text: &mut Text, scene: &Scene<'_>) {
     let node = scene.case.call.node;
     if !is_told_by_names(scene, node) {
-        tree_node(text, scene, node)?;
+        tree_node(text, scene, node);
     }
     match scene.case.call.other {
-        Some(other) if other != node => {
-            if !is_told_by_names(scene, other) {
-                tree_node(text, scene, other)?;
-            }
-            Ok(())
+        Some(other) if other != node && !is_told_by_names(scene, other) => {
+            tree_node(text, scene, other)
         }
-        _ => Ok(()),
+        _ => {}
     }
 }
 
 /// Writes the lines of names in directories that are told by them.
-fn name_lines(text: &mut Text, scene: &Scene<'_>) -> Result<(), AllocError> {
-    if let Some(place) = scene.case.first_place() {
+fn name_lines(text: &mut Text, scene: &Scene<'_>) {
+    name_line(text, scene, scene.case.first_place());
+    name_line(text, scene, scene.case.second_place());
+}
+
+/// Writes the line of a name, if there is one, in a directory that is told by its names.
+fn name_line(text: &mut Text, scene: &Scene<'_>, place: Option<NamedPlace<'_>>) {
+    if let Some(place) = place {
         if is_told_by_names(scene, place.node) {
-            tree_name(text, scene, &place)?;
+            tree_name(text, scene, &place);
         }
     }
-    if let Some(place) = scene.case.second_place() {
-        if is_told_by_names(scene, place.node) {
-            tree_name(text, scene, &place)?;
-        }
-    }
-    Ok(())
 }
 
 /// Whether a node is that of a directory with a name, in which the request has a name.
@@ -73,51 +70,41 @@ fn is_in(place: Option<NamedPlace<'_>>, node: NodeName) -> bool {
 }
 
 /// Writes the line of a node.
-pub(crate) fn tree_node(
-    text: &mut Text,
-    scene: &Scene<'_>,
-    node: NodeName,
-) -> Result<(), AllocError> {
+pub(crate) fn tree_node(text: &mut Text, scene: &Scene<'_>, node: NodeName) {
     let Some(file) = scene.tree.file_of(&node) else {
-        return Ok(());
+        return;
     };
     text.field("tree     node ", node_number(&node));
     text.word(" is ");
-    place(text, scene, file)?;
+    place(text, scene, file);
     text.word(": ");
-    facts(text, scene, file)?;
+    facts(text, scene, file);
     if file != scene.tree.root() {
         text.word(", ");
         changes(text, scene, file);
     }
     text.end_line();
-    Ok(())
 }
 
 /// Writes the line of a name: what it is, or since when it is not there.
-pub(crate) fn tree_name(
-    text: &mut Text,
-    scene: &Scene<'_>,
-    named: &NamedPlace<'_>,
-) -> Result<(), AllocError> {
+pub(crate) fn tree_name(text: &mut Text, scene: &Scene<'_>, named: &NamedPlace<'_>) {
     let Some(directory) = scene.tree.file_of(&named.node) else {
-        return Ok(());
+        return;
     };
     text.word("tree     ");
     text.name(named.name);
     text.word(" in ");
-    place(text, scene, directory)?;
+    place(text, scene, directory);
     text.field(" (node ", node_number(&named.node));
     text.word(") is ");
     match scene.tree.find(directory, named.name) {
         Some(file) => {
-            facts_and_changes(text, scene, file)?;
+            facts_and_changes(text, scene, file);
             named_by(text, scene, directory, named.name, file);
         }
         None => not_there(text, scene, directory, named.name),
     }
     text.end_line();
-    Ok(())
 }
 
 /// Writes which request named a file so, if it is not the one that made it.
@@ -127,8 +114,7 @@ fn named_by(text: &mut Text, scene: &Scene<'_>, directory: FileId, name: &[u8], 
     };
     if let Some(asked) = place.named_by {
         if file != FileId::Made(asked) {
-            text.word(", named so by ");
-            wording::request(text, scene.calls, asked);
+            wording::request(text, scene.calls, ", named so by ", asked);
         }
     }
 }
@@ -137,10 +123,7 @@ fn named_by(text: &mut Text, scene: &Scene<'_>, directory: FileId, name: &[u8], 
 fn not_there(text: &mut Text, scene: &Scene<'_>, directory: FileId, name: &[u8]) {
     text.word("not there");
     match taken_by(scene, directory, name) {
-        Some(asked) => {
-            text.word(": taken away by ");
-            wording::request(text, scene.calls, asked);
-        }
+        Some(asked) => wording::request(text, scene.calls, ": taken away by ", asked),
         None => text.word(", and never was"),
     }
 }
@@ -151,12 +134,11 @@ pub(crate) fn taken_by(scene: &Scene<'_>, directory: FileId, name: &[u8]) -> Opt
 }
 
 /// Writes where a file is: its path, or the one that it had last.
-pub(crate) fn place(text: &mut Text, scene: &Scene<'_>, file: FileId) -> Result<(), AllocError> {
-    match scene.path(file)? {
+pub(crate) fn place(text: &mut Text, scene: &Scene<'_>, file: FileId) {
+    match scene.path(file) {
         Some(path) => text.name(&path),
         None => nameless(text, scene, file),
     }
-    Ok(())
 }
 
 /// Writes of a file without a name the path that it had last.
@@ -168,34 +150,28 @@ fn nameless(text: &mut Text, scene: &Scene<'_>, file: FileId) {
     if let Some(asked) = known.unnamed_by {
         text.word(" (");
         text.name(&known.last_path);
-        text.word(" until ");
-        wording::request(text, scene.calls, asked);
+        wording::request(text, scene.calls, " until ", asked);
         text.word(")");
     }
 }
 
 /// Writes what a file is, and which requests made and changed it.
-pub(crate) fn facts_and_changes(
-    text: &mut Text,
-    scene: &Scene<'_>,
-    file: FileId,
-) -> Result<(), AllocError> {
-    facts(text, scene, file)?;
+pub(crate) fn facts_and_changes(text: &mut Text, scene: &Scene<'_>, file: FileId) {
+    facts(text, scene, file);
     text.word(", ");
     changes(text, scene, file);
-    Ok(())
 }
 
 /// Writes what a file is: of a directory how many names it has, of a symbolic link its target.
-pub(crate) fn facts(text: &mut Text, scene: &Scene<'_>, file: FileId) -> Result<(), AllocError> {
+pub(crate) fn facts(text: &mut Text, scene: &Scene<'_>, file: FileId) {
     let Some(facts) = scene.tree.facts(file) else {
-        return Ok(());
+        return;
     };
     text.word(wording::kind(facts.kind));
     match facts.kind {
         Kind::Directory => directory(text, scene, file, &facts),
         Kind::Symlink => {
-            target(text, scene, file, &facts)?;
+            target(text, scene, file, &facts);
             links(text, &facts);
         }
         kind => {
@@ -206,7 +182,6 @@ pub(crate) fn facts(text: &mut Text, scene: &Scene<'_>, file: FileId) -> Result<
             links(text, &facts);
         }
     }
-    Ok(())
 }
 
 /// Writes the permission bits of a file.
@@ -228,43 +203,33 @@ fn directory(text: &mut Text, scene: &Scene<'_>, file: FileId, facts: &FileFacts
 }
 
 /// Writes the target of a symbolic link.
-fn target(
-    text: &mut Text,
-    scene: &Scene<'_>,
-    file: FileId,
-    facts: &FileFacts,
-) -> Result<(), AllocError> {
-    let mut bytes = Vec::new(scene.alloc);
+fn target(text: &mut Text, scene: &Scene<'_>, file: FileId, facts: &FileFacts) {
+    text.word(" to ");
+    if let Some(target) = scene.memory.noted(target_of(scene, file, facts)) {
+        text.name(&target);
+    }
+}
+
+/// The target of a symbolic link.
+fn target_of(scene: &Scene<'_>, file: FileId, facts: &FileFacts) -> Result<Vec<u8>, AllocError> {
+    let mut bytes = Vec::new(scene.memory.alloc);
     for offset in 0..facts.size.min(MOST_TARGET) {
         if let Some(byte) = scene.tree.byte(file, offset) {
             bytes.push(byte)?;
         }
     }
-    text.word(" to ");
-    text.name(&bytes);
-    Ok(())
+    Ok(bytes)
 }
 
 /// Writes by which requests a file was made and changed.
 pub(crate) fn changes(text: &mut Text, scene: &Scene<'_>, file: FileId) {
     match file {
-        FileId::Made(asked) => {
-            text.word("made by ");
-            wording::request(text, scene.calls, asked);
-        }
+        FileId::Made(asked) => wording::request(text, scene.calls, "made by ", asked),
         FileId::Root | FileId::Added(_) => text.word("there from the start"),
     }
     let Some(known) = scene.history.file(file) else {
         return;
     };
-    changed_by(text, scene, ", bytes by ", known.bytes_by);
-    changed_by(text, scene, ", bits by ", known.bits_by);
-}
-
-/// Writes which request changed something, if one did.
-fn changed_by(text: &mut Text, scene: &Scene<'_>, what: &str, asked: Option<u32>) {
-    if let Some(asked) = asked {
-        text.word(what);
-        wording::request(text, scene.calls, asked);
-    }
+    wording::request_if_any(text, scene.calls, ", bytes by ", known.bytes_by);
+    wording::request_if_any(text, scene.calls, ", bits by ", known.bits_by);
 }

@@ -21,6 +21,14 @@ impl Looks {
         }
     }
 
+    /// These, if there are any, and one line more.
+    pub fn behind(looks: Option<Looks>, case: &'static str, is_from_start: bool) -> Option<Looks> {
+        Some(match looks {
+            Some(looks) => looks.and(case, is_from_start),
+            None => Looks::at(case, is_from_start),
+        })
+    }
+
     /// These and one line more, where there was one alone.
     pub fn and(self, case: &'static str, is_from_start: bool) -> Self {
         Looks {

@@ -45,21 +45,23 @@ fn cite_any(text: &mut Text, capture: &Capture<'_>, at: u32, direction: Directio
 
 /// Writes the line of a tree request that stands right before or behind a message.
 fn next_to(text: &mut Text, capture: &Capture<'_>, calls: &Calls<'_>, at: u32) {
-    let before = at
-        .checked_sub(1)
-        .filter(|number| is_tree_request(calls, *number));
-    let behind = at
-        .checked_add(1)
-        .filter(|number| is_tree_request(calls, *number));
-    if let Some(number) = before.or(behind) {
+    if let Some(number) = tree_request_at(calls, at) {
         text.word("next to  ");
         cite(text, capture, number, None);
     }
 }
 
-/// Whether the message of this number is a tree request.
-fn is_tree_request(calls: &Calls<'_>, number: u32) -> bool {
-    calls.find(number).is_some()
+/// The number of the tree request that stands right before or behind a message, if one does.
+fn tree_request_at(calls: &Calls<'_>, at: u32) -> Option<u32> {
+    if let Some(before) = at.checked_sub(1) {
+        if calls.find(before).is_some() {
+            return Some(before);
+        }
+    }
+    match at.checked_add(1) {
+        Some(behind) if calls.find(behind).is_some() => Some(behind),
+        _ => None,
+    }
 }
 
 /// Writes which entry names a request already.
@@ -107,7 +109,7 @@ pub(crate) fn earlier_not_placed(text: &mut Text, capture: &Capture<'_>, refused
 }
 
 /// The first entry that names a request.
-fn entry_of(entries: &[Entry], asked: u32) -> Option<u32> {
+pub(crate) fn entry_of(entries: &[Entry], asked: u32) -> Option<u32> {
     let mut number: u32 = 0;
     for entry in entries {
         if entry.at == asked {

@@ -5,7 +5,8 @@ use crate::answers::{exchange, printed};
 use crate::looks::Looks;
 use crate::rules::{is_never, never_look_line};
 use crate::stepping::{NEVER_RIGHT, because, look_at_answer, look_at_start};
-use crate::wording::{self, comma};
+use crate::wording;
+use fa_bodies::split_at_byte;
 use fa_capture::{Capture, codes};
 use fa_ledger::{Calls, Outcome};
 use fa_order::Entry;
@@ -159,12 +160,12 @@ fn beside_line(text: &mut Text, calls: &Calls<'_>, case: &Case<'_>, at: u32) {
             continue;
         }
         if told < FEW {
-            text.word(if told == 0 {
+            let word = if told == 0 {
                 "beside   not answered yet: "
             } else {
                 ", "
-            });
-            wording::request(text, calls, other.call.asked);
+            };
+            wording::request(text, calls, word, other.call.asked);
         }
         told = told.saturating_add(1);
     }
@@ -179,7 +180,10 @@ fn beside_line(text: &mut Text, calls: &Calls<'_>, case: &Case<'_>, at: u32) {
 
 /// Whether a request that an order may name was sent before a message, and not answered before it.
 fn is_in_flight(case: &Case<'_>, at: u32) -> bool {
-    let is_answered = case.call.answer.is_some_and(|answer| answer.at < at);
+    let is_answered = match &case.call.answer {
+        Some(answer) => answer.at < at,
+        None => false,
+    };
     case.call.asked < at && !is_answered && case.may_be_placed()
 }
 
@@ -310,19 +314,28 @@ impl Reason {
 
     /// The first line that begins with this label.
     fn line(&self, label: &[u8]) -> Option<&[u8]> {
-        let mut lines = self.lines.as_bytes().split(|byte| *byte == b'\n');
-        lines.find(|line| line.starts_with(label))
+        for line in self.lines.as_bytes().split(is_line_feed) {
+            if line.starts_with(label) {
+                return Some(line);
+            }
+        }
+        None
     }
 
     /// Whether a line says what differs on the tree.
     fn is_telling(&self, line: &[u8]) -> bool {
-        self.telling().iter().any(|label| line.starts_with(*label))
+        for label in self.telling() {
+            if line.starts_with(*label) {
+                return true;
+            }
+        }
+        false
     }
 
     /// Writes what differs on the tree, all but the first behind a label of its own.
     fn tell(&self, text: &mut Text, number: usize) {
         let mut is_first = true;
-        for line in self.lines.as_bytes().split(|byte| *byte == b'\n') {
+        for line in self.lines.as_bytes().split(is_line_feed) {
             if self.is_telling(line) {
                 if !is_first {
                     text.end_line();
@@ -331,6 +344,7 @@ impl Reason {
                 }
                 if self.code == codes::LISTING {
                     printed(text, label_of(line));
+                    text.word(" ");
                 }
                 printed(text, behind_label(line));
                 is_first = false;
@@ -340,14 +354,22 @@ impl Reason {
 
     /// Whether one of the lines is this one.
     fn has_line(&self, line: &[u8]) -> bool {
-        let mut lines = self.lines.as_bytes().split(|byte| *byte == b'\n');
-        lines.any(|other| other == line)
+        for other in self.lines.as_bytes().split(is_line_feed) {
+            if other == line {
+                return true;
+            }
+        }
+        false
     }
 
     /// Whether all that is said to differ on the tree is said of another one too.
     fn is_told_by(&self, other: &Reason) -> bool {
-        let mut lines = self.lines.as_bytes().split(|byte| *byte == b'\n');
-        lines.all(|line| !self.is_telling(line) || other.has_line(line))
+        for line in self.lines.as_bytes().split(is_line_feed) {
+            if self.is_telling(line) && !other.has_line(line) {
+                return false;
+            }
+        }
+        true
     }
 
     /// Whether the same differs on another tree.
@@ -356,10 +378,15 @@ impl Reason {
     }
 }
 
-/// The label of a line, up to and with its first blank.
+/// Whether a byte ends a line.
+fn is_line_feed(byte: &u8) -> bool {
+    *byte == b'\n'
+}
+
+/// The label of a line, up to its first blank.
 fn label_of(line: &[u8]) -> &[u8] {
-    match line.split_inclusive(|byte| *byte == b' ').next() {
-        Some(label) => label,
+    match split_at_byte(line, b' ') {
+        Some((label, _)) => label,
         None => &[],
     }
 }
@@ -395,7 +422,10 @@ impl Reasons<'_> {
         self.tree_lines(text);
         self.earlier_line(text);
         self.look_at(text, case);
-        Ok(self.least().map(|least| least.order))
+        Ok(match self.least() {
+            Some(least) => Some(least.order),
+            None => None,
+        })
     }
 
     /// Takes in why each tree to which an order leads refuses the answer to a request.
@@ -411,13 +441,40 @@ impl Reasons<'_> {
 
     /// The first of those with the least code.
     fn least(&self) -> Option<&Reason> {
-        self.list.iter().min_by_key(|reason| reason.code)
+        let mut least: Option<&Reason> = None;
+        for reason in &self.list {
+            match least {
+                Some(other) if other.code <= reason.code => {}
+                _ => least = Some(reason),
+            }
+        }
+        least
+    }
+
+    /// The first with this code.
+    fn with_code(&self, code: u16) -> Option<&Reason> {
+        for reason in &self.list {
+            if reason.code == code {
+                return Some(reason);
+            }
+        }
+        None
+    }
+
+    /// The first of those that are so from the start.
+    fn from_start(&self) -> Option<&Reason> {
+        for reason in &self.list {
+            if reason.looks.is_from_start {
+                return Some(reason);
+            }
+        }
+        None
     }
 
     /// Writes the rules that the answer breaks: one for each code with which trees refuse it.
     fn rule_lines(&self, text: &mut Text) {
         for code in codes::SUCCESS_NOT_ALLOWED..=codes::LISTING {
-            if let Some(reason) = self.list.iter().find(|reason| reason.code == code) {
+            if let Some(reason) = self.with_code(code) {
                 if let Some(line) = reason.line(b"rule ") {
                     text.word("rule     ");
                     self.begin_code(text, code);
@@ -430,7 +487,12 @@ impl Reasons<'_> {
 
     /// Whether all trees refuse the answer with this code.
     fn is_only(&self, code: u16) -> bool {
-        self.list.iter().all(|reason| reason.code == code)
+        for reason in &self.list {
+            if reason.code != code {
+                return false;
+            }
+        }
+        true
     }
 
     /// Writes a code in front of what is said of it, where trees refuse the answer with different ones.
@@ -455,12 +517,12 @@ impl Reasons<'_> {
     /// Writes whether the tree text may be wrong, and what to look at for each code with which trees refuse the answer, by the first of
     /// them. The trees with the last code come first: there most of the answer holds.
     fn look_at_each(&self, text: &mut Text, case: &Case<'_>) {
-        if let Some(reason) = self.list.iter().find(|reason| reason.looks.is_from_start) {
+        if let Some(reason) = self.from_start() {
             look_at_start(text, reason.code, case, "");
         }
         for behind in 0..=codes::LISTING - codes::SUCCESS_NOT_ALLOWED {
             let code = codes::LISTING - behind;
-            if let Some(reason) = self.list.iter().find(|reason| reason.code == code) {
+            if let Some(reason) = self.with_code(code) {
                 look_at_answer(text, code, &reason.looks, case, self.on_tree(code));
             }
         }
@@ -512,7 +574,23 @@ impl Reasons<'_> {
     /// Whether the same differs on a tree before this place.
     fn is_told_before(&self, place: usize, reason: &Reason) -> bool {
         let (before, _) = self.list.split_at(place.min(self.list.len()));
-        before.iter().any(|other| other.is_same(reason))
+        for other in before {
+            if other.is_same(reason) {
+                return true;
+            }
+        }
+        false
+    }
+
+    /// On how many trees the same differs as on this one, which is one of them.
+    fn count_same(&self, reason: &Reason) -> usize {
+        let mut same: usize = 0;
+        for other in &self.list {
+            if other.is_same(reason) {
+                same = same.saturating_add(1);
+            }
+        }
+        same
     }
 
     /// Writes what differs on a tree.
@@ -523,11 +601,7 @@ impl Reasons<'_> {
         }
         self.begin_code(text, reason.code);
         reason.tell(text, number);
-        let same = self
-            .list
-            .iter()
-            .filter(|other| other.is_same(reason))
-            .count();
+        let same = self.count_same(reason);
         if same > 1 {
             text.field("; and ", (same - 1) as u64);
             text.word(if same == 2 {
@@ -542,20 +616,27 @@ impl Reasons<'_> {
     /// Writes until when the same answer was right on the way of each order, where that is the same and each tree has an order. That it
     /// never was is not written: by another order to the same tree it may have been.
     fn earlier_line(&self, text: &mut Text) {
-        let Some((first, others)) = self.list.split_first() else {
+        let Some(first) = self.list.first() else {
             return;
         };
         let Some(line) = first.line(b"earlier ") else {
             return;
         };
         let are_all = self.list.len() == self.coming.trees;
-        if are_all
-            && line != NEVER_RIGHT.as_bytes()
-            && others.iter().all(|other| other.has_line(line))
-        {
+        if are_all && line != NEVER_RIGHT.as_bytes() && self.all_have_line(line) {
             printed(text, line);
             text.end_line();
         }
+    }
+
+    /// Whether one of the lines of each is this one.
+    fn all_have_line(&self, line: &[u8]) -> bool {
+        for reason in &self.list {
+            if !reason.has_line(line) {
+                return false;
+            }
+        }
+        true
     }
 }
 
@@ -577,14 +658,22 @@ fn tree_label(text: &mut Text, number: usize) {
     text.word(if number < 10 { "   " } else { "  " });
 }
 
-/// Writes the request of an entry, and of a WRITE that was never answered how many bytes it wrote.
-fn entry_words(text: &mut Text, calls: &Calls<'_>, entry: &Entry) {
-    wording::begin_request(text, calls, entry.at);
+/// Writes a word, and behind it the request of an entry, and of a WRITE that was never answered how many bytes it wrote.
+fn entry_words(text: &mut Text, calls: &Calls<'_>, word: &str, entry: &Entry) {
+    wording::begin_request(text, calls, word, entry.at);
     if let Some(wrote) = entry.wrote {
         text.word(", ");
         text.count(wrote as usize, " byte", " bytes");
     }
     text.word(")");
+}
+
+/// Whether the request of an entry was sent before a message, and not answered before it.
+fn is_placed_in_flight(calls: &Calls<'_>, entry: &Entry, at: u32) -> bool {
+    match Case::of(calls, entry.at) {
+        Some(case) => is_in_flight(&case, at),
+        None => false,
+    }
 }
 
 /// Writes the last entries of an order, and before them others of requests that were not answered yet where a message was sent: by these
@@ -597,18 +686,16 @@ fn way(text: &mut Text, calls: &Calls<'_>, order: &[Entry], at: u32) {
     }
     let mut told: usize = 0;
     for entry in before {
-        if told < FEW && Case::of(calls, entry.at).is_some_and(|case| is_in_flight(&case, at)) {
-            text.word(if told == 0 { "with " } else { ", " });
-            entry_words(text, calls, entry);
+        if told < FEW && is_placed_in_flight(calls, entry, at) {
+            let word = if told == 0 { "with " } else { ", " };
+            entry_words(text, calls, word, entry);
             told = told.saturating_add(1);
         }
     }
-    text.word(if told > 0 { ", after " } else { "after " });
-    let mut is_first = true;
+    let mut word = if told > 0 { ", after " } else { "after " };
     for entry in last {
-        comma(text, is_first);
-        entry_words(text, calls, entry);
-        is_first = false;
+        entry_words(text, calls, word, entry);
+        word = ", ";
     }
     text.word(": ");
 }

@@ -6,8 +6,9 @@ use crate::another::{Another, answered_by, asked_by, order_line};
 use crate::answers::exchange;
 use crate::holding::tree_lines;
 use crate::looks::Looks;
+use crate::misplaced::entry_of;
 use crate::rules::{error_line, is_never, never_lines};
-use crate::scene::Scene;
+use crate::scene::{Memory, Scene};
 use crate::{attributes, bindings, contents, directories, emptiness, start, unmet, wording};
 use fa_bodies::errno::ENOENT;
 use fa_capture::{Capture, codes};
@@ -78,8 +79,12 @@ fn next_line(text: &mut Text, refused: &Refused<'_>, reached: &Reached<'_>) {
         None => text.word(" it fits: the order only leaves it out"),
     }
     if reached.case.call.asked != refused.at {
-        text.word("; it is shown in place of ");
-        wording::request(text, refused.calls, refused.at);
+        wording::request(
+            text,
+            refused.calls,
+            "; it is shown in place of ",
+            refused.at,
+        );
         text.word(", since its answer came first and is left out too");
     }
     text.end_line();
@@ -153,21 +158,25 @@ fn because_of(
     finding: &Finding<'_, '_>,
     past: &Past,
 ) -> Result<Looks, AllocError> {
+    let memory = Memory::new(refused.alloc);
     let scene = Scene {
-        alloc: refused.alloc,
+        memory: &memory,
         calls: refused.calls,
         tree,
         history: &past.history,
         earlier: past.earlier,
         case: *case,
     };
-    let looks = why(text, &scene, finding)?;
+    let looks = why(text, &scene, finding);
     earlier_line(text, &scene, finding);
+    if memory.is_refused() {
+        return Err(AllocError);
+    }
     Ok(looks)
 }
 
 /// Writes which rule an answer breaks, and what the tree holds: which of the lines of what to look at fit.
-fn why(text: &mut Text, scene: &Scene<'_>, finding: &Finding<'_, '_>) -> Result<Looks, AllocError> {
+fn why(text: &mut Text, scene: &Scene<'_>, finding: &Finding<'_, '_>) -> Looks {
     match finding {
         Finding::NotAllowed(unmet) => unmet::explain(text, scene, unmet),
         Finding::WithoutCause(error) => without_cause(text, scene, *error),
@@ -179,11 +188,11 @@ fn why(text: &mut Text, scene: &Scene<'_>, finding: &Finding<'_, '_>) -> Result<
 }
 
 /// Writes that an error has no cause: which of the lines of what to look at fit.
-fn without_cause(text: &mut Text, scene: &Scene<'_>, error: i32) -> Result<Looks, AllocError> {
+fn without_cause(text: &mut Text, scene: &Scene<'_>, error: i32) -> Looks {
     error_line(text, &scene.case, error);
-    tree_lines(text, scene)?;
+    tree_lines(text, scene);
     allowed_line(text, scene);
-    Ok(Looks::at(case_of(scene, error), start::denies_error(scene, error)))
+    Looks::at(case_of(scene, error), start::denies_error(scene, error))
 }
 
 /// The case of an error that has no cause.
@@ -229,8 +238,12 @@ fn earlier_line(text: &mut Text, scene: &Scene<'_>, finding: &Finding<'_, '_>) {
     }
     match scene.earlier {
         Earlier::Until(asked) => {
-            text.word("earlier  the same answer was right until ");
-            wording::request(text, scene.calls, asked);
+            wording::request(
+                text,
+                scene.calls,
+                "earlier  the same answer was right until ",
+                asked,
+            );
             text.end_line();
         }
         Earlier::Never => {
@@ -263,23 +276,25 @@ fn look_at_lines(
     match another {
         Another::Never => look_at_server(text, code, looks, case, ""),
         Another::NeverPast(stop) => {
-            text.word("look at  First the answer to ");
-            asked_by(text, refused.calls, stop);
+            asked_by(text, refused.calls, "look at  First the answer to ", stop);
             text.word(": no order explains it, with all answers before it.");
             text.end_line();
             look_at_server(text, code, looks, case, "");
         }
         Another::Unknown => look_at_server(text, code, looks, case, IF_NO_ORDER),
         Another::Until(stop) if is_placed(refused, stop) => {
-            text.word("look at  This answer and the one to ");
-            asked_by(text, refused.calls, stop);
+            asked_by(
+                text,
+                refused.calls,
+                "look at  This answer and the one to ",
+                stop,
+            );
             text.word(": no order explains both.");
             text.end_line();
             look_at_server(text, code, looks, case, IF_THIS_ONE);
         }
         Another::Until(stop) => {
-            text.word("look at  The answer to ");
-            asked_by(text, refused.calls, stop);
+            asked_by(text, refused.calls, "look at  The answer to ", stop);
             text.word(", which no order explains: this one is explained by another.");
             text.end_line();
         }
@@ -298,10 +313,7 @@ fn look_at_lines(
 /// Whether the request that a message answers is placed before the entry.
 fn is_placed(refused: &Refused<'_>, answer: u32) -> bool {
     match answered_by(refused.calls, answer) {
-        Some(case) => refused
-            .before
-            .iter()
-            .any(|entry| entry.at == case.call.asked),
+        Some(case) => entry_of(refused.before, case.call.asked).is_some(),
         None => false,
     }
 }

@@ -9,35 +9,30 @@ use crate::start;
 use fa_ledger::Action;
 use fa_refusal::{NamedPlace, Part, Subject, Unmet};
 use fa_show::Text;
-use std::alloc::AllocError;
 
 /// Writes why the tree does not allow a success: which of the lines of what to look at fit.
-pub(crate) fn explain(
-    text: &mut Text,
-    scene: &Scene<'_>,
-    unmet: &Option<Unmet<'_>>,
-) -> Result<Looks, AllocError> {
+pub(crate) fn explain(text: &mut Text, scene: &Scene<'_>, unmet: &Option<Unmet<'_>>) -> Looks {
     success_line(text, &scene.case);
     let looks = match unmet {
-        Some(unmet) => here_line(text, scene, unmet)?,
+        Some(unmet) => here_line(text, scene, unmet),
         None => Looks::at("all else", false),
     };
-    tree_lines(text, scene)?;
+    tree_lines(text, scene);
     allowed_line(text, scene);
-    Ok(looks)
+    looks
 }
 
 /// Writes the line of the part that does not hold.
-fn here_line(text: &mut Text, scene: &Scene<'_>, unmet: &Unmet<'_>) -> Result<Looks, AllocError> {
+fn here_line(text: &mut Text, scene: &Scene<'_>, unmet: &Unmet<'_>) -> Looks {
     text.word("here     ");
     match unmet.subject {
         Subject::Name(name) => text.name(name),
-        Subject::File(file) => place(text, scene, file)?,
+        Subject::File(file) => place(text, scene, file),
     }
     text.word(" ");
     text.word(words(unmet.part));
     text.end_line();
-    Ok(Looks::at(key(scene, unmet), start::denies_part(scene, unmet)))
+    Looks::at(key(scene, unmet), start::denies_part(scene, unmet))
 }
 
 /// A part in words, behind what it does not hold of.

@@ -16,15 +16,22 @@ pub(crate) fn operation(text: &mut Text, case: &Case<'_>) {
     );
 }
 
-/// Writes the number of a request, and its operation.
-pub(crate) fn request(text: &mut Text, calls: &Calls<'_>, asked: u32) {
-    begin_request(text, calls, asked);
+/// Writes a word, and behind it the number of a request and its operation.
+pub(crate) fn request(text: &mut Text, calls: &Calls<'_>, word: &str, asked: u32) {
+    begin_request(text, calls, word, asked);
     text.word(")");
 }
 
-/// Writes the number of a request, and its operation, in parentheses that stay open.
-pub(crate) fn begin_request(text: &mut Text, calls: &Calls<'_>, asked: u32) {
-    text.number(u64::from(asked));
+/// The same of a request that may be none: there nothing is written.
+pub(crate) fn request_if_any(text: &mut Text, calls: &Calls<'_>, word: &str, asked: Option<u32>) {
+    if let Some(asked) = asked {
+        request(text, calls, word, asked);
+    }
+}
+
+/// Writes a word, and behind it the number of a request and its operation, in parentheses that stay open.
+pub(crate) fn begin_request(text: &mut Text, calls: &Calls<'_>, word: &str, asked: u32) {
+    text.field(word, u64::from(asked));
     text.word(" (");
     if let Some(case) = Case::of(calls, asked) {
         operation(text, &case);
@@ -42,10 +49,7 @@ pub(crate) fn node_number(node: &NodeName) -> u64 {
 /// Writes since which request something is so, or that it was so from the start.
 pub(crate) fn since(text: &mut Text, calls: &Calls<'_>, asked: Option<u32>) {
     match asked {
-        Some(asked) => {
-            text.word("since ");
-            request(text, calls, asked);
-        }
+        Some(asked) => request(text, calls, "since ", asked),
         None => text.word("from the start"),
     }
 }
