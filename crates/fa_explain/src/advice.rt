@@ -7,7 +7,7 @@ use fa_show::Text;
 const MOST_LINES: usize = 16;
 
 /// Which of the `look at` lines of a code's paragraph fit.
-#[derive(Clone, Copy, PartialEq, Eq)]
+#[derive(Clone, Copy)]
 pub enum Advice {
     /// The first alone.
     First,

@@ -141,10 +141,8 @@ fn cut_off(text: &mut Text, record: &Record<'_>) {
 fn direction(text: &mut Text, record: &Record<'_>) {
     text.field("record ", u64::from(record.number));
     text.field(" begins at byte ", record.begins as u64);
-    text.field(
-        ", with ",
-        record.bytes.first().map_or(0, |byte| u64::from(*byte)),
-    );
+    let found = record.bytes.first().unwrap_or(&0);
+    text.field(", with ", u64::from(*found));
     text.word(" where the direction stands: 0 or 1");
 }
 

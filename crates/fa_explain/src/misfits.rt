@@ -102,6 +102,6 @@ fn behind_lines(bytes: &[u8], line: u32) -> &[u8] {
 }
 
 /// Whether a byte is a blank.
-pub(crate) fn is_blank(byte: u8) -> bool {
-    byte == b' ' || byte == b'\t'
+pub(crate) fn is_blank(byte: &u8) -> bool {
+    *byte == b' ' || *byte == b'\t'
 }

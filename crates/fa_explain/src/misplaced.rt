@@ -115,7 +115,7 @@ pub(crate) fn may_be_late_behind(capture: &Capture<'_>, fault: &Fault<'_>, befor
         return true;
     }
     match capture.packets().nth(before as usize) {
-        Some(packet) => unique_of(&packet).is_some_and(|unique| unique > fault.unique()),
+        Some(packet) => matches!(unique_of(&packet), Some(unique) if unique > fault.unique()),
         None => false,
     }
 }

@@ -137,9 +137,10 @@ fn unknown(
     let late = late_answer(alloc, capture, fault.number, Sought::Node(node))?;
     let past = past.node(node);
     unknown_node(text, capture, node, &past, late);
-    let may_be_late = past
-        .taken()
-        .is_some_and(|taken| may_be_late_behind(capture, fault, taken));
+    let may_be_late = match past.taken {
+        Some(taken) => may_be_late_behind(capture, fault, taken),
+        None => false,
+    };
     Ok(advice_on_unknown(may_be_late, late))
 }
 
@@ -250,21 +251,21 @@ fn taken_too_often(
         text.count(past.answers, " answer", " answers");
     }
     text.word(" gave it");
-    let earlier = past.taken.filter(|taken| *taken != fault.number);
-    match earlier {
+    match past.taken {
+        Some(taken) if taken == fault.number => text.word(", and an item before took from it"),
         Some(taken) => {
             text.field(", and ", u64::from(taken));
             text.word(" took from it");
         }
-        None if past.taken.is_some() => text.word(", and an item before took from it"),
         None => {}
     }
     text.end_line();
     if let Some(given) = past.given {
         earlier_answer(text, capture, given);
     }
-    if let Some(taken) = earlier {
-        earlier_request(text, capture, taken);
+    match past.taken {
+        Some(taken) if taken != fault.number => earlier_request(text, capture, taken),
+        _ => {}
     }
 }
 

@@ -31,13 +31,13 @@ pub(crate) fn cause_of(line: &Misfit<'_>) -> Option<&'static str> {
 
 /// Why a line is no entry. It has a byte or more.
 fn entry_cause(line: &[u8]) -> Option<&'static str> {
-    if line.first().is_some_and(|byte| is_blank(*byte)) {
+    if line.first().is_some_and(is_blank) {
         return Some(BLANK_IN_FRONT);
     }
     if line.ends_with(b" w ".as_slice()) {
         return Some(NO_COUNT);
     }
-    if line.last().is_some_and(|byte| is_blank(*byte)) {
+    if line.last().is_some_and(is_blank) {
         return Some(BLANK_AT_END);
     }
     let (number, behind) = split_behind_digits(line);
@@ -86,14 +86,14 @@ fn number_cause(digits: &[u8], behind: &[u8]) -> Option<&'static str> {
 
 /// The digits at the front, and what stands behind them.
 fn split_behind_digits(bytes: &[u8]) -> (&[u8], &[u8]) {
-    let count = bytes
-        .iter()
-        .take_while(|byte| byte.is_ascii_digit())
-        .count();
-    match bytes.split_at_checked(count) {
-        Some(parts) => parts,
-        None => (bytes, &[]),
+    let mut count: usize = 0;
+    for byte in bytes {
+        if !byte.is_ascii_digit() {
+            break;
+        }
+        count = count.saturating_add(1);
     }
+    bytes.split_at(count.min(bytes.len()))
 }
 
 /// Whether digits spell a number that has no room in 32 bits.

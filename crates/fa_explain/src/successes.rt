@@ -32,14 +32,14 @@ pub(crate) fn is_of_entries(fault: &Fault<'_>, exchange: Option<Exchange<'_>>) -
     let (Some(told), Some(exchange)) = (message_in(&fault.packet), exchange) else {
         return false;
     };
-    let Some(most) = exchange.request().and_then(|asked| listed_at_most(&asked)) else {
+    let Some(most) = exchange.request().and_then(listed_at_most) else {
         return false;
     };
     told.error == 0 && told.behind.len() <= most
 }
 
 /// How many bytes a request asks for, if it lists.
-fn listed_at_most(asked: &Asked<'_>) -> Option<usize> {
+fn listed_at_most(asked: Asked<'_>) -> Option<usize> {
     match &asked.request {
         Ok(request) => match &request.body {
             RequestBody::Readdir(read) | RequestBody::Readdirplus(read) => Some(read.size as usize),

@@ -182,12 +182,12 @@ fn body_cause(kind: Kind, body: Option<&[u8]>) -> Option<&'static str> {
             Some(_) => Some(BODY),
             None => None,
         },
-        _ if body.is_some_and(|body| body.contains(&b' ')) => Some(TOO_MANY_BLANKS),
+        _ if body.is_some_and(has_blank) => Some(TOO_MANY_BLANKS),
         Kind::File if body == Some(b"-".as_slice()) => None,
         Kind::File => digits_cause(body, NO_BYTES),
         Kind::Symlink if body == Some(b"-".as_slice()) => Some(EMPTY_TARGET),
         Kind::Symlink => match digits_cause(body, NO_TARGET) {
-            None if body.is_some_and(|digits| has_zero_byte(digits)) => Some(ZERO_IN_TARGET),
+            None if body.is_some_and(has_zero_byte) => Some(ZERO_IN_TARGET),
             cause => cause,
         },
     }
@@ -199,13 +199,18 @@ fn digits_cause(digits: Option<&[u8]>, missing: &'static str) -> Option<&'static
     if digits.is_empty() {
         return Some(missing);
     }
-    if !digits.iter().all(|digit| digit.is_ascii_hexdigit()) {
+    if !digits.iter().all(u8::is_ascii_hexdigit) {
         return Some(NO_DIGIT);
     }
     if digits.len() % 2 != 0 {
         return Some(ODD_DIGITS);
     }
     None
+}
+
+/// Whether one of these bytes is a blank.
+fn has_blank(bytes: &[u8]) -> bool {
+    bytes.contains(&b' ')
 }
 
 /// Whether one of the bytes that hexadecimal digits spell is zero.
@@ -250,9 +255,14 @@ fn older_cause<'a>(older: &'a [u8], before: &[u8]) -> Option<Cause<'a>> {
 
 /// What stands before the last slash of a path, if it has one.
 fn directory_of(path: &[u8]) -> Option<&[u8]> {
-    let place = path.iter().rposition(|byte| *byte == b'/')?;
-    let (directory, _) = path.split_at_checked(place)?;
-    Some(directory)
+    let mut directory = None;
+    for (place, byte) in path.iter().enumerate() {
+        if *byte == b'/' {
+            let (before, _) = path.split_at(place.min(path.len()));
+            directory = Some(before);
+        }
+    }
+    directory
 }
 
 /// The number of the first line with a path, counted from 1, and what it adds.

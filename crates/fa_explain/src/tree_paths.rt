@@ -13,7 +13,7 @@ pub(crate) fn path_cause(path: &[u8]) -> Option<&'static str> {
     if path.ends_with(b"/".as_slice()) {
         return Some("a path ends with a slash");
     }
-    if !path.iter().all(|byte| byte.is_ascii_graphic()) {
+    if !path.iter().all(u8::is_ascii_graphic) {
         return Some("a byte outside 21 to 7E is spelled as % and two hexadecimal digits");
     }
     if has_open_escape(path) {
