@@ -34,7 +34,9 @@ pub(crate) fn request_body(opcode: u32, body: &[u8]) -> Result<RequestBody<'_>, 
     if !is_operation(opcode) {
         return Err(codes::OPERATION);
     }
-    let body = body_of(opcode, body).ok_or(codes::REQUEST_BODY)?;
+    let Some(body) = body_of(opcode, body) else {
+        return Err(codes::REQUEST_BODY);
+    };
     if !is_within_limit(&body) {
         return Err(codes::PROFILE_LIMIT);
     }
@@ -136,6 +138,7 @@ fn known_named<B: Block>(bytes: &[u8]) -> (B, &[u8])
 }
 
 /// A struct of `fuse.h`, and a name behind it that ends the bytes.
+#[inline(always)]
 fn named<B: Block>(bytes: &[u8]) -> Option<(B, &[u8])>
     ensures found { IfSome result (λ r. IsSpelled bytes.now (B.fields r.0 ++ Name r.1.now ∷ [])) }
     ensures none { IfNone result
@@ -147,6 +150,7 @@ fn named<B: Block>(bytes: &[u8]) -> Option<(B, &[u8])>
 }
 
 /// A struct of `fuse.h`, and two names behind it, of which the second ends the bytes.
+#[inline(always)]
 fn two_named<B: Block>(bytes: &[u8]) -> Option<(B, &[u8], &[u8])>
     ensures found { IfSome result (λ r. IsSpelled bytes.now (B.fields r.0 ++ Name r.1.now ∷ Name r.2.now ∷ [])) }
     ensures none { IfNone result
@@ -158,6 +162,7 @@ fn two_named<B: Block>(bytes: &[u8]) -> Option<(B, &[u8], &[u8])>
     Some((block, first, second))
 }
 
+#[inline(always)]
 fn forget(body: &[u8]) -> Option<RequestBody<'_>>
     ensures found { IfSome result (λ b. IsRequestBody FORGET body.now (body_shown b)) }
     ensures none { IfNone result ((b : PlainBody) → IsRequestBody FORGET body.now b → ⊥) }
@@ -166,6 +171,7 @@ fn forget(body: &[u8]) -> Option<RequestBody<'_>>
     Some(RequestBody::Forget { nlookup })
 }
 
+#[inline(always)]
 fn readlink(body: &[u8]) -> Option<RequestBody<'_>>
     ensures found { IfSome result (λ b. IsRequestBody READLINK body.now (body_shown b)) }
     ensures none { IfNone result ((b : PlainBody) → IsRequestBody READLINK body.now b → ⊥) }
@@ -176,6 +182,7 @@ fn readlink(body: &[u8]) -> Option<RequestBody<'_>>
     Some(RequestBody::Readlink)
 }
 
+#[inline(always)]
 fn symlink(body: &[u8]) -> Option<RequestBody<'_>>
     ensures found { IfSome result (λ b. IsRequestBody SYMLINK body.now (body_shown b)) }
     ensures none { IfNone result ((b : PlainBody) → IsRequestBody SYMLINK body.now b → ⊥) }
@@ -185,6 +192,7 @@ fn symlink(body: &[u8]) -> Option<RequestBody<'_>>
     Some(RequestBody::Symlink { name, target })
 }
 
+#[inline(always)]
 fn mknod(body: &[u8]) -> Option<RequestBody<'_>>
     ensures found { IfSome result (λ b. IsRequestBody MKNOD body.now (body_shown b)) }
     ensures none { IfNone result ((b : PlainBody) → IsRequestBody MKNOD body.now b → ⊥) }
@@ -201,6 +209,7 @@ fn mknod(body: &[u8]) -> Option<RequestBody<'_>>
     })
 }
 
+#[inline(always)]
 fn mkdir(body: &[u8]) -> Option<RequestBody<'_>>
     ensures found { IfSome result (λ b. IsRequestBody MKDIR body.now (body_shown b)) }
     ensures none { IfNone result ((b : PlainBody) → IsRequestBody MKDIR body.now b → ⊥) }
@@ -209,6 +218,7 @@ fn mkdir(body: &[u8]) -> Option<RequestBody<'_>>
     Some(RequestBody::Mkdir { mode, umask, name })
 }
 
+#[inline(always)]
 fn rename(body: &[u8]) -> Option<RequestBody<'_>>
     ensures found { IfSome result (λ b. IsRequestBody RENAME body.now (body_shown b)) }
     ensures none { IfNone result ((b : PlainBody) → IsRequestBody RENAME body.now b → ⊥) }
@@ -221,6 +231,7 @@ fn rename(body: &[u8]) -> Option<RequestBody<'_>>
     })
 }
 
+#[inline(always)]
 fn rename2(body: &[u8]) -> Option<RequestBody<'_>>
     ensures found { IfSome result (λ b. IsRequestBody RENAME2 body.now (body_shown b)) }
     ensures none { IfNone result ((b : PlainBody) → IsRequestBody RENAME2 body.now b → ⊥) }
@@ -237,6 +248,7 @@ fn rename2(body: &[u8]) -> Option<RequestBody<'_>>
     }
 }
 
+#[inline(always)]
 fn link(body: &[u8]) -> Option<RequestBody<'_>>
     ensures found { IfSome result (λ b. IsRequestBody LINK body.now (body_shown b)) }
     ensures none { IfNone result ((b : PlainBody) → IsRequestBody LINK body.now b → ⊥) }
@@ -248,6 +260,7 @@ fn link(body: &[u8]) -> Option<RequestBody<'_>>
     })
 }
 
+#[inline(always)]
 fn write(body: &[u8]) -> Option<RequestBody<'_>>
     ensures found { IfSome result (λ b. IsRequestBody WRITE body.now (body_shown b)) }
     ensures none { IfNone result ((b : PlainBody) → IsRequestBody WRITE body.now b → ⊥) }
@@ -267,6 +280,7 @@ fn write(body: &[u8]) -> Option<RequestBody<'_>>
     })
 }
 
+#[inline(always)]
 fn init(body: &[u8]) -> Option<RequestBody<'_>>
     ensures found { IfSome result (λ b. IsRequestBody INIT body.now (body_shown b)) }
     ensures none { IfNone result ((b : PlainBody) → IsRequestBody INIT body.now b → ⊥) }
@@ -275,6 +289,7 @@ fn init(body: &[u8]) -> Option<RequestBody<'_>>
     Some(RequestBody::Init(init))
 }
 
+#[inline(always)]
 fn create(body: &[u8]) -> Option<RequestBody<'_>>
     ensures found { IfSome result (λ b. IsRequestBody CREATE body.now (body_shown b)) }
     ensures none { IfNone result ((b : PlainBody) → IsRequestBody CREATE body.now b → ⊥) }
@@ -288,6 +303,7 @@ fn create(body: &[u8]) -> Option<RequestBody<'_>>
     })
 }
 
+#[inline(always)]
 fn batch_forget(body: &[u8]) -> Option<RequestBody<'_>>
     ensures found { IfSome result (λ b. IsRequestBody BATCH_FORGET body.now (body_shown b)) }
     ensures none { IfNone result ((b : PlainBody) → IsRequestBody BATCH_FORGET body.now b → ⊥) }
