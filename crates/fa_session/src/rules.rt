@@ -7,6 +7,7 @@ ghost use Rattle.fa_bodies.specs.Replies.{reply_shown};
 ghost use Rattle.fa_session.specs.Rules.{IsInit, IsInterrupt};
 ghost use Rattle.fa_session.specs.parts.Steps.{init_checked, reply_checked, flags_of};
 
+use crate::waiting::Waiting;
 use bitflags::Flags;
 use fa_bodies::{InitFlags, InitIn, Negotiated, Reply, Request, RequestBody, errno, opcodes};
 use fa_capture::codes;
@@ -26,7 +27,7 @@ pub(crate) fn is_init(body: &RequestBody<'_>) -> bool
 
 /// Whether a request is INTERRUPT.
 #[inline(always)]
-fn is_interrupt(request: &Request<'_>) -> bool
+pub(crate) fn is_interrupt(request: &Request<'_>) -> bool
     ensures { IsTrue result ↔ IsInterrupt (request_shown request.now) }
 {
     request.opcode == opcodes::INTERRUPT
@@ -34,13 +35,14 @@ fn is_interrupt(request: &Request<'_>) -> bool
 
 /// Whether a request may take the place of an outstanding one with its unique: both are INTERRUPT.
 #[inline(always)]
-pub(crate) fn may_replace(waiting: &Request<'_>, request: &Request<'_>) -> bool
-    ensures { IsTrue result ↔ (IsInterrupt (request_shown request.now) × IsInterrupt (request_shown waiting.now)) }
+pub(crate) fn may_replace(waiting: &Waiting<'_>, request: &Request<'_>) -> bool
+    ensures { IsTrue result ↔ (IsInterrupt (request_shown request.now) × IsInterrupt waiting.now.said.0) }
 {
-    is_interrupt(request) && is_interrupt(waiting)
+    is_interrupt(request) && waiting.is_interrupt()
 }
 
 /// Looks whether a success of INIT keeps the rules. The error is the code of the first rule that it breaks.
+#[inline(always)]
 fn check_init_answer(init: &InitIn, answer: &Negotiated) -> Result<(), u16>
     ensures ok { OnOk result (AllHold (init_checked init.now answer.now)) }
     ensures fault { IfErr result (FirstFailure (init_checked init.now answer.now)) }

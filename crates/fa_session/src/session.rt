@@ -12,7 +12,7 @@ ghost use Rattle.fa_session.specs.Events.{event_shown, IsEvent, HasBytes};
 ghost use Rattle.fa_session.specs.Refusals.{IsRefusal};
 ghost use Rattle.fa_session.specs.Shows.{Shows};
 ghost use Rattle.fa_session.specs.parts.Steps.{request_checked, waiting_for, NotesRequest, IsMemoryWanted, NotesReply, noticed};
-ghost use Rattle.fa_session.specs.parts.View.{asked_shown};
+ghost use Rattle.fa_session.specs.parts.View.{waiting_shown};
 
 use crate::error::SessionError;
 use crate::event::{Event, ReplyMessages, RequestMessage};
@@ -138,9 +138,17 @@ impl<'a> Session<'a> {
         }
     }
 
-    /// Takes the next message, one to the server, as [`accept`](Session::accept) does.
+    /// Takes the next message, as [`accept`](Session::accept) does, where it is one to the server.
+    ///
+    /// # Errors
+    ///
+    /// Those of `accept` for such a message.
+    ///
+    /// # Cost
+    ///
+    /// That of `accept`, which is too large to be laid into its caller, as this is: its event need not be moved.
     #[inline(always)]
-    fn accept_to_server(&mut self, packet: &Packet<'a>) -> Result<Event<'a>, SessionError>
+    pub fn accept_to_server(&mut self, packet: &Packet<'a>) -> Result<Event<'a>, SessionError>
         requires few { self.old.messages < MAX_MESSAGES }
         requires direction { packet.now.direction ≡ ToServer }
         ensures passes { OnOk result ((c : List Message) → Shows c self.old → IsAllowed c (message packet.now)) }
@@ -159,9 +167,17 @@ impl<'a> Session<'a> {
         Ok(Event::Asked { at, message })
     }
 
-    /// Takes the next message, one from the server, as [`accept`](Session::accept) does.
+    /// Takes the next message, as [`accept`](Session::accept) does, where it is one from the server.
+    ///
+    /// # Errors
+    ///
+    /// Those of `accept` for such a message.
+    ///
+    /// # Cost
+    ///
+    /// That of `accept`, which is too large to be laid into its caller, as this is: its event need not be moved.
     #[inline(always)]
-    fn accept_from_server(&mut self, packet: &Packet<'a>) -> Result<Event<'a>, SessionError>
+    pub fn accept_from_server(&mut self, packet: &Packet<'a>) -> Result<Event<'a>, SessionError>
         requires few { self.old.messages < MAX_MESSAGES }
         requires direction { packet.now.direction ≡ FromServer }
         ensures passes { OnOk result ((c : List Message) → Shows c self.old → IsAllowed c (message packet.now)) }
@@ -179,9 +195,11 @@ impl<'a> Session<'a> {
             let at = self.next_number();
             return Ok(Event::Notice { at });
         }
-        let Some((waiting, message)) = self.waiting_for(head.unique) else {
+        let Some(waiting) = self.waiting_for(head.unique) else {
             return Err(SessionError::Refused(codes::NO_REQUEST_WAITS));
         };
+        let (asked, tag) = (waiting.at, waiting.tag);
+        let message = waiting.message();
         let messages = ReplyMessages {
             to: message,
             bytes: packet.bytes,
@@ -192,8 +210,8 @@ impl<'a> Session<'a> {
         let at = self.note_reply(head.unique, flags);
         Ok(Event::Answered {
             at,
-            asked: waiting.at,
-            tag: waiting.tag,
+            asked,
+            tag,
             messages,
         })
     }
@@ -214,17 +232,13 @@ impl<'a> Session<'a> {
         self.len() == 0
     }
 
-    /// The outstanding request with this unique, and its message, read again.
+    /// The outstanding request with this unique.
     #[inline(always)]
-    fn waiting_for(&self, unique: u64) -> Option<(Waiting<'a>, RequestMessage<'a>)>
-        ensures found { option_map (λ w. asked_shown w.0.at w.1) result ≡ waiting_for self.now unique }
-        ensures unique { IfSome result (λ w. w.1.request.unique ≡ unique) }
+    fn waiting_for(&self, unique: u64) -> Option<&Waiting<'a>>
+        ensures found { option_map (λ w. waiting_shown w.now) result ≡ waiting_for self.now unique }
+        ensures unique { IfSome result (λ w. w.now.unique ≡ unique) }
     {
-        let Some(waiting) = self.waiting.get(unique) else {
-            return None;
-        };
-        let message = waiting.message();
-        Some((*waiting, message))
+        self.waiting.get(unique)
     }
 
     /// Looks whether a request keeps the rules after the messages so far. The error is the code of the first rule that
@@ -249,10 +263,10 @@ impl<'a> Session<'a> {
         if self.negotiated().is_none() {
             return Err(codes::BEFORE_INIT_ANSWERED);
         }
-        let Some((_, waiting)) = self.waiting_for(request.unique) else {
+        let Some(waiting) = self.waiting_for(request.unique) else {
             return Ok(());
         };
-        if !may_replace(&waiting.request, request) {
+        if !may_replace(waiting, request) {
             return Err(codes::UNIQUE_IN_USE);
         }
         Ok(())

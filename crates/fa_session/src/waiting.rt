@@ -1,10 +1,12 @@
 //! Outstanding requests.
 
-ghost use Rattle.std.specs.Prelude.{◌≡◌, IfOk};
+ghost use Rattle.std.specs.Prelude.{◌≡◌, ◌↔◌, IfOk, IsTrue};
 ghost use Rattle.fa_bodies.specs.Requests.{request_shown};
+ghost use Rattle.fa_session.specs.Rules.{IsInterrupt};
 ghost use Rattle.fa_session.specs.parts.RequestSaid.{RequestSaid, RequestSaid-prop};
 
 use crate::event::RequestMessage;
+use crate::rules::is_interrupt;
 use fa_bodies::known_request;
 use fa_capture::{Direction, Packet};
 use std::alloc::{AllocError, Global};
@@ -58,6 +60,13 @@ impl<'a> Waiting<'a> {
             bytes: self.bytes,
             request: known_request(&packet),
         }
+    }
+
+    /// Whether it is INTERRUPT.
+    pub fn is_interrupt(&self) -> bool
+        ensures { IsTrue result ↔ IsInterrupt self.now.said.0 }
+    {
+        is_interrupt(&self.message().request)
     }
 
     /// The same request, with a copy of its message.
