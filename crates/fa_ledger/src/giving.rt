@@ -134,6 +134,7 @@ pub(crate) fn names_given(
 }
 
 /// The names of the nodes that a listing gives. In constant time where it is that of a READDIR, which gives none.
+#[inline(always)]
 fn names_listed(
     alloc: Global,
     nodes: &Nodes,

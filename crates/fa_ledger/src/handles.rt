@@ -59,9 +59,21 @@ impl Handles {
         ensures wanted { OnErr result (IsTrue (opens_new self.old.opened.entries opened.now)) }
     {
         match opened {
-            Some((key, _)) if self.get(key).is_none() => self.opened.reserve(1),
-            _ => Ok(()),
+            Some((key, _)) => self.reserve_for(*key),
+            None => Ok(()),
         }
+    }
+
+    /// Makes room for a key, if it is not open.
+    fn reserve_for(&mut self, key: Key) -> Result<(), AllocError>
+        ensures kept { IsUnchanged self.old.opened self.new.opened }
+        ensures room { OnOk result (IsTrue (is_none (get key_eq self.old.opened key)) → 0 < spare self.new.opened) }
+        ensures wanted { OnErr result (IsTrue (is_none (get key_eq self.old.opened key))) }
+    {
+        if self.get(&key).is_none() {
+            self.opened.reserve(1)?;
+        }
+        Ok(())
     }
 
     /// Notes the key that the answer to the request of this number opens, if any: whether it opens one that was not open.

@@ -95,6 +95,7 @@ impl<'a> Ledger<'a> {
     /// logarithm of the calls. It keeps 96 bytes for each tree request, with where its messages lie, an entry for each node that is
     /// known, for each key that is open and for each offset that an answer on such a key has; all grow by doubling. The names of
     /// the nodes that a listing gives take a list of their own. No message bytes are copied.
+    #[inline(always)]
     pub fn accept(&mut self, event: &Event<'a>) -> Result<(), LedgerError>
         requires { (c : List Message) × (m : Message) × IsNext c m self.old (event_shown event.now) }
         ensures passes { OnOk result ((c : List Message) (m : Message) → IsNext c m self.old (event_shown event.now) → Passes c m) }

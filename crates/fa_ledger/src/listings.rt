@@ -145,6 +145,7 @@ impl Listings {
     }
 
     /// Makes room for what an answer lists, if some offset of it is new, so that it can be noted without memory.
+    #[inline(always)]
     pub fn reserve(&mut self, listed: &Option<ListedOn<'_>>) -> Result<(), AllocError>
         ensures same { (other : Key) (offset : ℕ) → place_of self.new.by_key.entries other offset ≡ place_of self.old.by_key.entries other offset }
         ensures room { OnOk result (HasRoomIfNew self.new.by_key listed.now) }
@@ -152,9 +153,22 @@ impl Listings {
         ensures wanted { OnErr result (ListsNew self.old.by_key.entries listed.now) }
     {
         match listed {
-            Some(listed) if self.has_new(listed) => self.reserve_on(&listed.key, listed.count),
-            _ => Ok(()),
+            Some(listed) => self.reserve_for(*listed),
+            None => Ok(()),
         }
+    }
+
+    /// Makes room for what an answer lists, if some offset of it is new.
+    fn reserve_for(&mut self, listed: ListedOn<'_>) -> Result<(), AllocError>
+        ensures same { (other : Key) (offset : ℕ) → place_of self.new.by_key.entries other offset ≡ place_of self.old.by_key.entries other offset }
+        ensures room { OnOk result (HasRoomIfNew self.new.by_key (Some listed.entry)) }
+        ensures unchanged { OnErr result (listed_shown self.new.by_key.entries ≡ listed_shown self.old.by_key.entries) }
+        ensures wanted { OnErr result (ListsNew self.old.by_key.entries (Some listed.entry)) }
+    {
+        if self.has_new(&listed) {
+            self.reserve_on(&listed.key, listed.count)?;
+        }
+        Ok(())
     }
 
     /// Whether an answer lists an entry with an offset that was not reached on its handle.
@@ -170,6 +184,7 @@ impl Listings {
     }
 
     /// Notes what the answer to the request of this number lists, if anything.
+    #[inline(always)]
     pub fn note(&mut self, asked: u32, listed: Option<ListedOn<'_>>)
         requires fresh { (key : Key) (offset : ℕ) (place : Place) → place_of self.old.by_key.entries key offset ≡ Some place → place.asked ≢ asked }
         requires room { HasRoomIfNew self.old.by_key listed }
@@ -178,7 +193,7 @@ impl Listings {
         ensures { IsNotedBy asked listed.entry self.old.by_key.entries self.new.by_key.entries }
     {
         if let Some(listed) = listed {
-            self.note_on(&listed.key, asked, listed.adrift, listed.entries);
+            self.note_on(listed.key, asked, listed.adrift, listed.entries);
         }
     }
 
@@ -199,13 +214,13 @@ impl Listings {
     }
 
     /// Notes the answer to the request of this number on the handle of this key.
-    fn note_on(&mut self, key: &Key, asked: u32, adrift: bool, listing: Entries<'_>)
-        requires fresh { (offset : ℕ) (place : Place) → place_of self.old.by_key.entries key.now offset ≡ Some place → place.asked ≢ asked }
-        requires room { IsTrue (some_unreached self.old.by_key.entries key.now (entries_left listing)) → HasRoom self.old.by_key key.now (length (entries_left listing)) }
+    fn note_on(&mut self, key: Key, asked: u32, adrift: bool, listing: Entries<'_>)
+        requires fresh { (offset : ℕ) (place : Place) → place_of self.old.by_key.entries key offset ≡ Some place → place.asked ≢ asked }
+        requires room { IsTrue (some_unreached self.old.by_key.entries key (entries_left listing)) → HasRoom self.old.by_key key (length (entries_left listing)) }
         requires few { length (entries_left listing) ≤ 4294967295 }
-        ensures { (other : Key) (offset : ℕ) → place_of self.new.by_key.entries other offset ≡ cond (key_eq key.now other) (noted asked adrift (count_to offset (entries_left listing.entry)) (place_of self.old.by_key.entries other offset)) (place_of self.old.by_key.entries other offset) }
+        ensures { (other : Key) (offset : ℕ) → place_of self.new.by_key.entries other offset ≡ cond (key_eq key other) (noted asked adrift (count_to offset (entries_left listing.entry)) (place_of self.old.by_key.entries other offset)) (place_of self.old.by_key.entries other offset) }
     {
-        match self.by_key.get_mut(key) {
+        match self.by_key.get_mut(&key) {
             Some(offsets) => offsets.note(asked, adrift, listing),
             // Without a table there is no entry: each offset would be new, and have room.
             None => {}

@@ -13,13 +13,13 @@ use Rattle.fa_ledger.proofs.listings.Listings.note_on.Goals as goal
 pub note-requires-clause-fresh : goal.note-requires-clause-fresh
 note-requires-clause-fresh c = λ offset place is.
     let table = c.args.self.now.by_key.entries in
-    let key = c.args.key.now in
+    let key = c.args.key in
     c.requires.fresh offset place (place_found table key offset _ (sym (at_key key table) ∙ sym c.in-Some.ensures.value) ∙ is)
 
 pub note-requires-clause-room : goal.note-requires-clause-room
 note-requires-clause-room c = λ new.
     let table = c.args.self.now.by_key.entries in
-    let key = c.args.key.now in
+    let key = c.args.key in
     let offsets = c.in-Some.offsets.now in
     let found = sym (at_key key table) ∙ sym c.in-Some.ensures.value in
     let test : PlainDirent → Bool = λ d. is_none (lookup (nat_eq d.off) offsets.places.entries) in
@@ -33,7 +33,7 @@ note-requires-clause-room c = λ new.
 pub returns-in-Some : goal.returns-in-Some
 returns-in-Some c = λ other offset.
     let table = c.args.self.now.by_key.entries in
-    let key = c.args.key.now in
+    let key = c.args.key in
     let new = c.get_mut.follows.lender c.note.new.self in
     let wrote = (c.get_mut.follows.holds c.note.new.self).3 (ap is_some (sym c.in-Some.ensures.value)) in
     let found = sym (at_key key table) ∙ sym c.in-Some.ensures.value in
@@ -43,6 +43,6 @@ returns-in-Some c = λ other offset.
 pub returns-in-None : goal.returns-in-None
 returns-in-None c =
     let table = c.args.self.now.by_key.entries in
-    let key = c.args.key.now in
+    let key = c.args.key in
     let absent = sym (at_key key table) ∙ sym c.in-None.ensures.value in
     rw c.get_mut.follows.holds-at-none (nothing_noted table key c.args.asked c.args.adrift (entries_left c.args.listing) absent (λ new. let room = c.requires.room new in (room.0, room.1)))
