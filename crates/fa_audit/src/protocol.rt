@@ -4,13 +4,14 @@ ghost use Rattle.std.specs.Prelude.{◌≡◌, ℕ, ◌<◌, ◌∷◌, ◌++◌
 ghost use Rattle.fa_capture.specs.Message.{Message, message};
 ghost use Rattle.fa_capture.specs.Captures.{IsCaptureOf};
 ghost use Rattle.fa_capture.specs.declared.limits.TheConstants.{MAX_MESSAGES};
+ghost use Rattle.fa_capture.specs.declared.packet.Direction.TheVariants.{ToServer, FromServer};
 ghost use Rattle.fa_ledger.specs.Passing.{Passes};
 ghost use Rattle.fa_watch.specs.Refusals.{IsRefusal};
 ghost use Rattle.fa_check.specs.Verdicts.{AreMessagesOf};
 ghost use Rattle.fa_audit.specs.parts.Protocol.{ShowBoth, messages_of};
 ghost use Rattle.fa_audit.specs.parts.Answers.{AreCallsOf, IsCaptureRefused};
 
-use fa_capture::{Capture, CaptureFault, Packet, Seed, Walk, codes};
+use fa_capture::{Capture, CaptureFault, Direction, Packet, Seed, Walk, codes};
 use fa_ledger::{Calls, Ledger};
 use fa_session::Session;
 use fa_watch::MessageError;
@@ -49,9 +50,44 @@ fn accept<'a>(
     ensures shows { OnOk result ((c : List Message) → ShowBoth c session.old ledger.old → length c < MAX_MESSAGES → ShowBoth (c ++ message packet.now ∷ []) session.new ledger.new) }
     ensures refused { IfErr result (λ error. (c : List Message) → ShowBoth c session.old ledger.old → length c < MAX_MESSAGES → IsRefusal c (message packet.now) error) }
 {
+    match packet.direction {
+        Direction::ToServer => accept_to_server(session, ledger, packet),
+        Direction::FromServer => accept_from_server(session, ledger, packet),
+    }
+}
+
+/// Takes the next message, one to the server, as [`accept`] does.
+fn accept_to_server<'a>(
+    session: &mut Session<'a>,
+    ledger: &mut Ledger<'a>,
+    packet: &Packet<'a>,
+) -> Result<(), MessageError>
+    requires show { (c : List Message) × ShowBoth c session.old ledger.old × (length c < MAX_MESSAGES) }
+    requires direction { packet.now.direction ≡ ToServer }
+    ensures passes { OnOk result ((c : List Message) → ShowBoth c session.old ledger.old → length c < MAX_MESSAGES → Passes c (message packet.now)) }
+    ensures shows { OnOk result ((c : List Message) → ShowBoth c session.old ledger.old → length c < MAX_MESSAGES → ShowBoth (c ++ message packet.now ∷ []) session.new ledger.new) }
+    ensures refused { IfErr result (λ error. (c : List Message) → ShowBoth c session.old ledger.old → length c < MAX_MESSAGES → IsRefusal c (message packet.now) error) }
+{
     session.set_tag(ledger.next_place());
-    let event = session.accept(packet)?;
-    ledger.accept(&event)?;
+    let asked = session.accept_to_server(packet)?;
+    ledger.accept(&asked)?;
+    Ok(())
+}
+
+/// Takes the next message, one from the server, as [`accept`] does.
+fn accept_from_server<'a>(
+    session: &mut Session<'a>,
+    ledger: &mut Ledger<'a>,
+    packet: &Packet<'a>,
+) -> Result<(), MessageError>
+    requires show { (c : List Message) × ShowBoth c session.old ledger.old × (length c < MAX_MESSAGES) }
+    requires direction { packet.now.direction ≡ FromServer }
+    ensures passes { OnOk result ((c : List Message) → ShowBoth c session.old ledger.old → length c < MAX_MESSAGES → Passes c (message packet.now)) }
+    ensures shows { OnOk result ((c : List Message) → ShowBoth c session.old ledger.old → length c < MAX_MESSAGES → ShowBoth (c ++ message packet.now ∷ []) session.new ledger.new) }
+    ensures refused { IfErr result (λ error. (c : List Message) → ShowBoth c session.old ledger.old → length c < MAX_MESSAGES → IsRefusal c (message packet.now) error) }
+{
+    let said = session.accept_from_server(packet)?;
+    ledger.accept(&said)?;
     Ok(())
 }
 
