@@ -1,16 +1,14 @@
 -- A decimal that no digit follows is read in one way.
-use Rattle.std.proofs.Common.{◌≡◌, ℕ, zero, suc, ◌+◌, ◌*◌, ◌^◌, ◌<◌, ◌≤◌, Bool, true, false, cond, List, [], ◌∷◌, ◌++◌, length, get_or, take, drop, refl, sym, ap, subst, ◌∙◌, inl, inr, arith}
-use Rattle.std.specs.Char.{is_ascii_digit, digit_value}
+use Rattle.std.proofs.Common.{◌≡◌, ℕ, zero, suc, ◌^◌, ◌<◌, ◌≤◌, Bool, true, false, List, [], ◌∷◌, ◌++◌, length, get_or, take, drop, refl, sym, ap, subst, ◌∙◌, inl, inr, arith}
+use Rattle.std.specs.Char.{is_ascii_digit}
 use Rattle.std.specs.Fmt.{decimal}
 use Rattle.std.specs.List.{prefix_len}
 use Rattle.std.specs.Str.Parse.{AllDigits, digits_value}
 use Rattle.std.proofs.lemmas.Bool.{cases_lt}
 use Rattle.std.proofs.lemmas.Bool.Decides.{nat_tests}
-use Rattle.std.proofs.lemmas.List.{take_at, drop_at}
-use Rattle.std.proofs.lemmas.Fmt.{decimal_is_IsNumeral, decimal_injective, decimal-digits_value, decimal_digit, first_decimal}
-use Rattle.std.proofs.lemmas.Str.{digit_value_digit}
-use Rattle.std.proofs.lemmas.Str.Parse.{digit_from_value, digits_value-take-le, IsNumeralModel, numerals_by_value, tells_digits}
-use Rattle.std.proofs.lemmas.Int.Digits.{digits_value_more}
+use Rattle.std.proofs.lemmas.List.{take_at, drop_at, length-take-le, take-append-drop}
+use Rattle.std.proofs.lemmas.Fmt.{decimal_is_IsNumeral, decimal_injective, decimal-digits_value, decimal_digit, first_decimal, length-decimal-le}
+use Rattle.std.proofs.lemmas.Str.Parse.{digit_from_value, digits_value_short, IsNumeralModel, numerals_by_value, tells_digits}
 use Rattle.fa_order.specs.parts.Digits.{LacksDigit}
 
 -- ---- the digits at the front of bytes
@@ -18,7 +16,7 @@ use Rattle.fa_order.specs.parts.Digits.{LacksDigit}
 digit_true : (c : ℕ) → 48 ≤ c → c ≤ 57 → is_ascii_digit c ≡ true
 digit_true c low high = grind (arith, nat_tests)
 
-digit_from_true : (c : ℕ) → is_ascii_digit c ≡ true → (48 ≤ c) × (c ≤ 57)
+pub digit_from_true : (c : ℕ) → is_ascii_digit c ≡ true → (48 ≤ c) × (c ≤ 57)
 digit_from_true c e = grind (arith, nat_tests)
 
 digit_from_false : (c : ℕ) → is_ascii_digit c ≡ false → 48 ≤ c → c ≤ 57 → ⊥
@@ -31,27 +29,12 @@ digit_false_at false c e lacks = refl
 digit_false : (c : ℕ) → (48 ≤ c → c ≤ 57 → ⊥) → is_ascii_digit c ≡ false
 digit_false c lacks = digit_false_at (is_ascii_digit c) c refl lacks
 
-front_step : (b : Bool) (c n : ℕ) (s : List ℕ) → is_ascii_digit c ≡ b → AllDigits 10 (take n s) → AllDigits 10 (take (cond b (1 + n) 0) (c ∷ s))
-front_step true c n s e later =
-    let both = digit_from_true c e in
-    let value : digit_value c + 48 ≡ c = digit_value_digit c both in
-    let more : 1 + n ≡ suc n = omega arith in
-    rw more (omega (arith, value, both.1), later)
-front_step false c n s e later = tt
-
--- those that are counted are digits
-pub front_digits : (s : List ℕ) → AllDigits 10 (take (prefix_len is_ascii_digit s) s)
-front_digits [] = tt
-front_digits (c ∷ s) = front_step (is_ascii_digit c) c (prefix_len is_ascii_digit s) s refl (front_digits s)
-
-behind_step : (b : Bool) (c n : ℕ) (s : List ℕ) → is_ascii_digit c ≡ b → LacksDigit (drop n s) → LacksDigit (drop (cond b (1 + n) 0) (c ∷ s))
-behind_step true c n s e later = let more : 1 + n ≡ suc n = omega arith in rw more later
-behind_step false c n s e later = digit_from_false c e
-
--- and what stands behind them begins with none
-pub behind_digits : (s : List ℕ) → LacksDigit (drop (prefix_len is_ascii_digit s) s)
-behind_digits [] = tt
-behind_digits (c ∷ s) = behind_step (is_ascii_digit c) c (prefix_len is_ascii_digit s) s refl (behind_digits s)
+-- what stands from a place where no digit is, or from the end
+lacks_from : (s : List ℕ) (k : ℕ) → (k < length s → is_ascii_digit (get_or s k 0) ≡ false) → LacksDigit (drop k s)
+lacks_from [] zero other = tt
+lacks_from [] (suc k) other = tt
+lacks_from (c ∷ s) zero other = digit_from_false c (other (omega arith))
+lacks_from (c ∷ s) (suc k) other = lacks_from s k (λ inside. other (omega (arith, inside)))
 
 no_run : (rest : List ℕ) → LacksDigit rest → prefix_len is_ascii_digit rest ≡ 0
 no_run [] lacks = refl
@@ -71,12 +54,19 @@ decimal_digits : (n : ℕ) → n < 2 ^ 32 → AllDigits 10 (decimal n)
 decimal_digits n fits = (decimal_is_IsNumeral n (omega arith)).0.1
 
 -- the front of bytes that begin with a decimal, up to the first that is no digit
-pub front_is_decimal : (s rest : List ℕ) (n : ℕ) → n < 2 ^ 32 → LacksDigit rest → s ≡ decimal n ++ rest → (take (prefix_len is_ascii_digit s) s ≡ decimal n) × (drop (prefix_len is_ascii_digit s) s ≡ rest)
+front_is_decimal : (s rest : List ℕ) (n : ℕ) → n < 2 ^ 32 → LacksDigit rest → s ≡ decimal n ++ rest → (take (prefix_len is_ascii_digit s) s ≡ decimal n) × (drop (prefix_len is_ascii_digit s) s ≡ rest)
 front_is_decimal s rest n fits lacks e =
     let count : prefix_len is_ascii_digit s ≡ length (decimal n) = ap (prefix_len is_ascii_digit) e ∙ run_of (decimal n) rest (decimal_digits n fits) lacks in (
       ap (λ (k : ℕ). take k s) count ∙ ap (take (length (decimal n))) e ∙ take_at (decimal n) rest (length (decimal n)) refl,
       ap (λ (k : ℕ). drop k s) count ∙ ap (drop (length (decimal n))) e ∙ drop_at (decimal n) rest (length (decimal n)) refl,
     )
+
+-- and so for the digits before a place where no digit is
+pub digits_are_decimal : (s rest : List ℕ) (k n : ℕ) → k ≤ length s → AllDigits 10 (take k s) → (k < length s → is_ascii_digit (get_or s k 0) ≡ false) → n < 2 ^ 32 → LacksDigit rest → s ≡ decimal n ++ rest → take k s ≡ decimal n
+digits_are_decimal s rest k n within digits other fits lacks e =
+    let count : prefix_len is_ascii_digit s ≡ k =
+    ap (prefix_len is_ascii_digit) (sym (take-append-drop k s)) ∙ run_of (take k s) (drop k s) digits (lacks_from s k other) ∙ length-take-le k s within in
+    ap (λ (j : ℕ). take j s) (sym count) ∙ (front_is_decimal s rest n fits lacks e).0
 
 front_digit : (ds rest : List ℕ) → 0 < length ds → AllDigits 10 ds → LacksDigit (ds ++ rest) → ⊥
 front_digit [] rest some digits lacks = omega (arith, some)
@@ -100,29 +90,27 @@ no_decimal n s rest fits lacks e =
 own : IsNumeralModel (AllDigits 10) (digits_value 10)
 own = numerals_by_value (AllDigits 10) tells_digits
 
--- each of them is a digit
-pub digit_at : (ds : List ℕ) (i : ℕ) → AllDigits 10 ds → i < length ds → (48 ≤ get_or ds i 0) × (get_or ds i 0 ≤ 57)
-digit_at [] i digits inside = omega (arith, inside)
-digit_at (c ∷ ds) zero digits inside = digit_from_value c digits.0
-digit_at (c ∷ ds) (suc i) digits inside = digit_at ds i digits.1 (omega (arith, inside))
+-- the number that a decimal prints
+pub value_of : (n : ℕ) → n < 2 ^ 32 → digits_value 10 (decimal n) ≡ n
+value_of n fits = (decimal_is_IsNumeral n (omega arith)).1
 
--- those that are read first print no more than all of them
-pub front_fits : (ds : List ℕ) (n i : ℕ) → n < 2 ^ 32 → i < length ds → ds ≡ decimal n → digits_value 10 (take i ds) * 10 + digit_value (get_or ds i 0) ≤ n
-front_fits ds n i fits inside e =
-    let value : digits_value 10 ds ≡ n = ap (digits_value 10) e ∙ (decimal_is_IsNumeral n (omega arith)).1 in
-    omega (arith, digits_value_more 10 ds i inside, digits_value-take-le 10 ds (i + 1) (omega arith), value)
+-- digits that are not too many print so small a number
+pub digits_fit : (ds : List ℕ) (k : ℕ) → AllDigits 10 ds → length ds ≤ k → digits_value 10 ds < 10 ^ k
+digits_fit ds k digits short = digits_value_short own ds k digits short
 
 -- digits with no leading zero print their number
 pub number_prints : (ds : List ℕ) → AllDigits 10 ds → 0 < length ds → (get_or ds 0 0 ≡ 48 → length ds ≤ 1) → digits_value 10 ds < 2 ^ 32 → ds ≡ decimal (digits_value 10 ds)
 number_prints ds digits some no_zero fits = sym (decimal-digits_value own ds digits some (λ z. let short = no_zero z in omega arith) (omega arith))
 
--- no digits print no number
-pub none_prints : (ds : List ℕ) (n : ℕ) → n < 2 ^ 32 → length ds ≡ 0 → ds ≡ decimal n → ⊥
-none_prints ds n fits none e =
-    let some : 0 < length (decimal n) = (decimal_is_IsNumeral n (omega arith)).0.0 in
-    let same : length ds ≡ length (decimal n) = ap length e in omega arith
+-- the digits of a number, how many they are
+pub count_prints : (ds : List ℕ) (n : ℕ) → n < 2 ^ 32 → ds ≡ decimal n → (0 < length ds) × (length ds ≤ 10)
+count_prints ds n fits e =
+    let same : length ds ≡ length (decimal n) = ap length e in (
+      omega (arith, same, (decimal_is_IsNumeral n (omega arith)).0.0),
+      omega (arith, same, length-decimal-le 10 n (omega arith) (omega (arith, fits)) (omega (arith, fits))),
+    )
 
--- nor do digits with a leading zero
+-- digits with a leading zero print no number
 pub zero_first_prints : (ds : List ℕ) (n : ℕ) → n < 2 ^ 32 → 1 < length ds → get_or ds 0 0 ≡ 48 → ds ≡ decimal n → ⊥
 zero_first_prints ds n fits long lead e =
     elim (cases_lt 0 n) [

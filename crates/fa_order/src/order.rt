@@ -24,34 +24,8 @@ use std::alloc::{AllocError, Global};
 const FIRST_LINE: &[u8; 13] = b"fuse-order 1\n";
 /// What stands between the number of a message and how many bytes it wrote.
 const WROTE: &[u8; 3] = b" w ";
-
-/// The number that the digits print, where they have no leading zero and it is at most `u32::MAX`.
-fn number_of(digits: &[u8]) -> Option<u32>
-    requires { AllDigits 10 digits.now }
-    ensures found { IfSome result (λ n. digits.now ≡ decimal n) }
-    ensures none { IfNone result ((n : ℕ) → n < 2 ^ 32 → digits.now ≡ decimal n → ⊥) }
-{
-    if digits.is_empty() {
-        return None;
-    }
-    if digits.len() > 1 && digits[0] == b'0' {
-        return None;
-    }
-    let mut number: u32 = 0;
-    for digit in digits {
-        number = number
-            .checked_mul(10)?
-            .checked_add(u32::from(*digit - b'0'))?;
-    }
-    Some(number)
-}
-
-/// How many digits stand at the front.
-fn digit_count(left: &[u8]) -> usize
-    ensures { result ≡ prefix_len is_ascii_digit left.now }
-{
-    left.iter().take_while(|byte| byte.is_ascii_digit()).count()
-}
+/// How many digits a decimal has at most: so many fit in 64 bits, whichever they are.
+const MAX_DIGITS: usize = 10;
 
 /// The decimal at the front, up to the first byte that is no digit, and what stands behind it.
 fn read_decimal(left: &[u8]) -> Option<(u32, &[u8])>
@@ -61,8 +35,21 @@ fn read_decimal(left: &[u8]) -> Option<(u32, &[u8])>
     ensures none { IfNone result ((n : ℕ) (rest : List ℕ) → n < 2 ^ 32 → LacksDigit rest
         → left.now ≡ decimal n ++ rest → ⊥) }
 {
-    let (digits, rest) = left.split_at(digit_count(left));
-    Some((number_of(digits)?, rest))
+    let mut number: u64 = 0;
+    let mut count: usize = 0;
+    for byte in left {
+        if !byte.is_ascii_digit() {
+            break;
+        }
+        number = number
+            .wrapping_mul(10)
+            .wrapping_add(u64::from(*byte - b'0'));
+        count += 1;
+    }
+    if count == 0 || count > MAX_DIGITS || (count > 1 && left[0] == b'0') {
+        return None;
+    }
+    Some((u32::try_from(number).ok()?, &left[count..]))
 }
 
 /// What a line says of the bytes written, read behind the number of its message, and what stands behind
