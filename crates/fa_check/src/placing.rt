@@ -169,10 +169,15 @@ impl Placing {
     }
 
     /// The least message number of an answered call that is not placed.
+    ///
+    /// Takes no memory. Constant time where no answer waits, as after a legal order; linear in the calls otherwise.
     fn least_left(&self, calls: &Calls<'_>) -> Option<u32>
         requires { IsPlacing calls.now.list calls.now.messages self.now }
         ensures { IsLeastLeft calls.now.list self.now.marks.items result }
     {
+        if self.waiting.is_empty() {
+            return None;
+        }
         for place in 0..calls.list.len() {
             let call = calls.list.call(place);
             if call.answer.is_some() && !self.marks[place] {

@@ -1,7 +1,7 @@
 //! Which answers wait for an entry that places their requests.
 
-ghost use Rattle.std.specs.Prelude.{◌≡◌, ◌<◌, ◌^◌, false, length, set, position, IfOk};
-ghost use Rattle.fa_check.specs.Marks.{AreUnset, IsFirstSet};
+ghost use Rattle.std.specs.Prelude.{◌≡◌, ◌↔◌, ℕ, ◌<◌, ◌^◌, false, length, set, position, IsTrue, IfOk};
+ghost use Rattle.fa_check.specs.Marks.{AreUnset, IsFirstSet, IsSet};
 ghost use Rattle.fa_check.specs.parts.Placing.{AreAnswers};
 
 use fa_ledger::Calls;
@@ -27,6 +27,14 @@ impl UnplacedAnswers {
         let answers = answers_of(alloc, calls)?;
         let front = first_set(&answers);
         Ok(UnplacedAnswers { answers, front })
+    }
+
+    /// Whether none waits.
+    pub fn is_empty(&self) -> bool
+        requires { IsFirstSet self.now.answers.items self.now.front }
+        ensures { IsTrue result ↔ ((at : ℕ) → IsSet self.now.answers.items at → ⊥) }
+    {
+        self.front == self.answers.len()
     }
 
     /// Takes an answer away, since its request is placed.

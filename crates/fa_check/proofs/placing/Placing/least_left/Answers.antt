@@ -11,6 +11,9 @@ use Rattle.fa_check.proofs.EndLemmas.{none_left_more, none_left, first_left}
 use Rattle.fa_check.proofs.placing.Placing.least_left.Goals as goal
 use Rattle.fa_check.proofs.placing.Placing.least_left.Goals.{else-is_some-via-then-is_some+else-not-index, else-is_some-via-else-is_some}
 
+pub returns-then-is_empty : goal.returns-then-is_empty
+returns-then-is_empty c = λ q waits. c.is_empty.ensures.0 c.if-is_empty.true q ((c.requires.waiting q).1 waits)
+
 pub returns-then-not-index : goal.returns-then-not-index
 returns-then-not-index c =
     let list = c.args.calls.now.list in
