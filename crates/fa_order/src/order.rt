@@ -60,10 +60,10 @@ fn read_line_end(left: &[u8]) -> Option<(Option<u32>, &[u8])>
     ensures none { IfNone result ((wrote : Option ℕ) → IsCount wrote
         → LacksLine left.now (line_end wrote)) }
 {
-    let Some(count) = left.strip_prefix(WROTE.as_slice()) else {
-        return Some((None, left.strip_prefix(LINE_FEED.as_slice())?));
-    };
-    let (count, rest) = read_decimal(count)?;
+    if let Some(rest) = left.strip_prefix(LINE_FEED.as_slice()) {
+        return Some((None, rest));
+    }
+    let (count, rest) = read_decimal(left.strip_prefix(WROTE.as_slice())?)?;
     Some((Some(count), rest.strip_prefix(LINE_FEED.as_slice())?))
 }
 
