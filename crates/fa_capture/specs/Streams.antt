@@ -16,6 +16,12 @@ is_interrupted (Got n) = false
 is_interrupted Interrupted = true
 is_interrupted Failed = false
 
+-- how many bytes it put
+abbrev pub pulled_count : Pull → ℕ
+pulled_count (Got n) = n
+pulled_count Interrupted = 0
+pulled_count Failed = 0
+
 -- no more bytes were put than there is room for
 abbrev pub IsWithin : Pull → List ℕ → Type 0
 IsWithin (Got n) into = n ≤ length into
@@ -27,3 +33,9 @@ abbrev pub Pulls : Option (List ℕ) → Option (List ℕ) → Pull → List ℕ
 Pulls old new (Got n) into = Consumes old new (take n into) × (n ≡ 0 → 0 < length into → IsAtEnd new)
 Pulls old new Interrupted into = Keeps old new
 Pulls old new Failed into = Keeps old new
+
+-- A pull gave these bytes, where there was room: none only at the end, or where it was interrupted or failed.
+pub record PullsPiece (old new : Option (List ℕ)) (pull : Pull) (piece : List ℕ) : Type 0 where
+  pub taken : Consumes old new piece
+  pub counted : length piece ≡ pulled_count pull
+  pub end : pull ≡ Got 0 → IsAtEnd new

@@ -1,17 +1,20 @@
 //! A capture that comes in pieces.
 
-ghost use Rattle.std.specs.Prelude.{◌≡◌, ◌+◌, ◌<◌, ◌++◌, ℕ, List, [], length, Some, None, Err, OnOk, OnErr, IsErrOf, IfSome, IsNone, IsTrue, IsFalse};
+ghost use Rattle.std.specs.Prelude.{◌≡◌, ◌+◌, ◌<◌, ◌≤◌, ◌++◌, ℕ, List, [], All, length, Some, None, Err, OnOk, OnErr, IsErrOf, IfOk, IfSome, IsNone, IsTrue, IsFalse, ◌||◌};
 ghost use Rattle.fa_capture.specs.Captures.{IsCaptureOf};
 ghost use Rattle.fa_capture.specs.Reading.{HasMagic};
 ghost use Rattle.fa_capture.specs.Pieces.{IsDecided, IsOpen, IsToldOf};
+ghost use Rattle.fa_capture.specs.Streams.{is_failed, is_interrupted, PullsPiece};
+ghost use Rattle.std.specs.Io.KnownBytes.{Consumes};
 ghost use Rattle.fa_capture.specs.parts.Walks.{IsReadTo, IsReadOn, IsMagicBegun};
 ghost use Rattle.fa_capture.specs.declared.fault.CaptureFault.{CaptureFault};
-ghost use Rattle.fa_capture.specs.declared.input.TheConstants.{MAX_READ_LIMIT};
+ghost use Rattle.fa_capture.specs.declared.input.TheConstants.{MAX_READ_LIMIT, PIECE};
 
 use crate::capture::Capture;
 use crate::codes;
 use crate::fault::CaptureFault;
 use crate::format::Format;
+use crate::input::{Input, PIECE, Pull};
 use crate::reading::NO_MAGIC_FAULT;
 use crate::walk::{Stop, Walk};
 use std::alloc::{AllocError, Global};
@@ -20,6 +23,9 @@ use thiserror::Error;
 
 /// The room for the bytes grows by one of so many parts of them at a time, so that little of it stays empty.
 const PARTS: usize = 32;
+
+/// How many bytes a pull asks for at least.
+const LEAST_PIECE: usize = 4096;
 
 /// Why a piece is answered by an error.
 #[derive(Clone, Copy, Debug, PartialEq, Eq, Hash, Error)]
@@ -55,6 +61,8 @@ pub struct Feed {
     stop: Option<Stop>,
     /// The fault that was told.
     told: Option<CaptureFault>,
+    /// How many bytes the last pull gave.
+    gave: usize,
 }
 
 impl Model for Feed {
@@ -79,6 +87,7 @@ impl Feed {
             bytes: Vec::new(alloc),
             stop: None,
             told: None,
+            gave: 0,
         }
     }
 
@@ -128,6 +137,59 @@ impl Feed {
         }
     }
 
+    /// Takes the bytes that one pull of an input gives as the next piece: at most [`PIECE`], which the input puts where they are kept.
+    ///
+    /// An interrupted pull and one that fails are told, and leave the feed as it was. Once a fault was told nothing is pulled.
+    ///
+    /// # Errors
+    ///
+    /// - [`FeedError::Fault`] as at [`feed`](Feed::feed) of these bytes, which are taken; and again at each call behind that.
+    /// - [`FeedError::Memory`] where memory was refused. Nothing was pulled, and the call may be made again.
+    ///
+    /// # Cost
+    ///
+    /// That of the pull. It asks for twice as many bytes as the one before gave, at least 4,096, and time is linear in these. Memory as at
+    /// [`feed`](Feed::feed), with room for them behind the bytes that were taken.
+    pub fn pull_from<R: Input>(&mut self, input: &mut R) -> Result<Pull, FeedError>
+        // A fault that was told is told again, and nothing is pulled.
+        ensures again { (fault : CaptureFault) → self.old.told ≡ Some fault → result ≡ Err (FeedError.Fault fault) }
+        ensures kept { (fault : CaptureFault) → self.old.told ≡ Some fault → (self.new ≡ self.old) × (input.new ≡ input.old) }
+
+        // Otherwise what was pulled is taken, and a fault is told where it is decided.
+        ensures taken { IfOk result (λ pull. (piece : List ℕ) × PullsPiece (R.remaining input.old) (R.remaining input.new) pull piece
+            × (self.new ≡ record { bytes = self.old.bytes ++ piece; told = None })) }
+        ensures open { OnOk result (IsOpen self.new.bytes) }
+        ensures short { OnOk result (length self.new.bytes < MAX_READ_LIMIT + 65536) }
+        ensures fault { (fault : CaptureFault) → self.old.told ≡ None → result ≡ Err (FeedError.Fault fault) →
+            (piece : List ℕ) × Consumes (R.remaining input.old) (R.remaining input.new) piece
+            × (self.new ≡ record { bytes = self.old.bytes ++ piece; told = Some fault }) }
+        ensures decided { (fault : CaptureFault) → self.old.told ≡ None → result ≡ Err (FeedError.Fault fault) →
+            IsDecided self.new.bytes fault }
+
+        // Or nothing was pulled.
+        ensures memory { IsErrOf result FeedError.Memory → (self.new ≡ self.old) × (input.new ≡ input.old) }
+
+        // The marks of the input are those of the pull.
+        ensures failed { IfOk result (λ pull. R.has_failed input.new ≡ R.has_failed input.old || is_failed pull) }
+        ensures interrupted { IfOk result (λ pull. R.was_interrupted input.new ≡ R.was_interrupted input.old || is_interrupted pull) }
+        ensures unmarked { OnErr result ((R.has_failed input.new ≡ R.has_failed input.old) × (R.was_interrupted input.new ≡ R.was_interrupted input.old)) }
+    {
+        if let Some(fault) = self.told {
+            return Err(FeedError::Fault(fault));
+        }
+        let pull = pull_in(&mut self.bytes, input, next_ask(self.gave))?;
+        let Pull::Got(count) = pull else {
+            return Ok(pull);
+        };
+        self.gave = count;
+        self.stop = read_on(&self.bytes, self.stop);
+        self.told = decided_fault(&self.bytes, self.stop);
+        if let Some(fault) = self.told {
+            return Err(FeedError::Fault(fault));
+        }
+        Ok(pull)
+    }
+
     /// The pieces that were taken, joined.
     ///
     /// Takes no memory, in constant time.
@@ -175,15 +237,50 @@ impl Stored {
     }
 }
 
-/// Takes a piece behind the bytes. Their room grows by a thirty-second part, so that little of it stays empty.
+/// Takes a piece behind the bytes.
 fn take_in(bytes: &mut Vec<u8>, piece: &[u8]) -> Result<(), AllocError>
     ensures taken { OnOk result (bytes.new.items ≡ bytes.old.items ++ piece.now) }
     ensures unchanged { OnErr result (bytes.new.items ≡ bytes.old.items) }
 {
-    if bytes.capacity() - bytes.len() < piece.len() {
-        bytes.reserve_exact(piece.len().max(bytes.len() / PARTS))?;
-    }
+    make_room(bytes, piece.len())?;
     bytes.extend_from_slice(piece)
+}
+
+/// How many bytes a pull asks for, where the one before gave so many: twice as many, but at least [`LEAST_PIECE`] and at most [`PIECE`].
+fn next_ask(gave: usize) -> usize
+    ensures some { 0 < result }
+    ensures most { result ≤ PIECE }
+{
+    gave.saturating_mul(2).max(LEAST_PIECE).min(PIECE)
+}
+
+/// Takes what one pull of an input gives behind the bytes, at most so many.
+fn pull_in<R: Input>(bytes: &mut Vec<u8>, input: &mut R, most: usize) -> Result<Pull, AllocError>
+    requires some { 0 < most }
+    requires most { most ≤ PIECE }
+    ensures taken { IfOk result (λ pull. (piece : List ℕ) × PullsPiece (R.remaining input.old) (R.remaining input.new) pull piece
+        × (bytes.new.items ≡ bytes.old.items ++ piece)) }
+    ensures bytes { OnOk result (All (λ byte. byte < 256) bytes.new.items) }
+    ensures unchanged { OnErr result ((bytes.new.items ≡ bytes.old.items) × (input.new ≡ input.old)) }
+    ensures failed { IfOk result (λ pull. R.has_failed input.new ≡ R.has_failed input.old || is_failed pull) }
+    ensures interrupted { IfOk result (λ pull. R.was_interrupted input.new ≡ R.was_interrupted input.old || is_interrupted pull) }
+{
+    make_room(bytes, most)?;
+    let len = bytes.len();
+    bytes.resize(len + most, 0)?;
+    let pull = input.pull(&mut bytes[len..]);
+    bytes.truncate(len + pull.count());
+    Ok(pull)
+}
+
+/// Makes room for so many bytes behind those that are there. It grows by a thirty-second part, so that little of it stays empty.
+fn make_room(bytes: &mut Vec<u8>, count: usize) -> Result<(), AllocError>
+    ensures { bytes.new.items ≡ bytes.old.items }
+{
+    if bytes.capacity() - bytes.len() < count {
+        bytes.reserve_exact(count.max(bytes.len() / PARTS))?;
+    }
+    Ok(())
 }
 
 /// Where the walk over these bytes stops; `before` is where it stopped before the last of them came.

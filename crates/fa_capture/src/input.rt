@@ -2,7 +2,7 @@
 
 ghost use Rattle.std.specs.Prelude.{◌≡◌, ◌≤◌, ◌<◌, ◌↔◌, ◌||◌, ℕ, Bool, true, false, List, length, vec_len, Option, None, IfOk, IfSome, OnOk, IsErrOf};
 ghost use Rattle.std.specs.Io.KnownBytes.{IsAtEnd};
-ghost use Rattle.fa_capture.specs.Streams.{is_failed, is_interrupted, IsWithin, Pulls};
+ghost use Rattle.fa_capture.specs.Streams.{is_failed, is_interrupted, pulled_count, IsWithin, Pulls};
 ghost use Rattle.fa_capture.specs.declared.input.TheConstants.{MAX_READ_LIMIT};
 
 use std::alloc::{AllocError, Global};
@@ -17,6 +17,18 @@ pub enum Pull {
     Interrupted,
     /// The pull failed, and took no bytes.
     Failed,
+}
+
+impl Pull {
+    /// How many bytes it gave.
+    pub(crate) fn count(self) -> usize
+        ensures { result ≡ pulled_count self }
+    {
+        match self {
+            Pull::Got(count) => count,
+            Pull::Interrupted | Pull::Failed => 0,
+        }
+    }
 }
 
 /// A source of bytes that remembers whether it failed and whether it was interrupted.
