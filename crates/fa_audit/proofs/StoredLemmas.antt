@@ -1,7 +1,7 @@
 -- A capture that an input holds: what the loop keeps that feeds it in pieces, and what it comes to.
-use Rattle.std.proofs.Common.{◌≡◌, ℕ, ◌+◌, ◌<◌, ◌≤◌, Bool, true, false, List, ◌++◌, length, Option, None, Some, IfSome, refl, sym, ap, subst, ◌∙◌, arith}
+use Rattle.std.proofs.Common.{◌≡◌, ◌≢◌, ℕ, zero, suc, ◌+◌, ◌<◌, ◌≤◌, Bool, false, List, ◌++◌, length, Option, None, Some, IfSome, refl, sym, ap, subst, ◌∙◌, arith}
 use Rattle.std.specs.Prelude.{◌||◌}
-use Rattle.std.specs.Io.KnownBytes.{Consumes, Keeps, IsAtEnd}
+use Rattle.std.specs.Io.KnownBytes.{Consumes, IsAtEnd}
 use Rattle.std.proofs.Math.Bool.{or-false, or-true}
 use Rattle.std.proofs.lemmas.Bool.{true≢false}
 use Rattle.std.proofs.lemmas.List.{append-nil, length-append}
@@ -10,8 +10,11 @@ use Rattle.fa_capture.specs.declared.fault.CaptureFault.{CaptureFault}
 use Rattle.fa_capture.specs.declared.input.TheConstants.{MAX_READ_LIMIT}
 use Rattle.fa_capture.specs.Captures.{IsCaptureOf}
 use Rattle.fa_capture.specs.Pieces.{IsDecided, PlainFeed}
+use Rattle.fa_capture.specs.Streams.{is_failed, is_interrupted, pulled_count, PullsPiece}
+use Rattle.fa_capture.specs.declared.input.Pull.{Pull}
+use Rattle.fa_capture.specs.declared.input.Pull.TheVariants.{Got, Interrupted, Failed}
 use Rattle.fa_capture.proofs.CallerLemmas.{decided_capture}
-use Rattle.fa_watch.proofs.CallerLemmas.{consumes_more, consumes_none}
+use Rattle.fa_watch.proofs.CallerLemmas.{consumes_more}
 use Rattle.fa_audit.specs.Run.{AreBytesOf}
 
 -- ---- the loop
@@ -30,32 +33,33 @@ pub taken_more : (old mid new : Option (List ℕ)) (feed fed : PlainFeed) (more 
 taken_more old mid new feed fed more told taken next is =
     subst (λ (f : PlainFeed). Consumes old new f.bytes) (sym is) (consumes_more old mid new feed.bytes more taken next)
 
--- a piece more
-pub fed_more : (old mid new : Option (List ℕ)) (feed fed : PlainFeed) (more : List ℕ) (failed failed_then interrupted interrupted_then : Bool) (pulls : ℕ)
-    → IsFedSoFar old mid feed failed interrupted pulls → Consumes mid new more → 0 < length more → fed ≡ record { bytes = feed.bytes ++ more; told = None }
-    → length fed.bytes < MAX_READ_LIMIT + 65536 → failed_then ≡ (failed || false) → interrupted_then ≡ (interrupted || false) → IsFedSoFar old new fed failed_then interrupted_then (pulls + 1)
-fed_more old mid new feed fed more failed failed_then interrupted interrupted_then pulls so_far next some is few failed_is interrupted_is =
-    let bytes : fed.bytes ≡ feed.bytes ++ more = ap (λ (f : PlainFeed). f.bytes) is in
-    let long : length fed.bytes ≡ length feed.bytes + length more = ap length bytes ∙ length-append feed.bytes more in
+-- a pull more, which did not fail and was not the end
+pub fed_more : (old mid new : Option (List ℕ)) (feed fed : PlainFeed) (pull : Pull) (piece : List ℕ) (failed failed_then interrupted interrupted_then : Bool) (pulls : ℕ)
+    → IsFedSoFar old mid feed failed interrupted pulls → PullsPiece mid new pull piece → fed ≡ record { bytes = feed.bytes ++ piece; told = None }
+    → length fed.bytes < MAX_READ_LIMIT + 65536 → pull ≢ Got 0 → pull ≢ Failed → failed_then ≡ (failed || is_failed pull) → interrupted_then ≡ (interrupted || is_interrupted pull)
+    → IsFedSoFar old new fed failed_then interrupted_then (pulls + 1)
+fed_more old mid new feed fed pull piece failed failed_then interrupted interrupted_then pulls so_far pulled is few some well failed_is interrupted_is =
+    let bytes : fed.bytes ≡ feed.bytes ++ piece = ap (λ (f : PlainFeed). f.bytes) is in
+    let long : length fed.bytes ≡ length feed.bytes + length piece = ap length bytes ∙ length-append feed.bytes piece in
     record {
-      taken = taken_more old mid new feed fed more None so_far.taken next is;
+      taken = taken_more old mid new feed fed piece None so_far.taken pulled.taken is;
       untold = ap (λ (f : PlainFeed). f.told) is;
       short = few;
-      unfailed = failed_is ∙ or-false failed ∙ so_far.unfailed;
-      counted = λ calm. let pulled = so_far.counted (sym (interrupted_is ∙ or-false interrupted) ∙ calm) in omega (arith, pulled, long, some);
+      unfailed = failed_is ∙ ap (λ (b : Bool). failed || b) (unfailed pull well) ∙ or-false failed ∙ so_far.unfailed;
+      counted = λ calm. counted pull pulled.counted some well (sym interrupted_is ∙ calm) so_far.counted long;
     }
+  where
+    unfailed : (pull : Pull) → pull ≢ Failed → is_failed pull ≡ false
+    unfailed (Got n) well = refl
+    unfailed Interrupted well = refl
+    unfailed Failed well = absurd (well refl)
 
--- an interrupted pull
-pub interrupted_now : (old mid new : Option (List ℕ)) (feed : PlainFeed) (failed failed_then interrupted interrupted_then : Bool) (pulls : ℕ)
-    → IsFedSoFar old mid feed failed interrupted pulls → Keeps mid new → failed_then ≡ (failed || false) → interrupted_then ≡ (interrupted || true)
-    → IsFedSoFar old new feed failed_then interrupted_then (pulls + 1)
-interrupted_now old mid new feed failed failed_then interrupted interrupted_then pulls so_far kept failed_is interrupted_is = record {
-  taken = consumes_none old mid new feed.bytes so_far.taken kept;
-  untold = so_far.untold;
-  short = so_far.short;
-  unfailed = failed_is ∙ or-false failed ∙ so_far.unfailed;
-  counted = λ calm. absurd (true≢false (sym (interrupted_is ∙ or-true interrupted) ∙ calm));
-}
+    counted : (pull : Pull) → length piece ≡ pulled_count pull → pull ≢ Got 0 → pull ≢ Failed → (interrupted || is_interrupted pull) ≡ false → (interrupted ≡ false → pulls ≤ length feed.bytes)
+        → length fed.bytes ≡ length feed.bytes + length piece → pulls + 1 ≤ length fed.bytes
+    counted (Got zero) one some well calm before long = absurd (some refl)
+    counted (Got (suc n)) one some well calm before long = let pulled = before (sym (or-false interrupted) ∙ calm) in omega (arith, pulled, long, one)
+    counted Interrupted one some well calm before long = absurd (true≢false (sym (or-true interrupted) ∙ calm))
+    counted Failed one some well calm before long = absurd (well refl)
 
 -- ---- what is stored
 

@@ -15,8 +15,7 @@ use crate::line::{order_fault_text, tree_fault_text, verdict_text};
 use crate::status::Status;
 use crate::verdict::AuditError;
 use fa_capture::{
-    Broken, Feed, FeedError, Input, Output, PIECE, Pull, ReadError, SPARE_PULLS, Seed, Stored,
-    read_all,
+    Broken, Feed, FeedError, Input, Output, Pull, ReadError, SPARE_PULLS, Seed, Stored, read_all,
 };
 use fa_check::Verdict;
 use std::alloc::{AllocError, AllocFailed, Global};
@@ -149,7 +148,7 @@ pub fn input_bytes<R: Input>(
 ///
 /// # Cost
 ///
-/// Each pull asks for 65,536 bytes, and each piece is fed as [`Feed::feed`] says.
+/// That of [`Feed::pull_from`] for each pull.
 pub(crate) fn stored_capture<R: Input>(alloc: Global, input: &mut R) -> Result<Stored, RunFault>
     requires unfailed { R.has_failed input.old ≡ false }
     requires uninterrupted { R.was_interrupted input.old ≡ false }
@@ -161,17 +160,17 @@ pub(crate) fn stored_capture<R: Input>(alloc: Global, input: &mut R) -> Result<S
     ensures write { IsErrOf result RunFault.Write → ⊥ }
 {
     let mut feed = Feed::new(alloc);
-    let mut piece = [0; PIECE];
     for _ in 0..MAX_PULLS {
-        match input.pull(&mut piece) {
-            Pull::Got(0) => return Ok(feed.finish()),
-            Pull::Got(count) => match feed.feed(&piece[..count]) {
-                Ok(()) => {}
-                Err(FeedError::Fault(_)) => return Ok(feed.finish()),
-                Err(FeedError::Memory) => return Err(RunFault::Memory),
-            },
-            Pull::Interrupted => {}
-            Pull::Failed => return Err(RunFault::Read),
+        let pull = match feed.pull_from(input) {
+            Ok(pull) => pull,
+            Err(FeedError::Fault(_)) => return Ok(feed.finish()),
+            Err(FeedError::Memory) => return Err(RunFault::Memory),
+        };
+        if pull == Pull::Failed {
+            return Err(RunFault::Read);
+        }
+        if pull == Pull::Got(0) {
+            return Ok(feed.finish());
         }
     }
     Err(RunFault::Read)
@@ -329,8 +328,8 @@ fn run_on_tree<R: Input, W: Output>(
 ///
 /// # Cost
 ///
-/// That of [`Feed::feed`] for pieces of at most 65,536 bytes of the capture, of [`read_all`] for each text, and of [`audit_capture`]:
-/// the capture takes memory for its bytes and a thirty-second part more.
+/// That of [`Feed::pull_from`] for each pull of the capture, of [`read_all`] for each text, and of [`audit_capture`]: the capture takes
+/// memory for its bytes and a thirty-second part more.
 pub fn run<R: Input, W: Output>(
     alloc: Global,
     seed: Seed,
