@@ -44,6 +44,7 @@ pub(crate) fn request_body(opcode: u32, body: &[u8]) -> Result<RequestBody<'_>, 
 }
 
 /// The body of a request with this opcode, if the bytes are one.
+// It is inlined, and so is each reader of a body: one call of a function that is not would keep the body in memory for all of them.
 #[inline(always)]
 fn body_of(opcode: u32, body: &[u8]) -> Option<RequestBody<'_>>
     ensures found { IfSome result (λ b. IsRequestBody opcode body.now (body_shown b)) }

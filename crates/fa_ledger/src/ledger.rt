@@ -109,7 +109,7 @@ impl<'a> Ledger<'a> {
     }
 
     /// The place that the next tree request has among the calls: how many there are. Where the session has it for a tag before each
-    /// message ([`Session::set_tag`](fa_session::Session::set_tag)), the answer to each tree request tells at which place its call
+    /// message to the server ([`Session::set_tag`](fa_session::Session::set_tag)), the answer to each tree request tells at which place its call
     /// stands.
     ///
     /// Takes no memory, in constant time.

@@ -119,9 +119,9 @@ impl<'a> Session<'a> {
     /// # Cost
     ///
     /// Expected constant time, as of a hash table, but for the bytes of names and of listings, which are read once, and
-    /// those of an outstanding MKNOD, SYMLINK, RENAME or RENAME2 once more for each message with its unique. The table keeps
-    /// three numbers and where the message lies for each outstanding request, and grows by doubling. No message bytes are copied.
-    #[inline(always)]
+    /// those of an outstanding MKNOD, SYMLINK, RENAME or RENAME2 once more for each reply and each INTERRUPT with its
+    /// unique. The table keeps three numbers and where the message lies for each outstanding request, and grows by
+    /// doubling. No message bytes are copied.
     pub fn accept(&mut self, packet: &Packet<'a>) -> Result<Event<'a>, SessionError>
         requires { self.old.messages < MAX_MESSAGES }
         ensures passes { OnOk result ((c : List Message) → Shows c self.old → IsAllowed c (message packet.now)) }
@@ -131,14 +131,15 @@ impl<'a> Session<'a> {
         ensures refused { IfErr result (λ error. (c : List Message) → Shows c self.old → IsRefusal c (message packet.now) error) }
         ensures unchanged { OnErr result (self.new ≡ self.old) }
     {
-        // A function for each direction: as one they take more, though both are laid into the caller.
+        // A function for each direction: each is small enough to be inlined, and both together are not.
         match packet.direction {
             Direction::ToServer => self.accept_to_server(packet),
             Direction::FromServer => self.accept_from_server(packet),
         }
     }
 
-    /// Takes the next message, as [`accept`](Session::accept) does, where it is one to the server.
+    /// Takes the next message, one to the server, as [`accept`](Session::accept) does. The caller has to see to it that
+    /// `packet.direction` is `ToServer`, and that fewer than 16,777,216 messages were accepted.
     ///
     /// # Errors
     ///
@@ -146,7 +147,7 @@ impl<'a> Session<'a> {
     ///
     /// # Cost
     ///
-    /// That of `accept`, which is too large to be laid into its caller, as this is: its event need not be moved.
+    /// That of `accept`. This function is small enough to be inlined, and `accept` is not: so its event is not moved.
     #[inline(always)]
     pub fn accept_to_server(&mut self, packet: &Packet<'a>) -> Result<Event<'a>, SessionError>
         requires few { self.old.messages < MAX_MESSAGES }
@@ -167,7 +168,8 @@ impl<'a> Session<'a> {
         Ok(Event::Asked { at, message })
     }
 
-    /// Takes the next message, as [`accept`](Session::accept) does, where it is one from the server.
+    /// Takes the next message, one from the server, as [`accept`](Session::accept) does. The caller has to see to it that
+    /// `packet.direction` is `FromServer`, and that fewer than 16,777,216 messages were accepted.
     ///
     /// # Errors
     ///
@@ -175,7 +177,7 @@ impl<'a> Session<'a> {
     ///
     /// # Cost
     ///
-    /// That of `accept`, which is too large to be laid into its caller, as this is: its event need not be moved.
+    /// That of `accept`. This function is small enough to be inlined, and `accept` is not: so its event is not moved.
     #[inline(always)]
     pub fn accept_from_server(&mut self, packet: &Packet<'a>) -> Result<Event<'a>, SessionError>
         requires few { self.old.messages < MAX_MESSAGES }

@@ -62,7 +62,8 @@ impl<'a> Waiting<'a> {
         }
     }
 
-    /// Whether it is INTERRUPT.
+    /// Whether it is INTERRUPT, for which its message is read again.
+    // Two requests rarely have one unique, so this is not inlined.
     pub fn is_interrupt(&self) -> bool
         ensures { IsTrue result ↔ IsInterrupt self.now.said.0 }
     {
