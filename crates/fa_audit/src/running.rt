@@ -329,7 +329,7 @@ fn run_on_tree<R: Input, W: Output>(
 /// # Cost
 ///
 /// That of [`Feed::pull_from`] for each pull of the capture, of [`read_all`] for each text, and of [`audit_capture`]: the capture takes
-/// memory for its bytes and a thirty-second part more.
+/// memory for its bytes, a thirty-second part more, and room for one pull.
 pub fn run<R: Input, W: Output>(
     alloc: Global,
     seed: Seed,

@@ -16,7 +16,7 @@ is_interrupted (Got n) = false
 is_interrupted Interrupted = true
 is_interrupted Failed = false
 
--- how many bytes it put
+-- how many bytes the pull gave
 abbrev pub pulled_count : Pull → ℕ
 pulled_count (Got n) = n
 pulled_count Interrupted = 0

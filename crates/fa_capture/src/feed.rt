@@ -61,7 +61,7 @@ pub struct Feed {
     stop: Option<Stop>,
     /// The fault that was told.
     told: Option<CaptureFault>,
-    /// How many bytes the last pull gave.
+    /// How many bytes the last pull gave that was neither interrupted nor failed; 0 before the first.
     gave: usize,
 }
 
@@ -139,17 +139,20 @@ impl Feed {
 
     /// Takes the bytes that one pull of an input gives as the next piece: at most [`PIECE`], which the input puts where they are kept.
     ///
-    /// An interrupted pull and one that fails are told, and leave the feed as it was. Once a fault was told nothing is pulled.
+    /// `Got(0)` comes only at the input's end. An interrupted pull and one that fails are told, and leave the feed as it was. Once a
+    /// fault was told nothing is pulled.
     ///
     /// # Errors
     ///
     /// - [`FeedError::Fault`] as at [`feed`](Feed::feed) of these bytes, which are taken; and again at each call behind that.
     /// - [`FeedError::Memory`] where memory was refused. Nothing was pulled, and the call may be made again.
     ///
+    /// The bytes that were taken are fewer than [`MAX_READ_LIMIT`](crate::MAX_READ_LIMIT) + 65,536 where no fault was told.
+    ///
     /// # Cost
     ///
-    /// That of the pull. It asks for twice as many bytes as the one before gave, at least 4,096, and time is linear in these. Memory as at
-    /// [`feed`](Feed::feed), with room for them behind the bytes that were taken.
+    /// That of the pull, which asks for twice as many bytes as the last one gave, but for 4,096 at least and [`PIECE`] at most. These are
+    /// filled with zeros first, so time is linear in them. Memory as at [`feed`](Feed::feed) of as many, also at the end, where none come.
     pub fn pull_from<R: Input>(&mut self, input: &mut R) -> Result<Pull, FeedError>
         // A fault that was told is told again, and nothing is pulled.
         ensures again { (fault : CaptureFault) → self.old.told ≡ Some fault → result ≡ Err (FeedError.Fault fault) }
@@ -160,6 +163,7 @@ impl Feed {
             × (self.new ≡ record { bytes = self.old.bytes ++ piece; told = None })) }
         ensures open { OnOk result (IsOpen self.new.bytes) }
         ensures short { OnOk result (length self.new.bytes < MAX_READ_LIMIT + 65536) }
+        ensures within { length self.new.bytes ≤ length self.old.bytes + PIECE }
         ensures fault { (fault : CaptureFault) → self.old.told ≡ None → result ≡ Err (FeedError.Fault fault) →
             (piece : List ℕ) × Consumes (R.remaining input.old) (R.remaining input.new) piece
             × (self.new ≡ record { bytes = self.old.bytes ++ piece; told = Some fault }) }
@@ -260,6 +264,7 @@ fn pull_in<R: Input>(bytes: &mut Vec<u8>, input: &mut R, most: usize) -> Result<
     requires most { most ≤ PIECE }
     ensures taken { IfOk result (λ pull. (piece : List ℕ) × PullsPiece (R.remaining input.old) (R.remaining input.new) pull piece
         × (bytes.new.items ≡ bytes.old.items ++ piece)) }
+    ensures within { OnOk result (length bytes.new.items ≤ length bytes.old.items + most) }
     ensures bytes { OnOk result (All (λ byte. byte < 256) bytes.new.items) }
     ensures unchanged { OnErr result ((bytes.new.items ≡ bytes.old.items) × (input.new ≡ input.old)) }
     ensures failed { IfOk result (λ pull. R.has_failed input.new ≡ R.has_failed input.old || is_failed pull) }
@@ -273,12 +278,13 @@ fn pull_in<R: Input>(bytes: &mut Vec<u8>, input: &mut R, most: usize) -> Result<
     Ok(pull)
 }
 
-/// Makes room for so many bytes behind those that are there. It grows by a thirty-second part, so that little of it stays empty.
+/// Makes room for so many bytes behind those that are there, and for a thirty-second part of those more: little of it stays empty, and
+/// what is asked for in small parts is made room for once for many of them.
 fn make_room(bytes: &mut Vec<u8>, count: usize) -> Result<(), AllocError>
     ensures { bytes.new.items ≡ bytes.old.items }
 {
     if bytes.capacity() - bytes.len() < count {
-        bytes.reserve_exact(count.max(bytes.len() / PARTS))?;
+        bytes.reserve_exact(count.saturating_add(bytes.len() / PARTS))?;
     }
     Ok(())
 }

@@ -63,7 +63,7 @@ pub trait Input {
 /// The greatest limit that [`read_all`] takes.
 pub const MAX_READ_LIMIT: usize = 402_653_184;
 
-/// How many bytes one pull asks for, where an input is read to its end.
+/// How many bytes one pull asks for at most, where an input is read to its end.
 pub const PIECE: usize = 65_536;
 
 /// How many pulls may be made beyond one for each byte, where an input is read to its end: so many may be interrupted.

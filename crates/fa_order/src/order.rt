@@ -35,6 +35,7 @@ fn read_decimal(left: &[u8]) -> Option<(u32, &[u8])>
     ensures none { IfNone result ((n : ℕ) (rest : List ℕ) → n < 2 ^ 32 → LacksDigit rest
         → left.now ≡ decimal n ++ rest → ⊥) }
 {
+    // With more than ten digits the number may wrap, and is not looked at.
     let mut number: u64 = 0;
     let mut count: usize = 0;
     for byte in left {

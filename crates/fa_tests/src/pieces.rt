@@ -3,7 +3,7 @@
 ghost use Rattle.std.specs.Prelude.{◌<◌};
 
 use crate::captures::{ENDINGS, Ending, FIRST, ending};
-use fa_capture::{CaptureFault, Feed, FeedError, codes};
+use fa_capture::{CaptureFault, Device, Feed, FeedError, Pull, codes};
 use std::alloc::Global;
 use std::process::Abort;
 
@@ -67,6 +67,35 @@ fn pieces_of_each_size(rt: HostRuntime) {
             "pieces of {size}"
         );
     }
+}
+
+/// How the capture ends that was pulled from an input of these bytes, to its end or until a fault was told. None where memory was refused
+/// again.
+fn pulled(alloc: Global, bytes: &[u8]) -> Option<Ending> {
+    let mut input = Device::new(bytes);
+    let mut feed = Feed::new(alloc);
+    let mut is_told = false;
+    for _ in 0..bytes.len().saturating_add(2) {
+        match feed.pull_from(&mut input) {
+            Ok(Pull::Got(0)) | Err(FeedError::Fault(_)) => {
+                is_told = true;
+                break;
+            }
+            Ok(_) | Err(FeedError::Memory) => {}
+        }
+    }
+    let stored = feed.finish();
+    let end = ending(&stored.capture());
+    drop(stored);
+    if is_told { end } else { None }
+}
+
+#[test]
+fn pieces_that_are_pulled(rt: HostRuntime) {
+    for (bytes, expected) in &ENDINGS {
+        assert_eq!(rt; pulled(rt.alloc(), bytes), Some(*expected), "{bytes:?}");
+    }
+    assert_eq!(rt; pulled(rt.alloc(), &FIRST), Some((4, 0)));
 }
 
 #[test]

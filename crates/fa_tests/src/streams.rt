@@ -4,7 +4,10 @@ ghost use Rattle.std.specs.Prelude.{◌≡◌, false};
 ghost use Rattle.fa_capture.specs.Device.{device_failed, device_interrupted};
 
 use crate::devices::{BreakingWriter, SlowReader};
-use fa_capture::{Broken, Device, Input, MAX_READ_LIMIT, Output, Pull, ReadError, read_all};
+use fa_capture::{
+    Broken, CaptureFault, Device, Feed, FeedError, Input, MAX_READ_LIMIT, Output, Pull, ReadError,
+    codes, read_all,
+};
 
 static TEXT: &[u8; 47] = b"a byte at a time, and interrupted now and then.";
 
@@ -141,6 +144,44 @@ fn how_many_pulls_are_made(rt: HostRuntime) {
         let length = read_all(rt.alloc(), &mut input, limit).map(|bytes| bytes.len());
         assert!(rt; length == expected, "plan {number}");
         assert_eq!(rt; input.pulls, pulls, "plan {number}");
+    }
+}
+
+/// What a pull tells a feed, whose bytes are zeros and so no capture. Behind the fault nothing is pulled.
+#[test]
+fn what_pulls_of_a_feed_tell(rt: HostRuntime) {
+    let fault = Err(FeedError::Fault(CaptureFault {
+        whole: 0,
+        code: codes::NO_MAGIC,
+    }));
+    let interrupted = Ok(Pull::Interrupted);
+    let failed = Ok(Pull::Failed);
+    for (interruptions, pieces, last, told, pulls) in [
+        (
+            2,
+            0,
+            Pull::Failed,
+            [interrupted, interrupted, failed, failed],
+            4,
+        ),
+        (1, 1, END, [interrupted, fault, fault, fault], 2),
+        (0, 0, END, [Ok(END), Ok(END), Ok(END), Ok(END)], 4),
+    ] {
+        let mut input = PlannedInput {
+            interruptions,
+            pieces,
+            size: 1,
+            last,
+            pulls: 0,
+            failed: false,
+            interrupted: false,
+        };
+        let mut feed = Feed::new(rt.alloc());
+        for expected in told {
+            assert!(rt; feed.pull_from(&mut input) == expected);
+        }
+        drop(feed);
+        assert_eq!(rt; input.pulls, pulls);
     }
 }
 

@@ -1,4 +1,4 @@
-use Rattle.std.proofs.Common.{◌≡◌, List, [], ℕ, ◌++◌, subst, sym, ap, ◌∙◌, None, Some, is_some, refl}
+use Rattle.std.proofs.Common.{◌≡◌, arith, List, [], ℕ, ◌++◌, subst, sym, ap, ◌∙◌, None, Some, is_some, refl}
 use Rattle.std.proofs.lemmas.List.{append-nil}
 use Rattle.fa_capture.specs.declared.fault.CaptureFault.{CaptureFault}
 use Rattle.fa_capture.specs.Pieces.{PlainFeed, IsOpen, IsToldOf}
@@ -23,6 +23,7 @@ returns-in_default-pull g c =
       taken = (taken.0, taken.1, rw (taken.2, untold, sym c.self.view_is) refl);
       «open» = opens;
       short = open_is_short c.pull_in.new.bytes.items c.in_ok-pull.ensures.bytes opens;
+      within = rw (sym c.self.view_is) (omega (arith, c.in_ok-pull.ensures.within, c.next_ask.ensures.most));
       fault = λ fault told is. absurd cc;
       decided = λ fault told is. absurd cc;
       memory = λ is. absurd cc;
