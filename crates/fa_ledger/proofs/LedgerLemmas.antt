@@ -200,8 +200,8 @@ pub same_shown : (s t : Inside) → AreSame s.books t.books → t.messages ≡ s
 same_shown s t same counted =
     let made : ℕ → Bool → List (ℕ × Lookups) → List (Key × Handle) → List (Key × List (ℕ × Place)) → List PlainCall → PlainLedger =
     λ n b k h p l. record { messages = n; truncating = b; nodes = k; handles = h; listed = p; calls = l } in
-    let whole : made t.messages t.books.truncating (by_id t.books.tables.nodes.known.entries) t.books.tables.handles.opened.entries (listed_shown t.books.listings.by_key.entries) t.books.calls
-    ≡ made s.messages s.books.truncating (by_id s.books.tables.nodes.known.entries) s.books.tables.handles.opened.entries (listed_shown s.books.listings.by_key.entries) s.books.calls =
+    let whole : made t.messages t.books.truncating (by_id t.books.tables.nodes.known.entries) t.books.tables.handles.opened.entries (listed_shown t.books.listings.by_key.entries) t.books.calls.calls
+    ≡ made s.messages s.books.truncating (by_id s.books.tables.nodes.known.entries) s.books.tables.handles.opened.entries (listed_shown s.books.listings.by_key.entries) s.books.calls.calls =
     rw (counted, same.truncating, same_by_id s.books.tables.nodes.known.entries t.books.tables.nodes.known.entries same.nodes, same.keys, same.listed, same.calls) refl in
     whole
 
@@ -237,17 +237,17 @@ notice_shows c m es at b stands = let shown = stands.shown in record {
   keys = λ key. key_unmoved es (Notice at) key (lookup (key_eq key) b.tables.handles.opened.entries) refl refl (shown.keys key);
   places = unlisted_places c m es (Notice at) stands.are stands.event (λ n p r ds is. absurd cc) (λ key stood. omega (arith, stood, opened_more es (Notice at) key, closed_more es (Notice at) key))
       (place_of b.listings.by_key.entries) shown.places;
-  calls = calls_kept es (Notice at) b.calls shown.calls (λ p r is. absurd cc) (λ n p r reply is. absurd cc);
+  calls = calls_kept es (Notice at) b.calls.calls shown.calls (λ p r is. absurd cc) (λ n p r reply is. absurd cc);
 }
 
 -- ---- calls
 
-pub shown_calls : (s : Inside) (c : List Message) → Shows c (ledger_shown s) → (s.messages ≡ length c) × AreCalls c s.books.calls
+pub shown_calls : (s : Inside) (c : List Message) → Shows c (ledger_shown s) → (s.messages ≡ length c) × AreCalls c s.books.calls.calls
 shown_calls s c shows =
     (shows.shown.counted ∙ shows.are.counted, record { events = shows.events; are = shows.are; exact = shows.shown.calls })
 
 -- the calls of a ledger are those of some messages that all pass
-pub some_calls : (s : Inside) (calls : List PlainCall) → calls ≡ s.books.calls → ∥ ((c : List Message) × Shows c (ledger_shown s)) ∥₁
+pub some_calls : (s : Inside) (calls : List PlainCall) → calls ≡ s.books.calls.calls → ∥ ((c : List Message) × Shows c (ledger_shown s)) ∥₁
     → ∥ ((c : List Message) × AreGood c × (s.messages ≡ length c) × AreCalls c calls) ∥₁
 some_calls s calls same some =
     ∥∥₁_map some (λ found.

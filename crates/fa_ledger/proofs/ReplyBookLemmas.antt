@@ -69,7 +69,7 @@ pub record IsPrepared (c : List Message) (m : Message) (es : List PlainEvent) (a
   pub waiting : WaitingCall
   pub place : ℕ
   pub call : PlainCall
-  pub waits : WaitsAt old.calls asked place call
+  pub waits : WaitsAt old.calls.calls asked place call
   pub own : waiting ≡ waiting_of call
   pub named : names ≡ map (λ id. given_to id at (lookup (nat_eq id) old.tables.nodes.known.entries)) (nodes_given r.body reply)
   pub opens : which ≡ opened_with waiting.node names r.body reply
@@ -98,9 +98,9 @@ noted_also asked (Some l) old kept new same noted_so = λ other offset.
 
 module _ (c : List Message) (m : Message) (es : List PlainEvent) (at asked : ℕ) (r : PlainRequest) (reply : PlainReply) (old : Books) where
   -- an answer to a call makes its operation
-  pub operation_there : Stands c m es (Answered at asked r reply) old → (place : ℕ) (call : PlainCall) → WaitsAt old.calls asked place call → (o : PlainOperation) × (operation_of r.body (Some reply) ≡ Some o)
+  pub operation_there : Stands c m es (Answered at asked r reply) old → (place : ℕ) (call : PlainCall) → WaitsAt old.calls.calls asked place call → (o : PlainOperation) × (operation_of r.body (Some reply) ≡ Some o)
   operation_there stands place call waits =
-      let w = call_waits c m es stands.are at asked r reply stands.event old.calls stands.shown.calls place call waits.there waits.numbered in
+      let w = call_waits c m es stands.are at asked r reply stands.event old.calls.calls stands.shown.calls place call waits.there waits.numbered in
       let done = reply_done r m.bytes reply stands.event.2 w.1.tree in
       (done.0, done.1)
 
@@ -112,20 +112,20 @@ module _ (c : List Message) (m : Message) (es : List PlainEvent) (at asked : ℕ
   asked_name : (names : List NodeName) (which : Option (Key × OpenOut))
       → (p : IsPrepared c m es at asked r reply old names which) → name_at (take asked es) r.node ≡ Some p.waiting.node
   asked_name names which p =
-      let w = call_waits c m es p.stands.are at asked r reply p.stands.event old.calls p.stands.shown.calls p.place p.call p.waits.there p.waits.numbered in
+      let w = call_waits c m es p.stands.are at asked r reply p.stands.event old.calls.calls p.stands.shown.calls p.place p.call p.waits.there p.waits.numbered in
       w.1.node ∙ ap (λ n. Some n) (ap (λ x. x.node) (sym p.own))
 
   tree_asked : (names : List NodeName) (which : Option (Key × OpenOut))
       → IsPrepared c m es at asked r reply old names which → IsTreeRequest r.body
   tree_asked names which p =
-      (call_waits c m es p.stands.are at asked r reply p.stands.event old.calls p.stands.shown.calls p.place p.call p.waits.there p.waits.numbered).1.tree
+      (call_waits c m es p.stands.are at asked r reply p.stands.event old.calls.calls p.stands.shown.calls p.place p.call p.waits.there p.waits.numbered).1.tree
 
   -- the books show the answer
   pub answer_shows : (new : Books) (names : List NodeName) (which : Option (Key × OpenOut)) (opens : Bool) (o : PlainOperation)
       → (p : IsPrepared c m es at asked r reply old names which) → operation_of r.body (Some reply) ≡ Some o → opens ≡ opens_new old.tables.handles.opened.entries which → new.truncating ≡ old.truncating
       → IsGiven at names old.tables.nodes.known.entries new.tables.nodes.known.entries → IsOpenedBy asked which old.tables.handles.opened.entries new.tables.handles.opened.entries
       → (listed : Option ListedOn) → ListsStillIfAny old.tables.handles.opened.entries p.waiting r.body reply listed → IsNotedBy asked listed old.listings.by_key.entries new.listings.by_key.entries
-      → new.calls ≡ with_answer old.calls asked o (record { at = at; given = names; opens = opens }) → BooksShow (es ++ Answered at asked r reply ∷ []) new
+      → new.calls.calls ≡ with_answer old.calls.calls asked o (record { at = at; given = names; opens = opens }) → BooksShow (es ++ Answered at asked r reply ∷ []) new
   answer_shows new names which opens o p does opens_is settled gave noted listed lists listed_so answered =
       let place = event_place p.stands in
       let shown = p.stands.shown in
@@ -136,8 +136,8 @@ module _ (c : List Message) (m : Message) (es : List PlainEvent) (at asked : ℕ
       let answer : PlainAnswer = record { at = at; given = names; opens = opens } in
       let here : ℕ → List PlainEvent = λ n. es ++ Answered n asked r reply ∷ [] in
       let anew : IsTrue opens ↔ OpensAnew (here at) (length es) = opens_answered es at asked r reply old.tables.handles.opened.entries place shown.keys which opening_is opens opens_is in
-      let calls : AreCallsOf (here (length es)) (with_answer old.calls asked o answer) =
-      calls_answered c m es p.stands.are asked r reply (subst (λ n. IsEvent c m (Answered n asked r reply)) place p.stands.event) old.calls o answer shown.calls place does
+      let calls : AreCallsOf (here (length es)) (with_answer old.calls.calls asked o answer) =
+      calls_answered c m es p.stands.are asked r reply (subst (λ n. IsEvent c m (Answered n asked r reply)) place p.stands.event) old.calls.calls o answer shown.calls place does
       (subst (λ n. map (λ node. name_at (here n) node) (nodes_given r.body reply) ≡ map (λ name. Some name) names) place named)
       (subst (λ n. IsTrue opens ↔ OpensAnew (here n) (length es)) place anew) in
       record {
@@ -147,9 +147,9 @@ module _ (c : List Message) (m : Message) (es : List PlainEvent) (at asked : ℕ
         );
         nodes = nodes_answered es at asked r reply old.tables.nodes.known.entries new.tables.nodes.known.entries names place shown.nodes p.may p.named gave;
         keys = keys_answered es at asked r reply old.tables.handles.opened.entries new.tables.handles.opened.entries place shown.keys which opening_is noted;
-        places = places_answered c m es at asked r reply p.stands.are p.stands.event old.calls shown.calls p.place p.call p.waits old.tables.handles.opened.entries shown.keys listed
+        places = places_answered c m es at asked r reply p.stands.are p.stands.event old.calls.calls shown.calls p.place p.call p.waits old.tables.handles.opened.entries shown.keys listed
             (subst (λ x. ListsStillIfAny old.tables.handles.opened.entries x r.body reply listed) p.own lists) old.listings.by_key.entries new.listings.by_key.entries listed_so shown.places;
-        calls = subst (AreCallsOf (here at)) (sym answered) (subst (λ n. AreCallsOf (here n) (with_answer old.calls asked o answer)) (sym place) calls);
+        calls = subst (AreCallsOf (here at)) (sym answered) (subst (λ n. AreCallsOf (here n) (with_answer old.calls.calls asked o answer)) (sym place) calls);
       }
 
   -- what opens a key anew gives more
@@ -165,11 +165,11 @@ module _ (c : List Message) (m : Message) (es : List PlainEvent) (at asked : ℕ
 
   -- and where a listing has its offsets more is kept
   pub listed_more : (place : ℕ) (call : PlainCall) (waiting : WaitingCall) (listed : Option ListedOn)
-      → Stands c m es (Answered at asked r reply) old → WaitsAt old.calls asked place call → waiting ≡ waiting_of call → ListsStillIfAny old.tables.handles.opened.entries waiting r.body reply listed → ListsNew old.listings.by_key.entries listed
+      → Stands c m es (Answered at asked r reply) old → WaitsAt old.calls.calls asked place call → waiting ≡ waiting_of call → ListsStillIfAny old.tables.handles.opened.entries waiting r.body reply listed → ListsNew old.listings.by_key.entries listed
       → IsMoreKept es (Answered at asked r reply)
   listed_more place call waiting None stands waits own lists new = absurd new
   listed_more place call waiting (Some l) stands waits own lists new =
-      inr (lists_on c m es at asked r reply stands.are stands.event old.calls stands.shown.calls place call waits old.tables.handles.opened.entries stands.shown.keys l
+      inr (lists_on c m es at asked r reply stands.are stands.event old.calls.calls stands.shown.calls place call waits old.tables.handles.opened.entries stands.shown.keys l
       (subst (λ x. ListsStillIfAny old.tables.handles.opened.entries x r.body reply (Some l)) own lists) old.listings.by_key.entries stands.shown.places new)
 
   -- no place that the books have is of this request
@@ -183,15 +183,15 @@ module _ (c : List Message) (m : Message) (es : List PlainEvent) (at asked : ℕ
 
   -- a request under whose number no call waits acts on no tree
   pub no_call_waits : Stands c m es (Answered at asked r reply) old
-      → ((place : ℕ) (call : PlainCall) → WaitsAt old.calls asked place call → ⊥) → IsTreeRequest r.body → ⊥
+      → ((place : ℕ) (call : PlainCall) → WaitsAt old.calls.calls asked place call → ⊥) → IsTreeRequest r.body → ⊥
   no_call_waits stands none tree =
-      let found = waiting_call c m es stands.are at asked r reply stands.event old.calls stands.shown.calls tree in
-      let w = call_waits c m es stands.are at asked r reply stands.event old.calls stands.shown.calls found.0 found.1 found.2 found.3 in
+      let found = waiting_call c m es stands.are at asked r reply stands.event old.calls.calls stands.shown.calls tree in
+      let w = call_waits c m es stands.are at asked r reply stands.event old.calls.calls stands.shown.calls found.0 found.1 found.2 found.3 in
       none found.0 found.1 (record { there = found.2; numbered = found.3; unanswered = w.0 })
 
   pub plain_shows : (new : Books) (settles : Bool)
       → Stands c m es (Answered at asked r reply) old → (IsTreeRequest r.body → ⊥) → IsTrue settles ↔ SettlesTruncation r.body reply → new.truncating ≡ (old.truncating || settles)
-      → new.tables ≡ old.tables → new.listings ≡ old.listings → new.calls ≡ old.calls → BooksShow (es ++ Answered at asked r reply ∷ []) new
+      → new.tables ≡ old.tables → new.listings ≡ old.listings → new.calls.calls ≡ old.calls.calls → BooksShow (es ++ Answered at asked r reply ∷ []) new
   plain_shows new settles stands no_tree settled truncates tables listings calls =
       let e : PlainEvent = Answered at asked r reply in
       let nothing = plain_gives_nothing c m at asked r reply stands.event no_tree in
@@ -204,7 +204,7 @@ module _ (c : List Message) (m : Message) (es : List PlainEvent) (at asked : ℕ
             (key_unmoved es e key (lookup (key_eq key) old.tables.handles.opened.entries) (none_unopened es e key (nothing.1 es)) refl (stands.shown.keys key));
         places = subst (λ (l : Listings). ArePlaces (es ++ e ∷ []) (place_of l.by_key.entries)) (sym listings)
             (places_replied c m es at asked r reply stands.are stands.event no_tree (place_of old.listings.by_key.entries) stands.shown.places);
-        calls = subst (AreCallsOf (es ++ e ∷ [])) (sym calls) (calls_kept es e old.calls stands.shown.calls (λ p s is tree. absurd cc)
+        calls = subst (AreCallsOf (es ++ e ∷ [])) (sym calls) (calls_kept es e old.calls.calls stands.shown.calls (λ p s is tree. absurd cc)
             (λ n p s said is tree. let same : r ≡ s = cc in no_tree (subst (λ (x : PlainRequest). IsTreeRequest x.body) (sym same) tree)));
       }
 

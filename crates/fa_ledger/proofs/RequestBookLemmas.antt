@@ -13,7 +13,7 @@ use Rattle.fa_ledger.specs.declared.books.Books.{Books}
 use Rattle.fa_ledger.specs.declared.tables.Names.{Names}
 use Rattle.fa_ledger.specs.declared.tables.Used.{Used}
 use Rattle.fa_ledger.specs.declared.call.Listing.{Listing}
-use Rattle.fa_ledger.specs.declared.call_list.CallList.{CallList}
+use Rattle.fa_ledger.specs.declared.call_book.CallBook.{CallBook}
 use Rattle.fa_ledger.specs.declared.handles.Handle.{Handle}
 use Rattle.fa_ledger.specs.declared.handles.Handles.{Handles}
 use Rattle.fa_ledger.specs.declared.key.Key.{Key}
@@ -141,7 +141,7 @@ module _ (c : List Message) (m : Message) (es : List PlainEvent) (at : ℕ) (r :
     nodes = nodes_kept es at r b.tables.nodes.known.entries none shown.nodes;
     keys = keys_kept es at r b.tables.handles.opened.entries leaves shown.keys;
     places = places_kept stands leaves;
-    calls = others_kept es at r b.calls no_tree shown.calls;
+    calls = others_kept es at r b.calls.calls no_tree shown.calls;
   }
 
   -- a closing closes its key once, which stays open
@@ -159,7 +159,7 @@ module _ (c : List Message) (m : Message) (es : List PlainEvent) (at : ℕ) (r :
         nodes = nodes_kept es at r b.tables.nodes.known.entries none shown.nodes;
         keys = keys;
         places = places_asked c m es at r stands.are stands.event old new shown.keys keys (none_gone used.key old new wrote left) (place_of b.listings.by_key.entries) shown.places;
-        calls = others_kept es at r b.calls no_tree shown.calls;
+        calls = others_kept es at r b.calls.calls no_tree shown.calls;
       }
 
   -- or which is closed for good: then its places are forgotten
@@ -178,16 +178,16 @@ module _ (c : List Message) (m : Message) (es : List PlainEvent) (at : ℕ) (r :
         nodes = nodes_kept es at r b.tables.nodes.known.entries none shown.nodes;
         keys = keys;
         places = places_closed c m es at r stands.are stands.event used.key old new shown.keys keys wrote gone (place_of b.listings.by_key.entries) (place_of listings.by_key.entries) forgot shown.places;
-        calls = others_kept es at r b.calls no_tree shown.calls;
+        calls = others_kept es at r b.calls.calls no_tree shown.calls;
       }
 
   -- a tree request is one more call
-  pub shows_called : (o : PlainOperation) (names : Names) (used : Option Used) (handle : Option ℕ) (direct truncates : Bool) (listing : Option Listing) (calls : CallList)
+  pub shows_called : (o : PlainOperation) (names : Names) (used : Option Used) (handle : Option ℕ) (direct truncates : Bool) (listing : Option Listing) (calls : CallBook)
       → Stands c m es (Asked at r) b → AreNames es r names → IsUsedIfAny es r b.tables.handles.opened.entries used → request_takes r ≡ [] → operation_of r.body None ≡ Some o
       → MatchOption used (handle ≡ None) (λ u. IsSomeAnd handle (λ name. name ≡ u.handle.name)) → MatchOption used (direct ≡ false) (λ u. direct ≡ u.handle.direct)
       → ((before : List PlainEvent) → IsTrue b.truncating ↔ IsNegotiatedFlag before atomic_o_trunc → IsTrue truncates ↔ Truncates before r.body)
       → listing ≡ listing_by (offset_asked r.body) used (place_of b.listings.by_key.entries)
-      → calls ≡ b.calls ++ new_call at o names handle direct truncates listing ∷ []
+      → calls.calls ≡ b.calls.calls ++ new_call at o names handle direct truncates listing ∷ []
       → BooksShow (es ++ Asked at r ∷ []) (record b { calls = calls })
   shows_called o names used handle direct truncates listing calls stands are uses none does named marked empties further pushed =
       let tree : IsTreeRequest r.body = operation_asked r.body None o does in
@@ -202,13 +202,13 @@ module _ (c : List Message) (m : Message) (es : List PlainEvent) (at : ℕ) (r :
         truncates = empties es stands.shown.truncating;
         listing = subst (IsListingIfAny es r) (sym further) (listing_asked es r b.tables.handles.opened.entries used (place_of b.listings.by_key.entries) uses stands.shown.places);
       } in
-      let more : AreCallsOf (es ++ Asked (length es) r ∷ []) (b.calls ++ call ∷ []) = calls_asked c es stands.are r b.calls call stands.shown.calls number does refl says in
+      let more : AreCallsOf (es ++ Asked (length es) r ∷ []) (b.calls.calls ++ call ∷ []) = calls_asked c es stands.are r b.calls.calls call stands.shown.calls number does refl says in
       record {
         truncating = mark_kept es at r atomic_o_trunc b.truncating stands.shown.truncating;
         nodes = nodes_kept es at r b.tables.nodes.known.entries none stands.shown.nodes;
         keys = keys_kept es at r b.tables.handles.opened.entries (tree_not_closing r.body tree) stands.shown.keys;
         places = places_kept stands (tree_not_closing r.body tree);
-        calls = subst (λ n. AreCallsOf (es ++ Asked n r ∷ []) calls) (sym number) (subst (AreCallsOf (es ++ Asked (length es) r ∷ [])) (sym pushed) more);
+        calls = subst (λ n. AreCallsOf (es ++ Asked n r ∷ []) calls.calls) (sym number) (subst (AreCallsOf (es ++ Asked (length es) r ∷ [])) (sym pushed) more);
       }
 
   -- ---- requests that take, and name no nodes
@@ -225,7 +225,7 @@ module _ (c : List Message) (m : Message) (es : List PlainEvent) (at : ℕ) (r :
         nodes = nodes_taken es at r b.tables.nodes.known.entries nodes.known.entries items takes took shown.nodes;
         keys = keys_kept es at r b.tables.handles.opened.entries is.leaves shown.keys;
         places = places_kept stands is.leaves;
-        calls = others_kept es at r b.calls is.no_tree shown.calls;
+        calls = others_kept es at r b.calls.calls is.no_tree shown.calls;
       }
 
   -- and leaves the books as they are

@@ -6,7 +6,8 @@ pub mod Steps
 pub mod SaidLaws
 -- a call as their list keeps it
 pub mod RowParts
--- the list of the calls
+-- the list of the calls, and what is kept of them
+pub mod CallsKept
 pub mod CallParts
 -- the table of the offsets that were reached
 pub mod ListingParts

@@ -18,7 +18,7 @@ ghost use Rattle.fa_ledger.specs.parts.CallParts.{WaitsAt, waiting_of};
 ghost use Rattle.fa_ledger.specs.parts.ListingParts.{place_of, listing_by, ListsStillIfAny};
 
 use crate::call::{Call, Listing};
-use crate::call_list::CallList;
+use crate::call_book::CallBook;
 use crate::error::LedgerError;
 use crate::giving::{may_be_given, names_given, opened, settles_truncation};
 use crate::key::Key;
@@ -45,7 +45,7 @@ pub(crate) struct Books<'a> {
     /// Where the offsets of the directories that are open were last reached.
     pub listings: Listings,
     /// The calls so far.
-    pub calls: CallList<'a>,
+    pub calls: CallBook<'a>,
 }
 
 impl<'a> Books<'a> {
@@ -61,7 +61,7 @@ impl<'a> Books<'a> {
             truncating: false,
             tables: Tables::new(alloc, seed),
             listings: Listings::new(alloc, seed),
-            calls: CallList::new(alloc),
+            calls: CallBook::new(alloc),
         }
     }
 
@@ -230,7 +230,7 @@ impl<'a> Books<'a> {
     ) -> Result<(), LedgerError>
         requires stands { StandBefore (Answered at asked (request_shown messages.now.to.request) (reply_shown messages.now.reply)) self.old }
         requires allowed { All MayBeGiven (nodes_given (body_shown messages.now.to.request.body) (reply_shown messages.now.reply)) }
-        requires waits { (call : PlainCall) × WaitsAt self.old.calls asked place call × (waiting ≡ waiting_of call) }
+        requires waits { (call : PlainCall) × WaitsAt self.old.calls.calls asked place call × (waiting ≡ waiting_of call) }
         ensures shows { OnOk result (ShowNext (Answered at asked (request_shown messages.now.to.request) (reply_shown messages.now.reply)) self.old self.new) }
         ensures memory { IfErr result (λ error. (error ≡ Memory) × (WhereStands (Answered at asked (request_shown messages.now.to.request) (reply_shown messages.now.reply)) self.old (λ c m es. IsMoreKept es (Answered at asked (request_shown messages.now.to.request) (reply_shown messages.now.reply))))) }
         ensures unchanged { OnErr result (AreSame self.old self.new) }
@@ -251,6 +251,7 @@ impl<'a> Books<'a> {
         );
         let listed = self.listed(waiting, &messages.to.request.body, &messages.reply);
         // All room first.
+        self.calls.reserve_names(&given)?;
         self.tables.nodes.reserve(names)?;
         self.tables.handles.reserve(&opened)?;
         self.listings.reserve(&listed)?;

@@ -1,26 +1,20 @@
-//! The calls so far, in the order of their requests.
+//! The calls of messages, as they are handed out.
 
-ghost use Rattle.std.specs.Prelude.{◌≡◌, ◌<◌, ℕ, List, [], ◌∷◌, ◌++◌, length, map, slice_get, Some, None, option_map, OnOk, OnErr, IfSome, IfNone};
+ghost use Rattle.std.specs.Prelude.{◌≡◌, ◌<◌, ℕ, length, map, slice_get, Some, option_map, IfSome, IfNone};
 ghost use Rattle.std.specs.List.Sorted.{IsStrictlyIncreasing};
 ghost use Rattle.fa_ledger.specs.Calls.{PlainCall, call_shown};
-ghost use Rattle.fa_ledger.specs.parts.CallParts.{WaitsAt, waiting_of};
-ghost use Rattle.fa_ledger.specs.parts.RowParts.{AreNotBoth};
-ghost use Rattle.fa_ledger.specs.parts.Steps.{given_names_shown, with_answer};
 
 use crate::call::Call;
-use crate::giving::GivenNames;
-use crate::messages::CallMessages;
-use crate::name::NodeName;
-use crate::row::{Row, WaitingCall};
-use std::alloc::{AllocError, Global};
+use crate::call_book::CallBook;
 use std::marker::Model;
 
 /// Calls in the order in which they were added, by rising numbers of their requests in a [`Calls`](crate::Calls). To its callers
 /// a list is its calls.
 #[derive(Drop)]
 pub struct CallList<'a> {
-    /// What is kept of each.
-    rows: Vec<Row<'a>>,
+    /// Where they are kept. [`get`](CallList::get) and [`call`](CallList::call) go to its rows themselves: with one function more
+    /// on the way, the compiler clears room for a call before it is read.
+    book: CallBook<'a>,
 }
 
 impl<'a> Model for CallList<'a> {
@@ -29,81 +23,17 @@ impl<'a> Model for CallList<'a> {
 
     ghost Value = { List PlainCall };
 
-    ghost use Rattle.fa_ledger.specs.parts.CallParts.{calls_shown};
+    ghost use Rattle.fa_ledger.specs.parts.CallParts.{list_shown};
 
-    ghost view = { calls_shown };
+    ghost view = { list_shown };
 }
 
 impl<'a> CallList<'a> {
-    /// No calls. What it stores later takes memory from `alloc`.
-    pub(crate) fn new(alloc: Global) -> Self
-        ensures { result ≡ [] }
+    /// The calls of a book.
+    pub(crate) fn new(book: CallBook<'a>) -> Self
+        ensures { result ≡ book.entry.calls }
     {
-        CallList {
-            rows: Vec::new(alloc),
-        }
-    }
-
-    /// Adds a call that waits for its answer.
-    #[inline(always)]
-    pub(crate) fn push(&mut self, call: Call<'a>) -> Result<(), AllocError>
-        requires waits { call.answer ≡ None }
-        requires apart { AreNotBoth call.other call.listing }
-        ensures pushed { OnOk result (self.new ≡ self.old ++ call_shown call.entry ∷ []) }
-        ensures unchanged { OnErr result (self.new ≡ self.old) }
-    {
-        self.rows.reserve(1)?;
-        self.rows.push_reserved(Row::waiting(call));
-        Ok(())
-    }
-
-    /// The place of the call that waits under this number, and what is known of it. It is looked for at the place `hint` first.
-    ///
-    /// Takes no memory. In constant time where it stands there, and in logarithmic time otherwise.
-    #[inline(always)]
-    pub(crate) fn find(&self, asked: u32, hint: usize) -> Option<(usize, WaitingCall)>
-        requires rising { IsStrictlyIncreasing (map (λ call. call.asked) self.now) }
-        ensures some { IfSome result (λ found. (call : PlainCall) × WaitsAt self.now asked found.0 call × (found.1 ≡ waiting_of call)) }
-        ensures none { IfNone result ((place : ℕ) (call : PlainCall) → WaitsAt self.now asked place call → ⊥) }
-    {
-        let place = self.place_hinted(asked, hint)?;
-        let waiting = self.rows[place].waiting_call()?;
-        Some((place, waiting))
-    }
-
-    /// The place of the call of this message number, looked for at the place `hint` first.
-    ///
-    /// Takes no memory. In constant time where it stands there, and in logarithmic time otherwise.
-    #[inline(always)]
-    fn place_hinted(&self, at: u32, hint: usize) -> Option<usize>
-        requires rising { IsStrictlyIncreasing (map (λ call. call.asked) self.now) }
-        ensures found { IfSome result (λ place. (call : PlainCall) × (slice_get self.now place ≡ Some call) × (call.asked ≡ at)) }
-        ensures none { IfNone result ((place : ℕ) (call : PlainCall) → slice_get self.now place ≡ Some call → call.asked ≡ at → ⊥) }
-    {
-        match self.rows.get(hint) {
-            Some(row) if row.asked == at => Some(hint),
-            _ => self.place_of(at),
-        }
-    }
-
-    /// Notes the answer of this number to the call at a place, which waits for it, with both messages.
-    ///
-    /// Takes no memory, in constant time.
-    #[inline(always)]
-    pub(crate) fn answer(
-        &mut self,
-        place: usize,
-        messages: CallMessages<'a>,
-        at: u32,
-        given: GivenNames,
-        opens: bool,
-    )
-        requires waits { (asked : ℕ) × (call : PlainCall) × WaitsAt self.old asked place call }
-        requires rising { IsStrictlyIncreasing (map (λ call. call.asked) self.old) }
-        ensures { (asked : ℕ) (call : PlainCall) → WaitsAt self.old asked place call
-            → self.new ≡ with_answer self.old asked messages.entry.said.0 (record { at = at; given = given_names_shown given; opens = opens }) }
-    {
-        self.rows[place].note_answer(messages, at, given, opens);
+        CallList { book }
     }
 
     /// How many calls there are.
@@ -113,7 +43,7 @@ impl<'a> CallList<'a> {
     pub fn len(&self) -> usize
         ensures { result ≡ length self.now }
     {
-        self.rows.len()
+        self.book.len()
     }
 
     /// The call at this place, if there is one.
@@ -123,8 +53,9 @@ impl<'a> CallList<'a> {
     pub fn get(&self, place: usize) -> Option<Call<'_>>
         ensures { option_map call_shown result ≡ slice_get self.now place }
     {
-        let row = self.rows.get(place)?;
-        Some(row.call())
+        let book = &self.book;
+        let row = book.rows.get(place)?;
+        Some(row.call(&book.aside))
     }
 
     /// The call at this place, which is below [`len`](CallList::len).
@@ -135,16 +66,18 @@ impl<'a> CallList<'a> {
         requires { place < length self.now }
         ensures { slice_get self.now place ≡ Some (call_shown result) }
     {
-        self.rows[place].call()
+        let book = &self.book;
+        book.rows[place].call(&book.aside)
     }
 
     /// The place of the call of this message number, if there is one. Where the numbers rise, None says that there is none.
     ///
     /// Takes no memory, in logarithmic time.
+    #[inline(always)]
     pub(crate) fn place_of(&self, at: u32) -> Option<usize>
         ensures found { IfSome result (λ place. (call : PlainCall) × (slice_get self.now place ≡ Some call) × (call.asked ≡ at)) }
         ensures none { IsStrictlyIncreasing (map (λ call. call.asked) self.now) → IfNone result ((place : ℕ) (call : PlainCall) → slice_get self.now place ≡ Some call → call.asked ≡ at → ⊥) }
     {
-        self.rows.binary_search_by_key(&at, |row| row.asked).ok()
+        self.book.place_of(at)
     }
 }

@@ -59,13 +59,13 @@ impl Handles {
         ensures wanted { OnErr result (IsTrue (opens_new self.old.opened.entries opened.now)) }
     {
         match opened {
-            Some((key, _)) => self.reserve_for(*key),
+            Some((key, _)) => self.reserve_key(*key),
             None => Ok(()),
         }
     }
 
-    /// Makes room for a key, if it is not open.
-    fn reserve_for(&mut self, key: Key) -> Result<(), AllocError>
+    /// Makes room for a key, if it is not open. The key comes by value, so that its caller's need not lie in memory.
+    fn reserve_key(&mut self, key: Key) -> Result<(), AllocError>
         ensures kept { IsUnchanged self.old.opened self.new.opened }
         ensures room { OnOk result (IsTrue (is_none (get key_eq self.old.opened key)) → 0 < spare self.new.opened) }
         ensures wanted { OnErr result (IsTrue (is_none (get key_eq self.old.opened key))) }

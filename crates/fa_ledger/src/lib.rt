@@ -4,6 +4,7 @@
 
 mod books;
 mod call;
+mod call_book;
 mod call_list;
 mod calls;
 mod error;

@@ -153,13 +153,13 @@ impl Listings {
         ensures wanted { OnErr result (ListsNew self.old.by_key.entries listed.now) }
     {
         match listed {
-            Some(listed) => self.reserve_for(*listed),
+            Some(listed) => self.reserve_listed(*listed),
             None => Ok(()),
         }
     }
 
-    /// Makes room for what an answer lists, if some offset of it is new.
-    fn reserve_for(&mut self, listed: ListedOn<'_>) -> Result<(), AllocError>
+    /// Makes room for what an answer lists, if some offset of it is new. That comes by value, so that its caller's need not lie in memory.
+    fn reserve_listed(&mut self, listed: ListedOn<'_>) -> Result<(), AllocError>
         ensures same { (other : Key) (offset : ℕ) → place_of self.new.by_key.entries other offset ≡ place_of self.old.by_key.entries other offset }
         ensures room { OnOk result (HasRoomIfNew self.new.by_key (Some listed.entry)) }
         ensures unchanged { OnErr result (listed_shown self.new.by_key.entries ≡ listed_shown self.old.by_key.entries) }

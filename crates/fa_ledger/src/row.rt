@@ -1,15 +1,18 @@
 //! A call as the list of the calls keeps it.
 
-ghost use Rattle.std.specs.Prelude.{◌≡◌, ◌≢◌, None, Some, IfSome, IfNone, option_map};
+ghost use Rattle.std.specs.Prelude.{◌≡◌, ◌≢◌, ◌<◌, ◌++◌, List, None, Some, IfSome, IfNone, IfOk, OnErr, length, option_map, vec_len, vec_capacity, Vec};
+ghost use Rattle.std.specs.declared.alloc.Global.{Global};
 ghost use Rattle.fa_ledger.specs.Calls.{answer_shown, call_shown, given_shown};
 ghost use Rattle.fa_ledger.specs.parts.CallParts.{waiting_of};
-ghost use Rattle.fa_ledger.specs.parts.RowParts.{row_shown, other_kept, listing_kept, handle_kept, names_kept, answer_kept, AreNotBoth};
-ghost use Rattle.fa_ledger.specs.parts.Steps.{answered_by, given_names_shown};
+ghost use Rattle.fa_ledger.specs.declared.name.NodeName.{NodeName};
+ghost use Rattle.fa_ledger.specs.parts.RowParts.{row_shown, other_kept, listing_kept, handle_kept, names_kept, answer_kept, beside_at, beside_kept, beside_place, gives_kept, node_kept, AreNotBoth, IsAmong, IsPlaceIn};
+ghost use Rattle.fa_ledger.specs.parts.Steps.{answered_by, given_names_shown, IsSeveral};
 
 use crate::call::{Answer, Call, GivenNodes, Listing};
 use crate::giving::GivenNames;
 use crate::messages::CallMessages;
 use crate::name::NodeName;
+use std::alloc::{AllocError, Global};
 use std::mem::size_of;
 
 /// What a request says beside the node that it is on: another node, or what it goes on from if it lists. None says both.
@@ -41,7 +44,7 @@ pub(crate) enum Beside {
 impl Beside {
     /// The other node or the listing, whichever there is.
     #[inline(always)]
-    fn new(other: Option<NodeName>, listing: Option<Listing>) -> Self
+    pub fn new(other: Option<NodeName>, listing: Option<Listing>) -> Self
         requires { AreNotBoth other listing }
         ensures other { other_kept result ≡ other }
         ensures listing { listing_kept result ≡ listing }
@@ -52,6 +55,24 @@ impl Beside {
             (None, Some(listing)) => Self::listed(listing),
             (None, None) => Beside::Nothing,
         }
+    }
+
+    /// Puts it behind those of other requests, if there is one: the place that it has there.
+    #[inline(always)]
+    pub fn put_in(self, besides: &mut Vec<Beside>) -> Result<Option<u32>, AllocError>
+        ensures there { IfOk result (λ place. beside_at besides.new.items place ≡ self) }
+        ensures within { IfOk result (λ place. IsPlaceIn (length besides.new.items) place) }
+        ensures kept { IfOk result (λ place. (more : List Beside) × (besides.new.items ≡ besides.old.items ++ more)) }
+        ensures unchanged { OnErr result (besides.new.items ≡ besides.old.items) }
+    {
+        if matches!(self, Beside::Nothing) {
+            return Ok(None);
+        }
+        let Ok(place) = u32::try_from(besides.len()) else {
+            return Err(AllocError);
+        };
+        besides.push(self)?;
+        Ok(Some(place))
     }
 
     /// What a listing goes on from.
@@ -115,7 +136,7 @@ impl Beside {
 }
 
 /// The nodes that an answer gives.
-#[derive(Drop)]
+#[derive(Clone, Copy, Debug)]
 pub(crate) enum Gives {
     /// None.
     Nothing,
@@ -123,36 +144,55 @@ pub(crate) enum Gives {
     Root,
     /// One that was given.
     Node { by: u32, id: u64 },
-    /// Those of a listing, behind one pointer, so that a row keeps them in 8 bytes.
-    Several(Box<Vec<NodeName>>),
+    /// Those of a listing, by the place of their names among such lists.
+    Several { place: u64 },
 }
 
 impl Gives {
-    /// Those that have these names.
+    /// Those that have these names. Those of a listing become the last of such lists.
     #[inline(always)]
-    fn new(given: GivenNames) -> Self
-        ensures { names_kept result ≡ given_names_shown given }
+    pub fn new(given: GivenNames, listed: &mut Vec<Vec<NodeName>>) -> Self
+        requires { IsSeveral given → vec_len listed.old < vec_capacity listed.old }
+        ensures given { names_kept listed.new.items result ≡ given_names_shown given }
+        ensures among { IsAmong (length listed.new.items) result }
+        ensures kept { (more : List (Vec NodeName Global)) × (listed.new.items ≡ listed.old.items ++ more) }
     {
         match given {
             GivenNames::Nothing => Gives::Nothing,
             GivenNames::One(NodeName::Root) => Gives::Root,
             GivenNames::One(NodeName::Given { by, id }) => Gives::Node { by, id },
-            GivenNames::Several(names) => Gives::Several(names),
+            GivenNames::Several(names) => {
+                let place = listed.len() as u64;
+                listed.push_reserved(Box::into_inner(names));
+                Gives::Several { place }
+            }
         }
     }
 
-    /// Their names.
+    /// Their names, where those of listings are these.
     #[inline(always)]
-    fn names(&self) -> GivenNodes<'_>
-        ensures { given_shown result ≡ names_kept self.now }
+    fn names(self, listed: &[Vec<NodeName>]) -> GivenNodes<'_>
+        ensures { given_shown result ≡ names_kept listed.now self }
     {
         match self {
             Gives::Nothing => GivenNodes::Nothing,
             Gives::Root => GivenNodes::One(NodeName::Root),
-            Gives::Node { by, id } => GivenNodes::One(NodeName::Given { by: *by, id: *id }),
-            Gives::Several(names) => GivenNodes::Several(names),
+            Gives::Node { by, id } => GivenNodes::One(NodeName::Given { by, id }),
+            Gives::Several { place } => match listed.get(place as usize) {
+                Some(names) => GivenNodes::Several(names),
+                None => GivenNodes::Nothing,
+            },
         }
     }
+}
+
+/// How many nodes an answer gives, and which.
+#[derive(Clone, Copy, Debug)]
+pub(crate) enum GivesKind {
+    Nothing,
+    Root,
+    Node,
+    Several,
 }
 
 /// Whether there is an answer, and whether it opens a file handle that was not open.
@@ -174,63 +214,97 @@ pub(crate) struct WaitingCall {
     pub adrift: bool,
 }
 
-/// A call in 96 bytes: what it holds stands so that no gap is left.
+/// What only some calls have, beside their rows.
 #[derive(Drop)]
+pub(crate) struct Aside {
+    /// The other node or the listing of each request that has one.
+    pub besides: Vec<Beside>,
+    /// The names of the nodes that an answer gives, of each that gives several.
+    pub listed: Vec<Vec<NodeName>>,
+}
+
+/// A call in 80 bytes: what it holds stands in parts, so that no gap is left. It is plain data, with nothing to give back.
+#[derive(Clone, Copy, Debug)]
 pub(crate) struct Row<'a> {
     pub messages: CallMessages<'a>,
-    pub node: NodeName,
-    pub beside: Beside,
-    pub gives: Gives,
+    /// The id of the node, where that is not the root.
+    pub node_id: u64,
+    /// The id of the node that is given, or the place of the names of several.
+    pub given: u64,
+    /// Which reply gave the node, where that is not the root.
+    pub node_by: u32,
+    /// Which reply gave the node that is given.
+    pub given_by: u32,
     pub asked: u32,
     /// The number of the answer's message, if there is an answer.
     pub answered_at: u32,
     /// The file handle that it uses, if it uses one.
     pub handle: u32,
+    /// The place of its other node or listing, if it has one.
+    pub beside: u32,
+    pub is_on_root: bool,
     pub has_handle: bool,
+    pub has_beside: bool,
     pub direct: bool,
     pub truncates: bool,
+    pub gives: GivesKind,
     pub answered: AnswerKind,
 }
 
-const _: () = prove!(size_of::<Row<'static>>() <= 96);
+const _: () = prove!(size_of::<Row<'static>>() <= 80);
 
 impl<'a> Row<'a> {
-    /// That of a call without an answer.
+    /// That of a call without an answer, whose other node or listing has this place.
     #[inline(always)]
-    pub fn waiting(call: Call<'a>) -> Self
+    pub fn waiting(call: Call<'a>, beside: Option<u32>) -> Self
         requires waits { call.answer ≡ None }
-        requires apart { AreNotBoth call.other call.listing }
-        ensures { row_shown result ≡ call_shown call.entry }
+        ensures shown { (aside : Aside) → other_kept (beside_at aside.besides.items beside) ≡ call.entry.other → listing_kept (beside_at aside.besides.items beside) ≡ call.entry.listing
+            → row_shown aside result ≡ call_shown call.entry }
+        ensures beside { beside_place result ≡ beside }
+        ensures gives { gives_kept result ≡ Gives.Nothing }
     {
+        let (is_on_root, node_by, node_id) = match call.node {
+            NodeName::Root => (true, 0, 0),
+            NodeName::Given { by, id } => (false, by, id),
+        };
         Row {
             messages: call.messages,
-            node: call.node,
-            beside: Beside::new(call.other, call.listing),
-            gives: Gives::Nothing,
+            node_id,
+            given: 0,
+            node_by,
+            given_by: 0,
             asked: call.asked,
             answered_at: 0,
             handle: call.handle.unwrap_or(0),
+            beside: beside.unwrap_or(0),
+            is_on_root,
             has_handle: call.handle.is_some(),
+            has_beside: beside.is_some(),
             direct: call.direct,
             truncates: call.truncates,
+            gives: GivesKind::Nothing,
             answered: AnswerKind::Missing,
         }
     }
 
     /// Notes the answer with both messages: its number, the nodes that it gives, and whether it opens a handle.
     #[inline(always)]
-    pub fn note_answer(
-        &mut self,
-        messages: CallMessages<'a>,
-        at: u32,
-        given: GivenNames,
-        opens: bool,
-    )
-        ensures { row_shown self.new ≡ answered_by messages.entry.said.0 (record { at = at; given = given_names_shown given; opens = opens }) (row_shown self.old) }
+    pub fn note_answer(&mut self, messages: CallMessages<'a>, at: u32, gives: Gives, opens: bool)
+        ensures shown { (aside : Aside) → row_shown aside self.new ≡ answered_by messages.entry.said.0 (record { at = at; given = names_kept aside.listed.items gives; opens = opens }) (row_shown aside self.old) }
+        ensures beside { beside_place self.new ≡ beside_place self.old }
+        ensures gives { gives_kept self.new ≡ gives }
     {
+        let (kind, given_by, given) = match gives {
+            Gives::Nothing => (GivesKind::Nothing, 0, 0),
+            Gives::Root => (GivesKind::Root, 0, 0),
+            Gives::Node { by, id } => (GivesKind::Node, by, id),
+            Gives::Several { place } => (GivesKind::Several, 0, place),
+        };
         self.messages = messages;
+        self.given = given;
+        self.given_by = given_by;
         self.answered_at = at;
-        self.gives = Gives::new(given);
+        self.gives = kind;
         self.answered = if opens {
             AnswerKind::Opening
         } else {
@@ -238,38 +312,70 @@ impl<'a> Row<'a> {
         };
     }
 
-    /// What it is.
+    /// What it is, where these stand beside the rows.
     #[inline(always)]
-    pub fn call(&self) -> Call<'_>
-        ensures { call_shown result ≡ row_shown self.now }
+    pub fn call<'x>(&'x self, aside: &'x Aside) -> Call<'x>
+        ensures { call_shown result ≡ row_shown aside.now self.now }
     {
+        let beside = self.beside(aside);
         Call {
             asked: self.asked,
             messages: self.messages,
-            node: self.node,
-            other: self.beside.other(),
+            node: self.node(),
+            other: beside.other(),
             handle: self.handle(),
             direct: self.direct,
             truncates: self.truncates,
-            listing: self.beside.listing(),
-            answer: self.answer(),
+            listing: beside.listing(),
+            answer: self.answer(aside),
         }
     }
 
     /// What is known of it, if it waits for its answer.
     #[inline(always)]
-    pub fn waiting_call(&self) -> Option<WaitingCall>
-        ensures known { IfSome result (λ waiting. waiting ≡ waiting_of (row_shown self.now)) }
-        ensures unanswered { IfSome result (λ waiting. answer_kept self.now ≡ None) }
-        ensures none { IfNone result (answer_kept self.now ≢ None) }
+    pub fn waiting_call(&self, aside: &Aside) -> Option<WaitingCall>
+        ensures known { IfSome result (λ waiting. waiting ≡ waiting_of (row_shown aside.now self.now)) }
+        ensures unanswered { IfSome result (λ waiting. answer_kept aside.now self.now ≡ None) }
+        ensures none { IfNone result (answer_kept aside.now self.now ≢ None) }
     {
         match self.answered {
             AnswerKind::Missing => Some(WaitingCall {
-                node: self.node,
+                node: self.node(),
                 handle: self.handle(),
-                adrift: self.beside.listing().is_some_and(|listing| listing.adrift),
+                adrift: self
+                    .beside(aside)
+                    .listing()
+                    .is_some_and(|listing| listing.adrift),
             }),
             AnswerKind::Plain | AnswerKind::Opening => None,
+        }
+    }
+
+    /// The node that it is on, by name.
+    #[inline(always)]
+    fn node(&self) -> NodeName
+        ensures { result ≡ node_kept self.now }
+    {
+        if self.is_on_root {
+            return NodeName::Root;
+        }
+        NodeName::Given {
+            by: self.node_by,
+            id: self.node_id,
+        }
+    }
+
+    /// The other node or the listing, where these stand beside the rows.
+    #[inline(always)]
+    fn beside(&self, aside: &Aside) -> Beside
+        ensures { result ≡ beside_kept aside.now self.now }
+    {
+        if !self.has_beside {
+            return Beside::Nothing;
+        }
+        match aside.besides.get(self.beside as usize) {
+            Some(beside) => *beside,
+            None => Beside::Nothing,
         }
     }
 
@@ -281,10 +387,26 @@ impl<'a> Row<'a> {
         self.has_handle.then_some(self.handle)
     }
 
-    /// Its answer, if it has one.
+    /// The nodes that its answer gives.
     #[inline(always)]
-    fn answer(&self) -> Option<Answer<'_>>
-        ensures { option_map answer_shown result ≡ answer_kept self.now }
+    fn gives(&self) -> Gives
+        ensures { result ≡ gives_kept self.now }
+    {
+        match self.gives {
+            GivesKind::Nothing => Gives::Nothing,
+            GivesKind::Root => Gives::Root,
+            GivesKind::Node => Gives::Node {
+                by: self.given_by,
+                id: self.given,
+            },
+            GivesKind::Several => Gives::Several { place: self.given },
+        }
+    }
+
+    /// Its answer, if it has one, where these stand beside the rows.
+    #[inline(always)]
+    fn answer<'x>(&self, aside: &'x Aside) -> Option<Answer<'x>>
+        ensures { option_map answer_shown result ≡ answer_kept aside.now self.now }
     {
         let opens = match self.answered {
             AnswerKind::Missing => return None,
@@ -293,7 +415,7 @@ impl<'a> Row<'a> {
         };
         Some(Answer {
             at: self.answered_at,
-            given: self.gives.names(),
+            given: self.gives().names(&aside.listed),
             opens,
         })
     }

@@ -18,7 +18,7 @@ pub record BooksShow (es : List PlainEvent) (b : Books) : Type 0 where
   pub nodes : NodesShow es b.tables.nodes.known.entries
   pub keys : KeysShow es b.tables.handles.opened.entries
   pub places : ArePlaces es (place_of b.listings.by_key.entries)
-  pub calls : AreCallsOf es b.calls
+  pub calls : AreCallsOf es b.calls.calls
 
 -- The books show these events of these messages, and this one is that of the next message.
 pub record Stands (c : List Message) (m : Message) (es : List PlainEvent) (e : PlainEvent) (b : Books) : Type 0 where
@@ -45,4 +45,4 @@ pub record AreSame (old new : Books) : Type 0 where
   pub nodes : (node : ℕ) → lookup (nat_eq node) new.tables.nodes.known.entries ≡ lookup (nat_eq node) old.tables.nodes.known.entries
   pub keys : new.tables.handles.opened.entries ≡ old.tables.handles.opened.entries
   pub listed : listed_shown new.listings.by_key.entries ≡ listed_shown old.listings.by_key.entries
-  pub calls : new.calls ≡ old.calls
+  pub calls : new.calls.calls ≡ old.calls.calls

@@ -1,5 +1,7 @@
 -- A call as the list of the calls keeps it.
-use Rattle.std.specs.Prelude.{ℕ, true, false, if◌then◌else◌, List, [], ◌∷◌, Option, None, Some}
+use Rattle.std.specs.Prelude.{ℕ, ◌<◌, true, false, if◌then◌else◌, List, [], ◌∷◌, length, slice_get, Option, None, Some, Vec}
+use Rattle.std.specs.declared.alloc.Global.{Global}
+use Rattle.std.specs.Option.{option_map_or}
 use Rattle.fa_ledger.specs.declared.call.Listing.{Listing}
 use Rattle.fa_ledger.specs.declared.name.NodeName.{NodeName}
 use Rattle.fa_ledger.specs.declared.name.NodeName.TheVariants.{Root, Given}
@@ -9,6 +11,9 @@ use Rattle.fa_ledger.specs.declared.row.Beside.{Beside}
 use Rattle.fa_ledger.specs.declared.row.Beside.TheVariants as beside
 use Rattle.fa_ledger.specs.declared.row.Gives.{Gives}
 use Rattle.fa_ledger.specs.declared.row.Gives.TheVariants as gives
+use Rattle.fa_ledger.specs.declared.row.GivesKind.{GivesKind}
+use Rattle.fa_ledger.specs.declared.row.GivesKind.TheVariants as kind
+use Rattle.fa_ledger.specs.declared.row.Aside.{Aside}
 use Rattle.fa_ledger.specs.declared.row.Row.{Row}
 use Rattle.fa_ledger.specs.Calls.{PlainAnswer, PlainCall}
 
@@ -28,12 +33,53 @@ listing_kept (beside.Node by id) = None
 listing_kept (beside.Lists adrift shared) = Some (record { before = None; adrift = adrift; shared = shared })
 listing_kept (beside.GoesOn adrift shared asked count) = Some (record { before = Some (asked, count); adrift = adrift; shared = shared })
 
--- the names of the nodes that an answer gives
-abbrev pub names_kept : Gives → List NodeName
-names_kept (gives.Nothing) = []
-names_kept (gives.Root) = Root ∷ []
-names_kept (gives.Node by id) = Given by id ∷ []
-names_kept (gives.Several names) = names.value.items
+-- the names of the nodes that an answer gives, where those of listings are these
+abbrev pub names_kept : List (Vec NodeName Global) → Gives → List NodeName
+names_kept listed (gives.Nothing) = []
+names_kept listed (gives.Root) = Root ∷ []
+names_kept listed (gives.Node by id) = Given by id ∷ []
+names_kept listed (gives.Several place) = option_map_or (λ (names : Vec NodeName Global). names.items) (slice_get listed place) []
+
+-- if they are those of a listing, they stand among so many
+abbrev pub IsAmong : ℕ → Gives → Type 0
+IsAmong count (gives.Several place) = place < count
+IsAmong count other = Unit {0}
+
+-- a place, if there is one, is one of so many
+abbrev pub IsPlaceIn : ℕ → Option ℕ → Type 0
+IsPlaceIn count None = Unit {0}
+IsPlaceIn count (Some place) = place < count
+
+-- the node that it is on, by name
+abbrev pub node_kept : Row → NodeName
+node_kept row = (if row.is_on_root then Root else Given row.node_by row.node_id)
+
+-- the place of its other node or listing, if it has one
+abbrev pub beside_place : Row → Option ℕ
+beside_place row = (if row.has_beside then Some row.beside else None)
+
+-- what stands at a place, if there is one
+abbrev pub beside_at : List Beside → Option ℕ → Beside
+beside_at besides None = beside.Nothing
+beside_at besides (Some place) = option_map_or (λ (found : Beside). found) (slice_get besides place) beside.Nothing
+
+-- the other node or the listing
+abbrev pub beside_kept : Aside → Row → Beside
+beside_kept aside row = beside_at aside.besides.items (beside_place row)
+
+-- which nodes its answer gives
+abbrev pub given_by : GivesKind → (by given : ℕ) → Gives
+given_by (kind.Nothing) by given = gives.Nothing
+given_by (kind.Root) by given = gives.Root
+given_by (kind.Node) by given = gives.Node by given
+given_by (kind.Several) by given = gives.Several given
+
+abbrev pub gives_kept : Row → Gives
+gives_kept row = given_by row.gives row.given_by row.given
+
+-- what stands beside rows has the places of this one
+abbrev pub StandsIn : Aside → Row → Type 0
+StandsIn aside row = IsPlaceIn (length aside.besides.items) (beside_place row) × IsAmong (length aside.listed.items) (gives_kept row)
 
 -- the file handle that it uses, if any
 abbrev pub handle_kept : Row → Option ℕ
@@ -45,21 +91,21 @@ answer_by Missing at given = None
 answer_by Plain at given = Some (record { at = at; given = given; opens = false })
 answer_by Opening at given = Some (record { at = at; given = given; opens = true })
 
-abbrev pub answer_kept : Row → Option PlainAnswer
-answer_kept row = answer_by row.answered row.answered_at (names_kept row.gives)
+abbrev pub answer_kept : Aside → Row → Option PlainAnswer
+answer_kept aside row = answer_by row.answered row.answered_at (names_kept aside.listed.items (gives_kept row))
 
 -- what it shows
-abbrev pub row_shown : Row → PlainCall
-row_shown row = record {
+abbrev pub row_shown : Aside → Row → PlainCall
+row_shown aside row = record {
   asked = row.asked;
   operation = row.messages.said.0;
-  node = row.node;
-  other = other_kept row.beside;
+  node = node_kept row;
+  other = other_kept (beside_kept aside row);
   handle = handle_kept row;
   direct = row.direct;
   truncates = row.truncates;
-  listing = listing_kept row.beside;
-  answer = answer_kept row;
+  listing = listing_kept (beside_kept aside row);
+  answer = answer_kept aside row;
 }
 
 -- there is no other node, or no listing

@@ -40,6 +40,11 @@ given_names_shown Nothing = []
 given_names_shown (One name) = name ∷ []
 given_names_shown (Several names) = names.value.items
 
+-- they are those of a listing, in a list of their own
+abbrev pub IsSeveral : GivenNames → Type 0
+IsSeveral (Several names) = Unit {0}
+IsSeveral other = ⊥
+
 -- the key that CREATE opens, and how, where the reply gives these
 abbrev pub created_with : PlainBody → PlainReply → List NodeName → Option (Key × OpenOut)
 created_with (Create flags mode umask name) (Created entry out) (given ∷ []) = Some (record { node = given; fh = out.fh; kind = File }, out)

@@ -21,7 +21,7 @@ ledger_shown s = record {
   nodes = by_id s.books.tables.nodes.known.entries;
   handles = s.books.tables.handles.opened.entries;
   listed = listed_shown s.books.listings.by_key.entries;
-  calls = s.books.calls;
+  calls = s.books.calls.calls;
 }
 
 -- the fields show some messages, which all pass

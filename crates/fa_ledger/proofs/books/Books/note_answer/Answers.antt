@@ -6,7 +6,9 @@ use Rattle.fa_bodies.specs.Requests.{request_shown, body_shown}
 use Rattle.fa_bodies.specs.Replies.{reply_shown}
 use Rattle.fa_ledger.specs.declared.name.NodeName.{NodeName}
 use Rattle.fa_ledger.specs.Keys.{key_eq}
-use Rattle.fa_ledger.specs.parts.Steps.{given_again, times_named, count_left, opened_with, opens_new, some_new, IsOpenedBy, given_names_shown}
+use Rattle.fa_ledger.specs.Calls.{PlainAnswer, PlainCall}
+use Rattle.fa_ledger.specs.parts.CallParts.{WaitsAt}
+use Rattle.fa_ledger.specs.parts.Steps.{with_answer, given_again, times_named, count_left, opened_with, opens_new, some_new, IsOpenedBy, given_names_shown}
 use Rattle.fa_ledger.proofs.OperationLemmas.{operation_asked}
 use Rattle.fa_ledger.proofs.ReplyLemmas.{give_fits, names_more, nodes_more}
 use Rattle.fa_ledger.proofs.ReplyBookLemmas.{operation_there, open_fits, answer_shows, keys_more, listed_more, listed_counted, listed_anew, noted_also}
@@ -16,6 +18,12 @@ pub returns-in_err-given-clause-memory : goal.returns-in_err-given-clause-memory
 returns-in_err-given-clause-memory c =
     let p = err_from_is_err_and c.from_residual.result c.from_residual.ensures.1 in
     rw p.1 (p.2, λ before m es stands. inl (names_more es c.args.at c.args.asked (request_shown c.args.messages.now.to.request) (reply_shown c.args.messages.now.reply) c.in_err-given.ensures.wanted))
+
+pub returns-in_err-reserve_names-clause-memory : goal.returns-in_err-reserve_names-clause-memory
+returns-in_err-reserve_names-clause-memory c =
+    let p = err_from_is_err_and c.from_residual-in_err-reserve_names.result c.from_residual-in_err-reserve_names.ensures.1 in
+    let listed = c.in_ok-given.ensures.several c.in_err-reserve_names.ensures.wanted in
+    rw p.1 (p.2, λ before m es stands. inl (names_more es c.args.at c.args.asked (request_shown c.args.messages.now.to.request) (reply_shown c.args.messages.now.reply) listed))
 
 pub returns-in_err-reserve-clause-memory : goal.returns-in_err-reserve-clause-memory
 returns-in_err-reserve-clause-memory c =
@@ -98,6 +106,7 @@ returns-clause-shows c = λ before m es stands.
     let names : List NodeName = given_names_shown c.in_ok-given.given in
     let same = c.as_slice-names.ensures in
     let which = c.opened-opened.result in
+    let answer : PlainAnswer = record { at = c.args.at; given = names; opens = c.note_opened-opens.result } in
     answer_shows before m es c.args.at c.args.asked (request_shown c.args.messages.now.to.request) (reply_shown c.args.messages.now.reply) c.args.self.now _ names which c.note_opened-opens.result c.answered-both.result.said.0 (record {
       stands = stands;
       may = c.requires.allowed;
@@ -117,4 +126,5 @@ returns-clause-shows c = λ before m es stands.
     (subst (λ opened. IsOpenedBy c.args.asked which opened c.note_opened-opens.new.self.opened.entries) c.in_ok-reserve-2.ensures.kept c.note_opened-opens.ensures.noted)
     c.listed-listed.result c.listed-listed.ensures
     (noted_also c.args.asked c.listed-listed.result _ _ _ c.in_ok-reserve-3.ensures.same c.note.ensures)
-    (c.answer.ensures c.args.asked c.requires.waits.0 c.requires.waits.1)
+    (c.answer.ensures c.args.asked c.requires.waits.0 (subst (λ (calls : List PlainCall). WaitsAt calls c.args.asked c.args.place c.requires.waits.0) (sym c.in_ok-reserve_names.ensures.same) c.requires.waits.1)
+    ∙ ap (λ (calls : List PlainCall). with_answer calls c.args.asked c.answered-both.result.said.0 answer) c.in_ok-reserve_names.ensures.same)
