@@ -108,12 +108,12 @@ pub record HasMore (old new : Aside) : Type 0 where
   pub listed : (more : List (Vec NodeName Global)) × (new.listed.items ≡ old.listed.items ++ more)
 
 -- what names an answer gives stays so where those of more listings come behind these
-names_stay : (listed more : List (Vec NodeName Global)) (gives : Gives) → IsAmong (length listed) gives → names_kept (listed ++ more) gives ≡ names_kept listed gives
-names_stay listed more (gives.Several place) among =
+names_stay : (reply : List ℕ) (listed more : List (Vec NodeName Global)) (gives : Gives) → IsAmong (length listed) gives → names_kept reply (listed ++ more) gives ≡ names_kept reply listed gives
+names_stay reply listed more (gives.Several place) among =
     let one = element_at listed place among in
     let names : Vec NodeName Global → List NodeName = λ v. v.items in
     ap (λ found. option_map_or names found []) (get_kept listed more place one.0 one.1) ∙ sym (ap (λ found. option_map_or names found []) one.1)
-names_stay listed more other among = refl
+names_stay reply listed more other among = refl
 
 -- and so does the other node or the listing
 beside_stays : (besides more : List Beside) (place : Option ℕ) → IsPlaceIn (length besides) place → beside_at (besides ++ more) place ≡ beside_at besides place
@@ -126,8 +126,9 @@ beside_stays besides more (Some place) within =
 -- and what the row shows
 row_stays : (old new : Aside) (row : Row) → HasMore old new → StandsIn old row → row_shown new row ≡ row_shown old row
 row_stays old new row more stands =
-    let names : names_kept new.listed.items (gives_kept row) ≡ names_kept old.listed.items (gives_kept row) =
-    rw more.listed.1 (names_stay old.listed.items more.listed.0 (gives_kept row) stands.1) in
+    let reply = row.messages.reply.now in
+    let names : names_kept reply new.listed.items (gives_kept row) ≡ names_kept reply old.listed.items (gives_kept row) =
+    rw more.listed.1 (names_stay reply old.listed.items more.listed.0 (gives_kept row) stands.1) in
     let besides : beside_kept new row ≡ beside_kept old row =
     rw more.besides.1 (beside_stays old.besides.items more.besides.0 (beside_place row) stands.0) in
     rw (names, besides) refl

@@ -7,6 +7,7 @@ pub mod EventLemmas
 pub mod ListedLemmas
 pub mod CallLemmas
 pub mod FrontLemmas
+pub mod IdLemmas
 pub mod KeyLemmas
 pub mod NamingLemmas
 pub mod NodeLemmas

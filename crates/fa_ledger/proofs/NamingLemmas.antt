@@ -76,7 +76,7 @@ tree_answer c es are p q at asked request reply stands tree =
 -- ---- nodes
 
 -- a name that is not the root's has the id of its node
-not_root_named : (es : List PlainEvent) (node id g : ℕ) → name_at es node ≡ Some (Given g id) → (node ≢ ROOT_ID) × (id ≡ node)
+pub not_root_named : (es : List PlainEvent) (node id g : ℕ) → name_at es node ≡ Some (Given g id) → (node ≢ ROOT_ID) × (id ≡ node)
 not_root_named es node id g is = by (node == ROOT_ID) refl is
   where
     same : (t : Option ℕ) → option_map (λ h. Given h node) t ≡ Some (Given g id) → id ≡ node

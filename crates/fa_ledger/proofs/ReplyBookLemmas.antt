@@ -7,7 +7,8 @@ use Rattle.fa_capture.specs.Message.{Message}
 use Rattle.fa_bodies.specs.declared.handles.OpenOut.{OpenOut}
 use Rattle.fa_bodies.specs.FlagBits.{atomic_o_trunc}
 use Rattle.fa_bodies.specs.Listing.{entries_left}
-use Rattle.fa_bodies.specs.Requests.{PlainRequest}
+use Rattle.std.proofs.lemmas.Option.{same_Some}
+use Rattle.fa_bodies.specs.Requests.{PlainRequest, IsRequest}
 use Rattle.fa_bodies.specs.Replies.{PlainReply}
 use Rattle.fa_session.specs.Events.{PlainEvent, IsEvent}
 use Rattle.fa_session.specs.Events.PlainEvent.{Answered}
@@ -35,11 +36,13 @@ use Rattle.fa_ledger.specs.Shows.{IsNodeOf, IsKeyOf, ArePlaces}
 use Rattle.fa_ledger.specs.Refusals.{GivesMore, IsMoreKept}
 use Rattle.fa_ledger.specs.parts.Steps.{given_to, given_again, times_named, opened_with, opens_new, with_answer, IsOpenedBy, SettlesTruncation}
 use Rattle.fa_ledger.specs.parts.CallParts.{WaitsAt, waiting_of}
+use Rattle.fa_ledger.specs.parts.Ids.{IsIdIn}
 use Rattle.fa_ledger.specs.parts.ListingParts.{place_of, noted, ListsNew, ListsStillIfAny, IsNotedBy}
 use Rattle.fa_ledger.specs.Listings.{count_to}
 use Rattle.fa_ledger.specs.parts.TableParts.{IsAnsweredRefusal}
 use Rattle.fa_ledger.specs.parts.BookParts.{BooksShow, Stands}
 use Rattle.fa_ledger.specs.Operations.{PlainOperation, operation_of}
+use Rattle.fa_ledger.proofs.IdLemmas.{name_there}
 use Rattle.fa_ledger.proofs.OperationLemmas.{reply_done}
 use Rattle.fa_ledger.proofs.CallStepLemmas.{calls_kept, calls_answered, call_waits, waiting_call}
 use Rattle.fa_ledger.proofs.KeyLemmas.{openings_few, key_unmoved, none_unopened}
@@ -103,6 +106,14 @@ module _ (c : List Message) (m : Message) (es : List PlainEvent) (at asked : ℕ
       let w = call_waits c m es stands.are at asked r reply stands.event old.calls.calls stands.shown.calls place call waits.there waits.numbered in
       let done = reply_done r m.bytes reply stands.event.2 w.1.tree in
       (done.0, done.1)
+
+  -- the request has the id of the name that the call's node has
+  pub asked_there : Stands c m es (Answered at asked r reply) old → (place : ℕ) (call : PlainCall) → WaitsAt old.calls.calls asked place call
+      → (bytes : List ℕ) → ∥ IsRequest bytes r ∥₁ → (n : ℕ) (other : PlainCall) → WaitsAt old.calls.calls n place other → IsIdIn bytes other.node
+  asked_there stands place call waits bytes is n other there =
+      let w = call_waits c m es stands.are at asked r reply stands.event old.calls.calls stands.shown.calls place call waits.there waits.numbered in
+      let same : call ≡ other = same_Some call other (sym waits.there ∙ there.there) in
+      subst (λ (x : PlainCall). IsIdIn bytes x.node) same (name_there bytes r (take asked es) call.node is w.1.node)
 
   -- the event's place
   event_place : Stands c m es (Answered at asked r reply) old → at ≡ length es

@@ -4,9 +4,11 @@
 pub mod Steps
 -- that what two messages say is one operation
 pub mod SaidLaws
--- a call as their list keeps it
+-- where messages have the ids of nodes
+pub mod Ids
+-- a call as the book of the calls keeps it
 pub mod RowParts
--- the list of the calls, and what is kept of them
+-- the book and the list of the calls, and what is kept of them
 pub mod CallsKept
 pub mod CallParts
 -- the table of the offsets that were reached

@@ -1,10 +1,11 @@
-//! The calls so far, with the names that their answers give.
+//! The calls so far: a row of each, and what only some have.
 
 ghost use Rattle.std.specs.Prelude.{◌≡◌, ◌<◌, ℕ, [], ◌∷◌, ◌++◌, length, map, slice_get, Some, None, OnOk, OnErr, IfSome, IfNone};
 ghost use Rattle.std.specs.List.Sorted.{IsStrictlyIncreasing};
 ghost use Rattle.fa_ledger.specs.Calls.{PlainCall, call_shown};
 ghost use Rattle.fa_ledger.specs.parts.CallParts.{WaitsAt, waiting_of};
 ghost use Rattle.fa_ledger.specs.parts.RowParts.{AreNotBoth};
+ghost use Rattle.fa_ledger.specs.parts.Ids.{IsGivenIn, IsIdIn};
 ghost use Rattle.fa_ledger.specs.parts.Steps.{given_names_shown, with_answer, IsSeveral};
 
 use crate::call::Call;
@@ -51,9 +52,12 @@ impl<'a> CallBook<'a> {
     }
 
     /// Adds a call that waits for its answer.
+    ///
+    /// Takes memory for a row, and for the other node or the listing if there is one. In constant time but for growing.
     #[inline(always)]
     pub fn push(&mut self, call: Call<'a>) -> Result<(), AllocError>
         requires waits { call.answer ≡ None }
+        requires named { IsIdIn call.messages.request.now call.node }
         requires apart { AreNotBoth call.other call.listing }
         ensures pushed { OnOk result (self.new.calls ≡ self.old.calls ++ call_shown call.entry ∷ []) }
         ensures unchanged { OnErr result (self.new.calls ≡ self.old.calls) }
@@ -101,7 +105,13 @@ impl<'a> CallBook<'a> {
         ensures wanted { OnErr result (IsSeveral given.now) }
     {
         match given {
-            GivenNames::Several(_) => self.aside.listed.reserve(1),
+            GivenNames::Several(_) => {
+                // Their place is a number of four bytes. There are fewer than 2 ^ 24 messages, so it always is one.
+                if u32::try_from(self.aside.listed.len()).is_err() {
+                    return Err(AllocError);
+                }
+                self.aside.listed.reserve(1)
+            }
             GivenNames::Nothing | GivenNames::One(_) => Ok(()),
         }
     }
@@ -120,6 +130,8 @@ impl<'a> CallBook<'a> {
     )
         requires waits { (asked : ℕ) × (call : PlainCall) × WaitsAt self.old.calls asked place call }
         requires rising { IsStrictlyIncreasing (map (λ call. call.asked) self.old.calls) }
+        requires named { (asked : ℕ) (call : PlainCall) → WaitsAt self.old.calls asked place call → IsIdIn messages.request.now call.node }
+        requires given { IsGivenIn messages.reply.now given }
         requires room { IsSeveral given → 0 < self.old.room }
         ensures { (asked : ℕ) (call : PlainCall) → WaitsAt self.old.calls asked place call
             → self.new.calls ≡ with_answer self.old.calls asked messages.entry.said.0 (record { at = at; given = given_names_shown given; opens = opens }) }

@@ -10,7 +10,7 @@ ghost use Rattle.fa_ledger.specs.Mentions.{node_with};
 ghost use Rattle.fa_ledger.specs.Counts.{nodes_given, nodes_of_entry, nodes_of_listing};
 ghost use Rattle.fa_ledger.specs.Passing.{MayBeGiven};
 ghost use Rattle.std.specs.Option.{option_to_list};
-ghost use Rattle.fa_ledger.specs.parts.Steps.{created_with, opened_with, given_to, SettlesTruncation, IsListedReply, IsSeveral, given_names_shown};
+ghost use Rattle.fa_ledger.specs.parts.Steps.{created_with, opened_with, given_to, SettlesTruncation, IsListedReply, IsOne, IsSeveral, given_names_shown};
 
 use crate::key::{HandleKind, Key};
 use crate::name::NodeName;
@@ -122,6 +122,7 @@ pub(crate) fn names_given(
     reply: &Reply<'_>,
 ) -> Result<GivenNames, AllocError>
     ensures named { IfOk result (λ given. given_names_shown given ≡ map (λ id. given_to id at (get nat_eq nodes.now.known id)) (nodes_given (body_shown body.now) (reply_shown reply.now))) }
+    ensures one { IfOk result (λ given. IsOne given → IsListedReply (reply_shown reply.now) → ⊥) }
     ensures several { IfOk result (λ given. IsSeveral given → IsListedReply (reply_shown reply.now) × (nodes_given (body_shown body.now) (reply_shown reply.now) ≢ [])) }
     ensures wanted { OnErr result (IsListedReply (reply_shown reply.now) × (nodes_given (body_shown body.now) (reply_shown reply.now) ≢ [])) }
 {
@@ -143,6 +144,7 @@ fn names_listed(
     listing: Entries<'_>,
 ) -> Result<GivenNames, AllocError>
     ensures named { IfOk result (λ given. given_names_shown given ≡ map (λ id. given_to id at (get nat_eq nodes.now.known id)) (nodes_of_listing (entries_left listing.entry))) }
+    ensures not_one { IfOk result (λ given. IsOne given → ⊥) }
     ensures several { IfOk result (λ given. IsSeveral given → nodes_of_listing (entries_left listing.entry) ≢ []) }
     ensures wanted { OnErr result (nodes_of_listing (entries_left listing.entry) ≢ []) }
 {

@@ -93,10 +93,10 @@ impl<'a> Ledger<'a> {
     ///
     /// Expected constant time, as of hash tables, for each event, for each item of a BATCH_FORGET and for each entry of a
     /// listing, and for an answer whose event has not the place of its call for a tag ([`next_place`](Ledger::next_place)) a
-    /// logarithm of the calls. It keeps 80 bytes for each tree request, with where its messages lie, and 16 more for one that names
+    /// logarithm of the calls. It keeps 64 bytes for each tree request, with where its messages lie, and 16 more for one that names
     /// another node or lists; an entry for each node that is known, for each key that is open and for each offset that an answer on
-    /// such a key has; all grow by doubling. The names of the nodes that a listing gives take a list of their own. No message bytes
-    /// are copied.
+    /// such a key has; all grow by doubling. The names of the nodes that a READDIRPLUS gives take a list of their own, and an entry that
+    /// tells where it lies. No message bytes are copied.
     #[inline(always)]
     pub fn accept(&mut self, event: &Event<'a>) -> Result<(), LedgerError>
         requires { (c : List Message) × (m : Message) × IsNext c m self.old (event_shown event.now) }

@@ -8,8 +8,10 @@ ghost use Rattle.fa_ledger.specs.declared.operation.Outcome.TheVariants.{Unanswe
 ghost use Rattle.fa_ledger.specs.Operations.{ended, operation_of, operation_shown};
 ghost use Rattle.fa_ledger.specs.Said.{IsReplyIfAny, OperationSaid};
 ghost use Rattle.fa_ledger.specs.parts.SaidLaws.{OperationSaid-prop};
+ghost use Rattle.fa_ledger.specs.parts.Ids.{id_in};
 
 use crate::operation::Operation;
+use byteorder::{ByteOrder, LittleEndian};
 use fa_bodies::{Reply, Request, known_reply, known_request};
 use fa_capture::{Direction, Packet};
 use fa_session::{ReplyMessages, RequestMessage};
@@ -30,7 +32,8 @@ impl<'a> CallMessages<'a> {
     #[inline(always)]
     pub(crate) fn asked(message: &RequestMessage<'a>) -> Self
         requires { IsTreeRequest (body_shown message.now.request.body) }
-        ensures { operation_of (body_shown message.now.request.body) None ≡ Some result.said.0 }
+        ensures said { operation_of (body_shown message.now.request.body) None ≡ Some result.said.0 }
+        ensures request { result.request.now ≡ message.now.bytes.now }
     {
         CallMessages {
             request: message.bytes,
@@ -42,7 +45,9 @@ impl<'a> CallMessages<'a> {
     #[inline(always)]
     pub(crate) fn answered(messages: &ReplyMessages<'a>) -> Self
         requires { IsTreeRequest (body_shown messages.now.to.request.body) }
-        ensures { operation_of (body_shown messages.now.to.request.body) (Some (reply_shown messages.now.reply)) ≡ Some result.said.0 }
+        ensures said { operation_of (body_shown messages.now.to.request.body) (Some (reply_shown messages.now.reply)) ≡ Some result.said.0 }
+        ensures request { result.request.now ≡ messages.now.to.bytes.now }
+        ensures reply { result.reply.now ≡ messages.now.bytes.now }
     {
         CallMessages {
             request: messages.to.bytes,
@@ -71,6 +76,18 @@ impl<'a> CallMessages<'a> {
         let answer = answer_in(&asked, self.reply);
         Operation::of(&asked.body, answer.as_ref()).unwrap()
     }
+}
+
+/// The node id behind the first 16 bytes: that of the node which a request is on (`nodeid` of `struct fuse_in_header`), and of the one which
+/// a reply with an entry gives (`nodeid` of `struct fuse_entry_out`, behind `struct fuse_out_header`).
+#[inline(always)]
+pub(crate) fn id_in(bytes: &[u8]) -> u64
+    ensures { result ≡ id_in bytes.now }
+{
+    if bytes.len() < 24 {
+        return 0;
+    }
+    LittleEndian::read_u64(&bytes[16..24])
 }
 
 /// The request that these bytes are.

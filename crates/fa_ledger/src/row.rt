@@ -1,16 +1,17 @@
-//! A call as the list of the calls keeps it.
+//! A call as the book of the calls keeps it.
 
-ghost use Rattle.std.specs.Prelude.{◌≡◌, ◌≢◌, ◌<◌, ◌++◌, List, None, Some, IfSome, IfNone, IfOk, OnErr, length, option_map, vec_len, vec_capacity, Vec};
+ghost use Rattle.std.specs.Prelude.{◌≡◌, ◌≢◌, ◌<◌, ◌^◌, ℕ, ◌++◌, List, None, Some, IfSome, IfNone, IfOk, OnErr, length, option_map, vec_len, vec_capacity, Vec};
 ghost use Rattle.std.specs.declared.alloc.Global.{Global};
 ghost use Rattle.fa_ledger.specs.Calls.{answer_shown, call_shown, given_shown};
 ghost use Rattle.fa_ledger.specs.parts.CallParts.{waiting_of};
 ghost use Rattle.fa_ledger.specs.declared.name.NodeName.{NodeName};
 ghost use Rattle.fa_ledger.specs.parts.RowParts.{row_shown, other_kept, listing_kept, handle_kept, names_kept, answer_kept, beside_at, beside_kept, beside_place, gives_kept, node_kept, AreNotBoth, IsAmong, IsPlaceIn};
+ghost use Rattle.fa_ledger.specs.parts.Ids.{IsGivenIn, IsIdIn};
 ghost use Rattle.fa_ledger.specs.parts.Steps.{answered_by, given_names_shown, IsSeveral};
 
 use crate::call::{Answer, Call, GivenNodes, Listing};
 use crate::giving::GivenNames;
-use crate::messages::CallMessages;
+use crate::messages::{CallMessages, id_in};
 use crate::name::NodeName;
 use std::alloc::{AllocError, Global};
 use std::mem::size_of;
@@ -57,7 +58,8 @@ impl Beside {
         }
     }
 
-    /// Puts it behind those of other requests, if there is one: the place that it has there.
+    /// Puts it behind those of other requests, and gives its place there. Where there is none, nothing is put there, and it has none. Where
+    /// memory is refused they are as they were.
     #[inline(always)]
     pub fn put_in(self, besides: &mut Vec<Beside>) -> Result<Option<u32>, AllocError>
         ensures there { IfOk result (λ place. beside_at besides.new.items place ≡ self) }
@@ -68,6 +70,7 @@ impl Beside {
         if matches!(self, Beside::Nothing) {
             return Ok(None);
         }
+        // There are fewer than 2 ^ 24 messages, so it always is.
         let Ok(place) = u32::try_from(besides.len()) else {
             return Err(AllocError);
         };
@@ -140,44 +143,49 @@ impl Beside {
 pub(crate) enum Gives {
     /// None.
     Nothing,
-    /// The root.
+    /// The root: no reply gives it, but a name may be its.
     Root,
-    /// One that was given.
-    Node { by: u32, id: u64 },
+    /// One that was given, by this reply. Its id stands in the message of the answer.
+    Node { by: u32 },
     /// Those of a listing, by the place of their names among such lists.
-    Several { place: u64 },
+    Several { place: u32 },
 }
 
 impl Gives {
     /// Those that have these names. Those of a listing become the last of such lists.
     #[inline(always)]
     pub fn new(given: GivenNames, listed: &mut Vec<Vec<NodeName>>) -> Self
-        requires { IsSeveral given → vec_len listed.old < vec_capacity listed.old }
-        ensures given { names_kept listed.new.items result ≡ given_names_shown given }
+        requires room { IsSeveral given → vec_len listed.old < vec_capacity listed.old }
+        requires few { IsSeveral given → vec_len listed.old < 2 ^ 32 }
+        ensures given { (reply : List ℕ) → IsGivenIn reply given → names_kept reply listed.new.items result ≡ given_names_shown given }
         ensures among { IsAmong (length listed.new.items) result }
         ensures kept { (more : List (Vec NodeName Global)) × (listed.new.items ≡ listed.old.items ++ more) }
     {
         match given {
             GivenNames::Nothing => Gives::Nothing,
             GivenNames::One(NodeName::Root) => Gives::Root,
-            GivenNames::One(NodeName::Given { by, id }) => Gives::Node { by, id },
+            GivenNames::One(NodeName::Given { by, .. }) => Gives::Node { by },
             GivenNames::Several(names) => {
-                let place = listed.len() as u64;
+                // Room is made only where this is so.
+                let place = u32::try_from(listed.len()).unwrap_or(u32::MAX);
                 listed.push_reserved(Box::into_inner(names));
                 Gives::Several { place }
             }
         }
     }
 
-    /// Their names, where those of listings are these.
+    /// Their names, where this is the message of the answer, and those of listings are these.
     #[inline(always)]
-    fn names(self, listed: &[Vec<NodeName>]) -> GivenNodes<'_>
-        ensures { given_shown result ≡ names_kept listed.now self }
+    fn names<'x>(self, reply: &[u8], listed: &'x [Vec<NodeName>]) -> GivenNodes<'x>
+        ensures { given_shown result ≡ names_kept reply.now listed.now self }
     {
         match self {
             Gives::Nothing => GivenNodes::Nothing,
             Gives::Root => GivenNodes::One(NodeName::Root),
-            Gives::Node { by, id } => GivenNodes::One(NodeName::Given { by, id }),
+            Gives::Node { by } => GivenNodes::One(NodeName::Given {
+                by,
+                id: id_in(reply),
+            }),
             Gives::Several { place } => match listed.get(place as usize) {
                 Some(names) => GivenNodes::Several(names),
                 None => GivenNodes::Nothing,
@@ -186,7 +194,7 @@ impl Gives {
     }
 }
 
-/// How many nodes an answer gives, and which.
+/// Which [`Gives`] an answer has; what that holds is `given` of the row.
 #[derive(Clone, Copy, Debug)]
 pub(crate) enum GivesKind {
     Nothing,
@@ -223,18 +231,15 @@ pub(crate) struct Aside {
     pub listed: Vec<Vec<NodeName>>,
 }
 
-/// A call in 80 bytes: what it holds stands in parts, so that no gap is left. It is plain data, with nothing to give back.
+/// A call in 64 bytes: what it holds stands in parts, so that no gap is left. The id of its node, and that of a node which its answer gives
+/// alone, are read again from the messages; what only some calls have is in [`Aside`]. It is plain data, with nothing to give back.
 #[derive(Clone, Copy, Debug)]
 pub(crate) struct Row<'a> {
     pub messages: CallMessages<'a>,
-    /// The id of the node, where that is not the root.
-    pub node_id: u64,
-    /// The id of the node that is given, or the place of the names of several.
-    pub given: u64,
     /// Which reply gave the node, where that is not the root.
     pub node_by: u32,
-    /// Which reply gave the node that is given.
-    pub given_by: u32,
+    /// Which reply gave the node that is given, or the place of the names of several.
+    pub given: u32,
     pub asked: u32,
     /// The number of the answer's message, if there is an answer.
     pub answered_at: u32,
@@ -251,28 +256,29 @@ pub(crate) struct Row<'a> {
     pub answered: AnswerKind,
 }
 
-const _: () = prove!(size_of::<Row<'static>>() <= 80);
+const _: () = prove!(size_of::<Row<'static>>() <= 64);
+
+const _: () = prove!(size_of::<Beside>() <= 16);
 
 impl<'a> Row<'a> {
     /// That of a call without an answer, whose other node or listing has this place.
     #[inline(always)]
     pub fn waiting(call: Call<'a>, beside: Option<u32>) -> Self
         requires waits { call.answer ≡ None }
+        requires named { IsIdIn call.messages.request.now call.node }
         ensures shown { (aside : Aside) → other_kept (beside_at aside.besides.items beside) ≡ call.entry.other → listing_kept (beside_at aside.besides.items beside) ≡ call.entry.listing
             → row_shown aside result ≡ call_shown call.entry }
         ensures beside { beside_place result ≡ beside }
         ensures gives { gives_kept result ≡ Gives.Nothing }
     {
-        let (is_on_root, node_by, node_id) = match call.node {
-            NodeName::Root => (true, 0, 0),
-            NodeName::Given { by, id } => (false, by, id),
+        let (is_on_root, node_by) = match call.node {
+            NodeName::Root => (true, 0),
+            NodeName::Given { by, .. } => (false, by),
         };
         Row {
             messages: call.messages,
-            node_id,
-            given: 0,
             node_by,
-            given_by: 0,
+            given: 0,
             asked: call.asked,
             answered_at: 0,
             handle: call.handle.unwrap_or(0),
@@ -290,19 +296,19 @@ impl<'a> Row<'a> {
     /// Notes the answer with both messages: its number, the nodes that it gives, and whether it opens a handle.
     #[inline(always)]
     pub fn note_answer(&mut self, messages: CallMessages<'a>, at: u32, gives: Gives, opens: bool)
-        ensures shown { (aside : Aside) → row_shown aside self.new ≡ answered_by messages.entry.said.0 (record { at = at; given = names_kept aside.listed.items gives; opens = opens }) (row_shown aside self.old) }
+        requires named { IsIdIn messages.request.now (node_kept self.old) }
+        ensures shown { (aside : Aside) → row_shown aside self.new ≡ answered_by messages.entry.said.0 (record { at = at; given = names_kept messages.entry.reply.now aside.listed.items gives; opens = opens }) (row_shown aside self.old) }
         ensures beside { beside_place self.new ≡ beside_place self.old }
         ensures gives { gives_kept self.new ≡ gives }
     {
-        let (kind, given_by, given) = match gives {
-            Gives::Nothing => (GivesKind::Nothing, 0, 0),
-            Gives::Root => (GivesKind::Root, 0, 0),
-            Gives::Node { by, id } => (GivesKind::Node, by, id),
-            Gives::Several { place } => (GivesKind::Several, 0, place),
+        let (kind, given) = match gives {
+            Gives::Nothing => (GivesKind::Nothing, 0),
+            Gives::Root => (GivesKind::Root, 0),
+            Gives::Node { by } => (GivesKind::Node, by),
+            Gives::Several { place } => (GivesKind::Several, place),
         };
         self.messages = messages;
         self.given = given;
-        self.given_by = given_by;
         self.answered_at = at;
         self.gives = kind;
         self.answered = if opens {
@@ -361,7 +367,7 @@ impl<'a> Row<'a> {
         }
         NodeName::Given {
             by: self.node_by,
-            id: self.node_id,
+            id: id_in(self.messages.request),
         }
     }
 
@@ -395,10 +401,7 @@ impl<'a> Row<'a> {
         match self.gives {
             GivesKind::Nothing => Gives::Nothing,
             GivesKind::Root => Gives::Root,
-            GivesKind::Node => Gives::Node {
-                by: self.given_by,
-                id: self.given,
-            },
+            GivesKind::Node => Gives::Node { by: self.given },
             GivesKind::Several => Gives::Several { place: self.given },
         }
     }
@@ -415,7 +418,7 @@ impl<'a> Row<'a> {
         };
         Some(Answer {
             at: self.answered_at,
-            given: self.gives().names(&aside.listed),
+            given: self.gives().names(self.messages.reply, &aside.listed),
             opens,
         })
     }

@@ -1,4 +1,4 @@
--- A call as the list of the calls keeps it.
+-- A call as the book of the calls keeps it.
 use Rattle.std.specs.Prelude.{ℕ, ◌<◌, true, false, if◌then◌else◌, List, [], ◌∷◌, length, slice_get, Option, None, Some, Vec}
 use Rattle.std.specs.declared.alloc.Global.{Global}
 use Rattle.std.specs.Option.{option_map_or}
@@ -16,6 +16,7 @@ use Rattle.fa_ledger.specs.declared.row.GivesKind.TheVariants as kind
 use Rattle.fa_ledger.specs.declared.row.Aside.{Aside}
 use Rattle.fa_ledger.specs.declared.row.Row.{Row}
 use Rattle.fa_ledger.specs.Calls.{PlainAnswer, PlainCall}
+use Rattle.fa_ledger.specs.parts.Ids.{id_in, name_in}
 
 -- the other node that a request names, if any
 abbrev pub other_kept : Beside → Option NodeName
@@ -33,12 +34,12 @@ listing_kept (beside.Node by id) = None
 listing_kept (beside.Lists adrift shared) = Some (record { before = None; adrift = adrift; shared = shared })
 listing_kept (beside.GoesOn adrift shared asked count) = Some (record { before = Some (asked, count); adrift = adrift; shared = shared })
 
--- the names of the nodes that an answer gives, where those of listings are these
-abbrev pub names_kept : List (Vec NodeName Global) → Gives → List NodeName
-names_kept listed (gives.Nothing) = []
-names_kept listed (gives.Root) = Root ∷ []
-names_kept listed (gives.Node by id) = Given by id ∷ []
-names_kept listed (gives.Several place) = option_map_or (λ (names : Vec NodeName Global). names.items) (slice_get listed place) []
+-- the names of the nodes that an answer gives, where this is its message and those of listings are these
+abbrev pub names_kept : List ℕ → List (Vec NodeName Global) → Gives → List NodeName
+names_kept reply listed (gives.Nothing) = []
+names_kept reply listed (gives.Root) = Root ∷ []
+names_kept reply listed (gives.Node by) = Given by (id_in reply) ∷ []
+names_kept reply listed (gives.Several place) = option_map_or (λ (names : Vec NodeName Global). names.items) (slice_get listed place) []
 
 -- if they are those of a listing, they stand among so many
 abbrev pub IsAmong : ℕ → Gives → Type 0
@@ -52,7 +53,7 @@ IsPlaceIn count (Some place) = place < count
 
 -- the node that it is on, by name
 abbrev pub node_kept : Row → NodeName
-node_kept row = (if row.is_on_root then Root else Given row.node_by row.node_id)
+node_kept row = name_in row.messages.request.now row.is_on_root row.node_by
 
 -- the place of its other node or listing, if it has one
 abbrev pub beside_place : Row → Option ℕ
@@ -63,19 +64,19 @@ abbrev pub beside_at : List Beside → Option ℕ → Beside
 beside_at besides None = beside.Nothing
 beside_at besides (Some place) = option_map_or (λ (found : Beside). found) (slice_get besides place) beside.Nothing
 
--- the other node or the listing
+-- the other node or the listing, where these stand beside the rows
 abbrev pub beside_kept : Aside → Row → Beside
 beside_kept aside row = beside_at aside.besides.items (beside_place row)
 
 -- which nodes its answer gives
-abbrev pub given_by : GivesKind → (by given : ℕ) → Gives
-given_by (kind.Nothing) by given = gives.Nothing
-given_by (kind.Root) by given = gives.Root
-given_by (kind.Node) by given = gives.Node by given
-given_by (kind.Several) by given = gives.Several given
+abbrev pub given_of : GivesKind → ℕ → Gives
+given_of (kind.Nothing) given = gives.Nothing
+given_of (kind.Root) given = gives.Root
+given_of (kind.Node) given = gives.Node given
+given_of (kind.Several) given = gives.Several given
 
 abbrev pub gives_kept : Row → Gives
-gives_kept row = given_by row.gives row.given_by row.given
+gives_kept row = given_of row.gives row.given
 
 -- what stands beside rows has the places of this one
 abbrev pub StandsIn : Aside → Row → Type 0
@@ -92,7 +93,7 @@ answer_by Plain at given = Some (record { at = at; given = given; opens = false 
 answer_by Opening at given = Some (record { at = at; given = given; opens = true })
 
 abbrev pub answer_kept : Aside → Row → Option PlainAnswer
-answer_kept aside row = answer_by row.answered row.answered_at (names_kept aside.listed.items (gives_kept row))
+answer_kept aside row = answer_by row.answered row.answered_at (names_kept row.messages.reply.now aside.listed.items (gives_kept row))
 
 -- what it shows
 abbrev pub row_shown : Aside → Row → PlainCall

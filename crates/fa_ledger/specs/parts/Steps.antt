@@ -40,7 +40,12 @@ given_names_shown Nothing = []
 given_names_shown (One name) = name ∷ []
 given_names_shown (Several names) = names.value.items
 
--- they are those of a listing, in a list of their own
+-- it is one name
+abbrev pub IsOne : GivenNames → Type 0
+IsOne (One name) = Unit {0}
+IsOne other = ⊥
+
+-- it is a list of names
 abbrev pub IsSeveral : GivenNames → Type 0
 IsSeveral (Several names) = Unit {0}
 IsSeveral other = ⊥

@@ -1,4 +1,4 @@
-use Rattle.std.proofs.Common.{◌+◌, ◌≤◌, Some, inl, List, length, sym, ap, subst, refl, ◌∙◌, ◌≡◌, nat_eq}
+use Rattle.std.proofs.Common.{ℕ, ◌+◌, ◌≤◌, Some, inl, List, length, sym, ap, subst, refl, ◌∙◌, ◌≡◌, nat_eq}
 use Rattle.std.specs.Prelude.{IsTrue}
 use Rattle.std.proofs.lemmas.Result.{err_from_is_err_and}
 use Rattle.std.specs.Map.{lookup}
@@ -8,10 +8,12 @@ use Rattle.fa_ledger.specs.declared.name.NodeName.{NodeName}
 use Rattle.fa_ledger.specs.Keys.{key_eq}
 use Rattle.fa_ledger.specs.Calls.{PlainAnswer, PlainCall}
 use Rattle.fa_ledger.specs.parts.CallParts.{WaitsAt}
+use Rattle.fa_ledger.specs.parts.Ids.{IsGivenIn, IsIdIn}
 use Rattle.fa_ledger.specs.parts.Steps.{with_answer, given_again, times_named, count_left, opened_with, opens_new, some_new, IsOpenedBy, given_names_shown}
+use Rattle.fa_ledger.proofs.IdLemmas.{given_there}
 use Rattle.fa_ledger.proofs.OperationLemmas.{operation_asked}
 use Rattle.fa_ledger.proofs.ReplyLemmas.{give_fits, names_more, nodes_more}
-use Rattle.fa_ledger.proofs.ReplyBookLemmas.{operation_there, open_fits, answer_shows, keys_more, listed_more, listed_counted, listed_anew, noted_also}
+use Rattle.fa_ledger.proofs.ReplyBookLemmas.{asked_there, operation_there, open_fits, answer_shows, keys_more, listed_more, listed_counted, listed_anew, noted_also}
 use Rattle.fa_ledger.proofs.books.Books.note_answer.Goals as goal
 
 pub returns-in_err-given-clause-memory : goal.returns-in_err-given-clause-memory
@@ -101,6 +103,21 @@ answered-both-requires c =
     let there = operation_there stands.0 stands.1 stands.2 c.args.at c.args.asked (request_shown c.args.messages.now.to.request) (reply_shown c.args.messages.now.reply) c.args.self.now stands.3 c.args.place c.requires.waits.0 c.requires.waits.1 in
     operation_asked (body_shown c.args.messages.now.to.request.body) (Some (reply_shown c.args.messages.now.reply)) there.0 there.1
 
+pub answer-requires-clause-named : goal.answer-requires-clause-named
+answer-requires-clause-named c = λ asked call waits.
+    let stands = c.requires.stands in
+    let messages = c.args.messages.now in
+    subst (λ (bytes : List ℕ). IsIdIn bytes call.node) (sym c.answered-both.ensures.request)
+    (asked_there stands.0 stands.1 stands.2 c.args.at c.args.asked (request_shown messages.to.request) (reply_shown messages.reply) c.args.self.now stands.3 c.args.place c.requires.waits.0 c.requires.waits.1
+    messages.to.bytes.now messages.to.read asked call (subst (λ (calls : List PlainCall). WaitsAt calls asked c.args.place call) c.in_ok-reserve_names.ensures.same waits))
+
+pub answer-requires-clause-given : goal.answer-requires-clause-given
+answer-requires-clause-given c =
+    let messages = c.args.messages.now in
+    subst (λ (bytes : List ℕ). IsGivenIn bytes c.in_ok-given.given) (sym c.answered-both.ensures.reply)
+    (given_there (request_shown messages.to.request) messages.bytes.now (reply_shown messages.reply) c.args.at (λ id. lookup (nat_eq id) c.args.self.now.tables.nodes.known.entries) c.in_ok-given.given
+    messages.read c.in_ok-given.ensures.one c.in_ok-given.ensures.named)
+
 pub returns-clause-shows : goal.returns-clause-shows
 returns-clause-shows c = λ before m es stands.
     let names : List NodeName = given_names_shown c.in_ok-given.given in
@@ -118,7 +135,7 @@ returns-clause-shows c = λ before m es stands.
       named = c.in_ok-given.ensures.named;
       opens = c.opened-opened.ensures ∙ ap (λ ns. opened_with c.args.waiting.node ns (body_shown c.args.messages.now.to.request.body) (reply_shown c.args.messages.now.reply)) same;
     })
-    c.answered-both.ensures
+    c.answered-both.ensures.said
     (c.note_opened-opens.ensures.anew ∙ ap (λ opened. opens_new opened which) c.in_ok-reserve-2.ensures.kept)
     refl
     (λ node. c.give.ensures node ∙ ap (λ ns. given_again c.args.at (times_named node ns) (lookup (nat_eq node) c.reserve.new.self.known.entries)) same

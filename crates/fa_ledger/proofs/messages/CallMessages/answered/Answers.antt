@@ -8,7 +8,7 @@ invariant_of-result c =
     let m = c.args.messages.now in
     record { said = answered_said m.to.bytes.now m.bytes.now (request_shown m.to.request) (reply_shown m.reply) m.to.read m.read c.requires }
 
-pub returns : goal.returns
-returns c =
+pub returns-clause-said : goal.returns-clause-said
+returns-clause-said c =
     let m = c.args.messages.now in
     answered_does m.to.bytes.now m.bytes.now c.result-3-1.given.0 (request_shown m.to.request) (reply_shown m.reply) m.to.read m.read
