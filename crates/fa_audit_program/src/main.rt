@@ -24,15 +24,9 @@
 
 ghost use Rattle.std.specs.Prelude.{◌≡◌, IfSome};
 
-mod command_line;
 mod failure;
 mod files;
-mod help_texts;
 
-use crate::command_line::{
-    Call, CheckPaths, CutPaths, ExplainPaths, FrontPaths, JudgePaths, MigratePaths, PROGRAM,
-    PagePaths, ProposePaths, ReportPaths, SearchPaths, ShowPaths, Topic, WatchPaths,
-};
 use crate::failure::{Cause, Failure, Printing};
 use crate::files::{
     Sink, Source, new_file, open_capture, open_text, open_text_if_any, random_seed,
@@ -40,6 +34,10 @@ use crate::files::{
 use fa_audit::{
     Budget, Listener, RunFault, SoFar, Status, run, run_cut, run_front, run_judge,
     run_judge_and_keep, run_migrate, run_propose, run_search, run_show, run_watch,
+};
+use fa_command_line::{
+    Call, CheckPaths, CutPaths, ExplainPaths, FrontPaths, JudgePaths, MigratePaths, PROGRAM,
+    PagePaths, ProposePaths, ReportPaths, SearchPaths, ShowPaths, Topic, WatchPaths, command_line,
 };
 use fa_help::Paragraph;
 use fa_reasons::{
@@ -81,7 +79,7 @@ fn call<'a, R: AllocGlobal + Files + Print + Eprint>(
     rt: &R,
     words: &'a [String],
 ) -> Result<u8, Failure<'a>> {
-    let matches = match command_line::command(rt.alloc())?.try_get_matches_from(words) {
+    let matches = match command_line(rt.alloc())?.try_get_matches_from(words) {
         Ok(matches) => matches,
         Err(error) => return answered(rt, error),
     };
@@ -134,7 +132,7 @@ fn help<'a, R: AllocGlobal + Print>(rt: &R, topic: &Topic<'a>) -> Result<u8, Fai
 
 /// The help for which these words ask: the status.
 fn parser_help<'a, R: AllocGlobal + Print>(rt: &R, words: &[&str]) -> Result<u8, Failure<'a>> {
-    match command_line::command(rt.alloc())?.try_get_matches_from(words) {
+    match command_line(rt.alloc())?.try_get_matches_from(words) {
         Ok(_) => Err(Failure::NoCall),
         Err(error) => answered(rt, error),
     }

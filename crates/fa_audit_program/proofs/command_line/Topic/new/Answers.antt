@@ -1,9 +1,0 @@
-use Rattle.std.proofs.Common.{refl, sym, codes}
-use Rattle.fa_audit_program.proofs.CommandLineLemmas.{value_of-given}
-use Rattle.fa_audit_program.proofs.command_line.Topic.new.Goals as goal
-
-pub returns-clause-found : goal.returns-clause-found
-returns-clause-found c = record {
-  command = c.in_ok-options.ensures.found.0 refl;
-  word_is = value_of-given _ c.in_ok-options.options.now (codes "topic") _ (sym c.in_ok-options.ensures.rows) c.get_str-word.ensures;
-}

@@ -1,0 +1,4 @@
+-- What the contracts speak of.
+
+-- what a parsed command line says
+pub mod CommandLine
