@@ -20,7 +20,7 @@ use Rattle.fa_tree.specs.declared.id.FileId.TheVariants as file_id
 use Rattle.fa_tree.specs.State.{File, Store, Place, file_cmp, file_eq, place_cmp, IsFree, links}
 use Rattle.fa_tree.specs.Attributes.{Fits}
 use Rattle.fa_tree.specs.Rules.{with_file}
-use Rattle.fa_tree.specs.Contents.{filled, resized}
+use Rattle.fa_store.specs.Contents.{filled, resized}
 use Rattle.fa_tree.specs.Making.{emptied, files_created, HasMadeNone}
 use Rattle.fa_tree.proofs.EditedLemmas.{insert_there}
 use Rattle.fa_tree.proofs.ShapeLemmas.{put_here, no_name_yet}

@@ -4,7 +4,6 @@ pub mod BirthLemmas
 pub mod CauseLemmas
 pub mod ChangeLemmas
 pub mod ChangedLemmas
-pub mod ContentsLemmas
 pub mod CopyLemmas
 pub mod CountLemmas
 pub mod EditedLemmas
@@ -26,7 +25,6 @@ pub mod NodeLemmas
 pub mod OpenLemmas
 pub mod OrderlyLemmas
 pub mod OutcomeLemmas
-pub mod PageLemmas
 pub mod ParentLemmas
 pub mod PartLemmas
 pub mod UnchangedLemmas

@@ -1,21 +1,18 @@
--- Maps, pages and open directories of which each is within the other are the same.
-use Rattle.std.proofs.Common.{◌≡◌, ℕ, Bool, true, false, cond, List, [], ◌∷◌, length, get_or, Option, None, Some, suc, inl, inr, refl, sym, ap, subst, ◌∙◌, arith}
-use Rattle.std.specs.Prelude.{IsTrue, nat_eq}
-use Rattle.std.specs.Bool.{MatchBool}
-use Rattle.std.specs.List.{All, AllWithin}
+-- Maps and open directories of which each is within the other are the same.
+use Rattle.std.proofs.Common.{◌≡◌, ℕ, Bool, true, false, cond, List, [], ◌∷◌, Option, None, Some, suc, refl, sym, ap, subst, ◌∙◌, arith}
+use Rattle.std.specs.Prelude.{nat_eq}
+use Rattle.std.specs.List.{All}
 use Rattle.std.specs.Map.{keys_of, lookup}
 use Rattle.std.specs.Option.{option_map, option_and_then, option_map_or}
 use Rattle.std.specs.Ordering.{nat_cmp}
 use Rattle.std.specs.declared.cmp.Ordering.{Ordering}
-use Rattle.std.specs.Cmp.{IsTotalOrder, Equal-is}
+use Rattle.std.specs.Cmp.{IsTotalOrder}
 use Rattle.std.specs.Cmp.Lexicographic.{nat_list_cmp_total}
-use Rattle.std.specs.BTreeMap as tree
 use Rattle.std.specs.FinMap as map
-use Rattle.std.specs.FinMap.{FinMap, IsAntisymmetric, same_map, nat_cmp-IsAntisymmetric}
+use Rattle.std.specs.FinMap.{FinMap, IsAntisymmetric, same_map}
 use Rattle.std.specs.FinSet.{contains, same_set}
-use Rattle.std.proofs.lemmas.Bool.{cases_lt, cases_eq}
 use Rattle.std.proofs.lemmas.Bool.Decides.{nat_tests}
-use Rattle.std.proofs.lemmas.List.Elements.{All-from_all_within}
+use Rattle.fa_store.proofs.CallerLemmas.{found_among}
 use Rattle.fa_ledger.specs.contracts.name.NodeNamePartialEq.TheImpl as same_name
 use Rattle.fa_ledger.specs.declared.name.NodeName.{NodeName}
 use Rattle.fa_tree.specs.declared.id.FileId.{FileId}
@@ -33,35 +30,15 @@ use Rattle.fa_tree.specs.parts.FileParts.{file_shown, files_shown}
 use Rattle.fa_tree.specs.parts.SlotParts.{place_of, is_at, slot_at, file_in, names_shown}
 use Rattle.fa_tree.specs.parts.NameViews.{was_since, has_stayed, open_shown, handles_shown}
 use Rattle.fa_tree.specs.parts.OpenParts.{last_opening, AreLast}
-use Rattle.fa_tree.specs.parts.PageParts.{PagesShown, only_page, page_of, far_page, has_far, IsPart}
 use Rattle.fa_tree.specs.parts.SameParts.{IsMapWithin, IsOpenWithin}
 use Rattle.fa_tree.proofs.FileLemmas.{get_files}
 use Rattle.fa_tree.proofs.NameLemmas.{get-names_shown, get-stayed_shown, contains-since_shown}
 use Rattle.fa_tree.proofs.NodeLemmas.{get_shown, ties, name_same}
 use Rattle.fa_tree.proofs.OpenLemmas.{get-shown_openings}
-use Rattle.fa_tree.proofs.PageLemmas.{page_near, page_far, only_here, only_others, far_there, far_absent}
 
--- ---- walks and look-ups
+-- ---- look-ups
 
--- where a walk over a list answered true, this holds of each item
-pub walked : {B : Type 0} (r : Bool) (P : B → Type 0) (all : List B) (No : Type 0) → IsTrue r → MatchBool r (AllWithin P all 0 (length all)) No → All P all
-walked true P all No is told = All-from_all_within P all told
-walked false P all No is told = absurd cc
-
--- an entry that is found is one of all
-pub found_among : {K X : Type 0} (P : K × X → Type 0) (test : K → Bool) (es : List (K × X)) → All P es → (x : X) → lookup test es ≡ Some x
-    → (key : K) × (test key ≡ true) × P (key, x)
-found_among P test [] all x found = absurd (let clash : None ≡ Some x = found in cc)
-found_among {K} {X} P test (e ∷ es) all x found = by (test e.0) refl found (found_among P test es (λ k d less. all (suc k) d (omega arith)) x)
-  where
-    by : (b : Bool) → test e.0 ≡ b → cond b (Some e.1) (lookup test es) ≡ Some x
-        → (lookup test es ≡ Some x → (key : K) × (test key ≡ true) × P (key, x)) → (key : K) × (test key ≡ true) × P (key, x)
-    by true is found later =
-        let same : e.1 ≡ x = cc in
-        (e.0, is, subst (λ y. P (e.0, y)) same (all 0 e (omega arith)))
-    by false is found later = later found
-
--- and so is its key
+-- the key of an entry that is found is one of all keys
 pub key_among : {K X : Type 0} (P : K → Type 0) (test : K → Bool) (es : List (K × X)) → All P (keys_of es) → (x : X) → lookup test es ≡ Some x
     → (key : K) × (test key ≡ true) × P key
 key_among P test [] all x found = absurd (let clash : None ≡ Some x = found in cc)
@@ -198,33 +175,3 @@ such_both Such m n there back asked such = by (map.get m asked) (map.get n asked
     by (Some h) y is also = there asked h such is ∙ sym is
     by None (Some h) is also = also ∙ sym (back asked h such also)
     by None None is also = also ∙ sym is
-
--- ---- pages
-
-none_within : (page : List ℕ) → IsPart page 0 []
-none_within page i less = absurd (omega (arith, less))
-
--- one page by itself is within others
-pub one_within : (page : List ℕ) (other : ℕ → List ℕ) → IsPart (other 0) 0 page → (place : ℕ) → IsPart (other place) 0 (page_of (only_page page) place)
-one_within page other here place = elim (cases_eq place 0) [
-  | inl first ↦ subst (λ k. IsPart (other k) 0 (page_of (only_page page) k)) (sym first) (subst (IsPart (other 0) 0) (sym (only_here page)) here)
-  | inr apart ↦ subst (IsPart (other place) 0) (sym (only_others page place apart)) (none_within (other place))
-]
-
--- and so are more, of which those of the list are and the far ones
-pub many_within : (pages : PagesShown) (other : ℕ → List ℕ) → ((place : ℕ) → IsPart (other place) 0 (get_or pages.near place []))
-    → ((place : ℕ) → IsPart (other place) 0 (far_page pages.far place)) → (place : ℕ) → IsPart (other place) 0 (page_of pages place)
-many_within pages other near far place = elim (cases_lt place (length pages.near)) [
-  | inl less ↦ subst (IsPart (other place) 0) (sym (page_near pages place less)) (near place)
-  | inr more ↦ subst (IsPart (other place) 0) (sym (page_far pages place more)) (far place)
-]
-
-pub far_within : (far : List (ℕ × List ℕ)) (other : ℕ → List ℕ) → All (λ e. IsPart (other e.0) 0 e.1) far → (place : ℕ) → IsPart (other place) 0 (far_page far place)
-far_within far other all place = by (has_far far place) refl
-  where
-    by : (found : Option (List ℕ)) → has_far far place ≡ found → IsPart (other place) 0 (far_page far place)
-    by None was = subst (IsPart (other place) 0) (sym (far_absent far place was)) (none_within (other place))
-    by (Some page) was =
-        let at = found_among (λ e. IsPart (other e.0) 0 e.1) (tree.is_at (nat_cmp place)) far all page was in
-        let same : place ≡ at.0 = nat_cmp-IsAntisymmetric place at.0 ((Equal-is (nat_cmp place at.0)).0 at.1) in
-        subst (IsPart (other place) 0) (sym (far_there far place page was)) (subst (λ k. IsPart (other k) 0 page) (sym same) at.2)

@@ -12,7 +12,7 @@ use Rattle.fa_tree.specs.declared.id.FileId.{FileId}
 use Rattle.fa_tree.specs.contracts.id.FileIdPartialEq.TheImpl as derived
 use Rattle.fa_tree.specs.State.{File, file_cmp, file_eq, IsSymlink}
 use Rattle.fa_tree.proofs.FileLemmas.{put_again}
-use Rattle.fa_tree.specs.Contents.{resized}
+use Rattle.fa_store.specs.Contents.{resized}
 use Rattle.fa_tree.specs.Rules.{with_file}
 use Rattle.fa_tree.specs.Edits.{names_after, open_after}
 use Rattle.fa_tree.specs.Edits.Edit.{Added, Removed}

@@ -1,5 +1,5 @@
 -- What a tree tells of itself: the least place of a file, the bytes of a file, and the rule of a call.
-use Rattle.std.proofs.Common.{◌≡◌, ℕ, ℤ, ◌+◌, ◌<◌, ◌≤◌, ◌/◌, ◌%◌, Bool, false, List, length, take, get_or, slice_get, Option, None, Some, inl, inr, refl, sym, ap, subst, ◌∙◌, arith, zero-add}
+use Rattle.std.proofs.Common.{◌≡◌, ℕ, ℤ, ◌+◌, ◌<◌, Bool, false, List, length, take, get_or, slice_get, Option, None, Some, inl, inr, refl, sym, ap, subst, ◌∙◌, arith}
 use Rattle.std.specs.Prelude.{◌≢◌, ◌↔◌, ◌⊎◌, Vec, IsTrue, IfSome, IfNone}
 use Rattle.std.specs.Borrow.{Bor}
 use Rattle.std.specs.Option.{option_map, option_and_then}
@@ -12,8 +12,7 @@ use Rattle.std.specs.FinMap as map
 use Rattle.std.proofs.lemmas.Bool.{cases_lt}
 use Rattle.std.proofs.lemmas.Cmp.{upto, tied_itself}
 use Rattle.std.proofs.lemmas.List.{get_or_default}
-use Rattle.std.proofs.lemmas.List.FromFn.{length-map-range_with_len, get_or-map-range_with_len}
-use Rattle.std.proofs.lemmas.Option.{slice_get-get_or, slice_get_past, same_Some}
+use Rattle.std.proofs.lemmas.Option.{slice_get-get_or, same_Some}
 use Rattle.fa_capture.proofs.CallerLemmas.{found_alike}
 use Rattle.fa_ledger.specs.Calls.{PlainCall}
 use Rattle.fa_ledger.specs.Operations.{PlainOperation}
@@ -30,30 +29,12 @@ use Rattle.fa_tree.specs.Telling.{OfRule}
 use Rattle.fa_tree.specs.parts.BirthParts.{NoneStayedBehind}
 use Rattle.fa_tree.specs.parts.MemberParts.{members_of, AreMembers}
 use Rattle.fa_tree.specs.parts.NameViews.{stayed_shown}
-use Rattle.fa_tree.specs.parts.PageParts.{page_at, byte_at, bytes_of}
 use Rattle.fa_tree.specs.parts.PlaceLaws.{place_cmp_total, same_place}
 use Rattle.fa_tree.specs.parts.SlotParts.{place_of, is_at, slot_at, file_in, names_shown, IsBefore}
 use Rattle.fa_tree.proofs.NameLemmas.{get-names_shown}
-use Rattle.fa_tree.proofs.SameLemmas.{found_among}
+use Rattle.fa_store.proofs.CallerLemmas.{found_among}
 use Rattle.fa_tree.proofs.SlotLemmas.{keys_same}
 use Rattle.fa_tree.proofs.StayedLemmas.{PassesAt, walked_oldest}
-
--- ---- bytes
-
--- a byte that is there is that of its page
-pub byte_there : (pages : ℕ → List ℕ) (len i : ℕ) → i < len → slice_get (bytes_of pages len) i ≡ Some (get_or (pages (i / 4096)) (i % 4096) 0)
-unfolding bytes_of byte_at page_at
-byte_there pages len i within =
-    let long = length-map-range_with_len (λ k. byte_at pages k) 0 len in
-    let here : i < length (bytes_of pages len) = omega (arith, long) in
-    slice_get-get_or (bytes_of pages len) i 0 here ∙ ap Some (get_or-map-range_with_len (λ k. byte_at pages k) 0 len i i 0 within (zero-add i))
-
--- and behind the end there is none
-pub byte_past : (pages : ℕ → List ℕ) (len i : ℕ) → len ≤ i → slice_get (bytes_of pages len) i ≡ None
-unfolding bytes_of
-byte_past pages len i past =
-    let long = length-map-range_with_len (λ k. byte_at pages k) 0 len in
-    slice_get_past (bytes_of pages len) i (omega (arith, long))
 
 -- ---- the least place
 

@@ -13,7 +13,7 @@ use Rattle.fa_ledger.specs.declared.operation.Outcome.{Outcome}
 use Rattle.fa_tree.specs.declared.id.FileId.{FileId}
 use Rattle.fa_tree.specs.State.{File, Store, IsFree, IsThere, IsDirectory, IsLinked, IsRegular, IsSymlink}
 use Rattle.fa_tree.specs.Attributes.{permission_bits}
-use Rattle.fa_tree.specs.Contents.{resized}
+use Rattle.fa_store.specs.Contents.{resized}
 use Rattle.fa_tree.specs.Rules.{Rule, Said, FitsNamed, attributes_said, bytes_said, if_done, with_file}
 
 -- LOOKUP answers node id 0 where the name is not in the directory, and another where it is.

@@ -21,9 +21,6 @@ pub mod BirthParts
 pub mod TallyParts
 pub mod KeptParts
 pub mod ReplayParts
--- pages of the bytes of a file
-pub mod PageParts
-pub mod PagesView
 -- files
 pub mod FileParts
 pub mod FactParts

@@ -6,10 +6,9 @@ ghost use Rattle.fa_tree.specs.Attributes.{permission_bits};
 ghost use Rattle.fa_tree.specs.Building.{file_of_kind};
 ghost use Rattle.fa_tree.specs.parts.FileParts.{file_shown};
 
-use crate::contents::Contents;
-use crate::digest::digest_of;
 use fa_bodies::{Kind, Mode};
 use fa_capture::Seed;
+use fa_store::{Contents, digest_of};
 use std::alloc::AllocError;
 
 /// A file, whatever names it has.

@@ -9,18 +9,17 @@ ghost use Rattle.fa_tree.specs.State.{root, place_cmp, file_eq};
 ghost use Rattle.fa_tree.specs.Edits.{names_after};
 ghost use Rattle.fa_tree.specs.Renaming.{moved};
 ghost use Rattle.fa_tree.specs.Rules.{with_file};
-ghost use Rattle.fa_tree.specs.Contents.{resized, written};
+ghost use Rattle.fa_store.specs.Contents.{resized, written};
 ghost use Rattle.fa_tree.specs.Making.{emptied};
 ghost use Rattle.fa_tree.specs.parts.FileParts.{file_shown, files_shown, with_bits, with_bytes};
 ghost use Rattle.fa_tree.specs.parts.CountParts.{nothing_counted, counts_of, one_link_more, one_link_less, one_inside_more, one_inside_less, IsKnown, AreCounted, IsCountedAt, IsMovedAt};
 ghost use Rattle.fa_tree.specs.parts.SameParts.{IsMapWithin};
 
-use crate::contents::Contents;
-use crate::digest::digest_of;
 use crate::file::File;
 use crate::id::FileId;
 use fa_bodies::Kind;
 use fa_capture::Seed;
+use fa_store::{Contents, digest_of};
 use indexmap::IndexMap;
 use std::alloc::{AllocError, Global};
 

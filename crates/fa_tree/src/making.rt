@@ -4,9 +4,9 @@ ghost use Rattle.std.specs.Prelude.{◌≡◌, IfOk};
 ghost use Rattle.fa_tree.specs.Making.{node_kind, new_bits, new_symlink, new_node, new_directory, new_regular};
 ghost use Rattle.fa_tree.specs.parts.FileParts.{file_shown};
 
-use crate::contents::Contents;
 use crate::file::{File, permission_bits};
 use fa_bodies::{Kind, Mode};
+use fa_store::Contents;
 use std::alloc::{AllocError, Global};
 
 /// The type of a file that MKNOD makes.

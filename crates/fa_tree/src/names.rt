@@ -14,13 +14,13 @@ ghost use Rattle.fa_tree.specs.Renaming.{moved, exchanged};
 ghost use Rattle.fa_tree.specs.parts.NameParts.{NamesShown, no_names, edited, opened_by};
 ghost use Rattle.fa_tree.specs.parts.OpenParts.{open_of};
 
-use crate::digest::digest_of;
 use crate::id::FileId;
 use crate::in_use::InUse;
 use crate::open::{Opening, Openings};
 use crate::open_names::OpenNames;
 use crate::slots::Slots;
 use fa_capture::Seed;
+use fa_store::digest_of;
 use std::alloc::{AllocError, Global};
 use std::marker::Model;
 

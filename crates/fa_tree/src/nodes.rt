@@ -8,10 +8,10 @@ ghost use Rattle.fa_tree.specs.Bindings.{AreBound, nodes_after};
 ghost use Rattle.fa_tree.specs.parts.NodeParts.{nodes_shown};
 ghost use Rattle.fa_tree.specs.parts.SameParts.{IsMapWithin};
 
-use crate::digest::digest_of;
 use crate::id::FileId;
 use fa_capture::Seed;
 use fa_ledger::NodeName;
+use fa_store::digest_of;
 use indexmap::IndexMap;
 use std::alloc::{AllocError, Global};
 

@@ -17,12 +17,12 @@ ghost use Rattle.fa_tree.specs.parts.MemberParts.{members_of};
 ghost use Rattle.fa_tree.specs.parts.OpenParts.{last_opening, open_of};
 ghost use Rattle.fa_tree.specs.parts.SameParts.{IsMapWithin, IsOpenWithin, IsSlotWithin};
 
-use crate::digest::digest_of;
 use crate::id::FileId;
 use crate::in_use::InUse;
 use crate::open_names::OpenNames;
 use crate::slots::{Slot, Slots};
 use fa_capture::Seed;
+use fa_store::digest_of;
 use indexmap::IndexMap;
 use std::alloc::{AllocError, Global};
 use std::marker::Model;

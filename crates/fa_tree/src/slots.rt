@@ -14,11 +14,11 @@ ghost use Rattle.fa_tree.specs.parts.SlotParts.{place_of, slot_at, gone_at, file
 ghost use Rattle.fa_tree.specs.parts.MemberParts.{AreMembers};
 ghost use Rattle.fa_tree.specs.parts.SameParts.{IsMapWithin};
 
-use crate::digest::digest_of;
 use crate::id::FileId;
 use crate::members::Members;
 use crate::name_hash::feed_name;
 use fa_capture::Seed;
+use fa_store::digest_of;
 use indexmap::{Equivalent, IndexMap};
 use std::alloc::{AllocError, Global};
 use std::hash::{Hash, Hasher};

@@ -13,7 +13,6 @@ ghost use Rattle.fa_tree.specs.parts.FileParts.{file_shown};
 ghost use Rattle.fa_tree.specs.parts.OpenParts.{open_of};
 ghost use Rattle.fa_tree.specs.parts.StoredParts.{as_tree, stored_of, stored_made, IsMadeOrNext};
 
-use crate::digest::digest_of;
 use crate::file::File;
 use crate::files::Files;
 use crate::id::FileId;
@@ -22,6 +21,7 @@ use crate::names::Names;
 use crate::open_names::OpenNames;
 use crate::parents::Parents;
 use fa_capture::Seed;
+use fa_store::digest_of;
 use std::alloc::{AllocError, Global};
 use std::marker::Model;
 

@@ -9,8 +9,6 @@ ghost use Rattle.fa_tree.specs.Attributes.{all_bits};
 ghost use Rattle.fa_tree.specs.Building.{empty_tree, file_of_kind, MayHold, MayBeAdded, next_added, tree_added, MayBeLinkedTo, tree_linked};
 ghost use Rattle.fa_tree.specs.Refusals.{IsRefusal};
 
-use crate::contents::Contents;
-use crate::digest::digest_of;
 use crate::error::StepError;
 use crate::file::File;
 use crate::id::FileId;
@@ -19,6 +17,7 @@ use crate::nodes::Nodes;
 use crate::stored::Stored;
 use fa_bodies::{Kind, MAX_FILE_BYTES, is_name, is_target};
 use fa_capture::{Seed, codes};
+use fa_store::{Contents, digest_of};
 use std::alloc::{AllocError, Global};
 use std::marker::Model;
 

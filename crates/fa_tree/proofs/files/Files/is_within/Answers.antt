@@ -5,7 +5,8 @@ use Rattle.std.proofs.lemmas.Iterator.Consumers.{YieldsList-from_rest}
 use Rattle.fa_tree.specs.declared.files.CountedFile.{CountedFile}
 use Rattle.fa_tree.specs.declared.id.FileId.{FileId}
 use Rattle.fa_tree.specs.parts.FileParts.{file_shown, files_shown}
-use Rattle.fa_tree.proofs.SameLemmas.{walked, files_within}
+use Rattle.fa_store.proofs.CallerLemmas.{walked}
+use Rattle.fa_tree.proofs.SameLemmas.{files_within}
 use Rattle.fa_tree.proofs.files.Files.is_within.Goals as goal
 
 pub returns : goal.returns

@@ -1,6 +1,6 @@
 use Rattle.std.proofs.Common.{is_some, refl, sym, ap}
 use Rattle.std.proofs.lemmas.Result.{on_ok_weaker, on_err_weaker}
-use Rattle.fa_tree.specs.Contents.{written}
+use Rattle.fa_store.specs.Contents.{written}
 use Rattle.fa_tree.specs.declared.files.CountedFile.{CountedFile}
 use Rattle.fa_tree.specs.parts.FileParts.{with_bytes}
 use Rattle.fa_tree.proofs.CountLemmas.{counts_stay, counts_there}

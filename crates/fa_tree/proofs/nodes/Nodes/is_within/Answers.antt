@@ -5,7 +5,8 @@ use Rattle.std.proofs.lemmas.Iterator.Consumers.{YieldsList-from_rest}
 use Rattle.fa_ledger.specs.declared.name.NodeName.{NodeName}
 use Rattle.fa_tree.specs.declared.id.FileId.{FileId}
 use Rattle.fa_tree.specs.parts.NodeParts.{nodes_shown}
-use Rattle.fa_tree.proofs.SameLemmas.{walked, nodes_within}
+use Rattle.fa_store.proofs.CallerLemmas.{walked}
+use Rattle.fa_tree.proofs.SameLemmas.{nodes_within}
 use Rattle.fa_tree.proofs.nodes.Nodes.is_within.Goals as goal
 
 pub returns : goal.returns

@@ -7,7 +7,8 @@ use Rattle.std.proofs.lemmas.Iterator.Consumers.{YieldsList-from_rest}
 use Rattle.fa_tree.specs.State.{OpenDirectory}
 use Rattle.fa_tree.specs.Alike.{IsInUse}
 use Rattle.fa_tree.specs.parts.NameViews.{handles_shown}
-use Rattle.fa_tree.proofs.SameLemmas.{walked, such_handles_within}
+use Rattle.fa_store.proofs.CallerLemmas.{walked}
+use Rattle.fa_tree.proofs.SameLemmas.{such_handles_within}
 use Rattle.fa_tree.proofs.open.Openings.is_alike_within.Goals as goal
 
 pub returns : goal.returns

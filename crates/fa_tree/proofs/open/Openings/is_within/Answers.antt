@@ -6,7 +6,8 @@ use Rattle.std.proofs.lemmas.Iterator.{cases_from_all}
 use Rattle.std.proofs.lemmas.Iterator.Consumers.{YieldsList-from_rest}
 use Rattle.fa_tree.specs.parts.NameViews.{handles_shown}
 use Rattle.fa_tree.specs.parts.SameParts.{IsMapWithin}
-use Rattle.fa_tree.proofs.SameLemmas.{walked, handles_within}
+use Rattle.fa_store.proofs.CallerLemmas.{walked}
+use Rattle.fa_tree.proofs.SameLemmas.{handles_within}
 use Rattle.fa_tree.proofs.open.Openings.is_within.Goals as goal
 
 pub returns : goal.returns

@@ -7,7 +7,8 @@ use Rattle.fa_tree.specs.parts.MemberParts.{members_of}
 use Rattle.fa_tree.specs.parts.NameViews.{was_since, has_stayed}
 use Rattle.fa_tree.specs.parts.OpenParts.{open_of}
 use Rattle.fa_tree.specs.parts.SameParts.{IsSlotWithin}
-use Rattle.fa_tree.proofs.SameLemmas.{walked, known_in}
+use Rattle.fa_store.proofs.CallerLemmas.{walked}
+use Rattle.fa_tree.proofs.SameLemmas.{known_in}
 use Rattle.fa_tree.proofs.StayedLemmas.{walked_holds}
 use Rattle.fa_tree.proofs.open_names.OpenNames.is_within.Goals as goal
 

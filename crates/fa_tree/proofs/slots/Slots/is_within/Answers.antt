@@ -6,7 +6,8 @@ use Rattle.fa_tree.specs.declared.id.FileId.{FileId}
 use Rattle.fa_tree.specs.declared.slots.Place.{Place}
 use Rattle.fa_tree.specs.declared.slots.Slot.{Slot}
 use Rattle.fa_tree.specs.parts.SlotParts.{place_of, file_in, names_shown}
-use Rattle.fa_tree.proofs.SameLemmas.{walked, names_within}
+use Rattle.fa_store.proofs.CallerLemmas.{walked}
+use Rattle.fa_tree.proofs.SameLemmas.{names_within}
 use Rattle.fa_tree.proofs.slots.Slots.is_within.Goals as goal
 
 pub returns : goal.returns

@@ -1,5 +1,5 @@
 use Rattle.fa_tree.specs.State.{File}
-use Rattle.fa_tree.specs.Contents.{IsReadAs, readable}
+use Rattle.fa_store.specs.Contents.{IsReadAs, readable}
 use Rattle.fa_tree.specs.parts.FileParts.{file_shown}
 use Rattle.fa_tree.specs.parts.StoredView.{stored_shown}
 use Rattle.fa_tree.proofs.JudgingLemmas.{file_there, of_this}

@@ -1,5 +1,5 @@
 use Rattle.std.proofs.Common.{refl}
-use Rattle.fa_tree.specs.Contents.{resized}
+use Rattle.fa_store.specs.Contents.{resized}
 use Rattle.fa_tree.specs.parts.FileParts.{files_shown, with_bytes}
 use Rattle.fa_tree.specs.parts.CountParts.{counts_of}
 use Rattle.fa_tree.specs.parts.ParentParts.{parent_noted}

@@ -3,7 +3,7 @@ use Rattle.fa_bodies.specs.declared.flags.FattrFlags.{FattrFlags}
 use Rattle.fa_bodies.specs.FlagBits.{fattr_size}
 use Rattle.fa_bodies.specs.Flags.{has_flag, fattr_bits}
 use Rattle.fa_bodies.specs.Views.{setattr_shown}
-use Rattle.fa_tree.specs.Contents.{resized}
+use Rattle.fa_store.specs.Contents.{resized}
 use Rattle.fa_tree.specs.Rules.{with_file}
 use Rattle.fa_tree.specs.parts.FileParts.{with_bytes}
 use Rattle.fa_tree.specs.parts.StoredParts.{stored_with}

@@ -1,0 +1,3 @@
+pub mod PageLemmas
+pub mod ContentsLemmas
+pub mod CallerLemmas

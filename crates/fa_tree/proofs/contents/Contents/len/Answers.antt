@@ -1,7 +1,0 @@
-use Rattle.std.proofs.Common.{sym}
-use Rattle.fa_tree.specs.parts.PageParts.{page_of}
-use Rattle.fa_tree.proofs.ContentsLemmas.{length-bytes_of}
-use Rattle.fa_tree.proofs.contents.Contents.len.Goals as goal
-
-pub returns : goal.returns
-returns c = rw (sym c.self.view_is) (sym (length-bytes_of (page_of c.self.inside.pages) c.self.inside.len))

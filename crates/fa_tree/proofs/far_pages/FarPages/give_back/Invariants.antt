@@ -1,5 +1,0 @@
-use Rattle.fa_tree.specs.parts.PageParts.{far_page, SameBytes}
-use Rattle.fa_tree.proofs.far_pages.FarPages.give_back.Given as goal
-
-abbrev pub invariant-loop-place : goal.invariant-loop-place
-invariant-loop-place l = SameBytes (far_page l.self) (far_page l.fn.self)

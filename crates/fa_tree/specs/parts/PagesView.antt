@@ -1,9 +1,0 @@
--- What the pages of a file show.
-use Rattle.fa_tree.specs.declared.pages.PageList.{PageList}
-use Rattle.fa_tree.specs.declared.pages.PageList.TheVariants.{One, Many}
-use Rattle.fa_tree.specs.parts.PageParts.{PagesShown, only_page}
-
--- what each of them stores
-abbrev pub pages_shown : PageList → PagesShown
-pages_shown (One page) = only_page page
-pages_shown (Many pages) = pages.value
