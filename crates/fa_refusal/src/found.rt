@@ -1,6 +1,6 @@
 //! The first of several, and how many there are.
 
-use std::alloc::{AllocError, Global};
+use std::alloc::Global;
 
 /// So many are kept.
 const FEW: usize = 3;
@@ -12,6 +12,8 @@ pub struct Found<T> {
     pub first: Vec<T>,
     /// How many were found.
     pub count: usize,
+    /// Whether memory was refused for one of the first.
+    pub(crate) lacks_memory: bool,
 }
 
 impl<T: Copy> Found<T> {
@@ -20,15 +22,15 @@ impl<T: Copy> Found<T> {
         Found {
             first: Vec::new(alloc),
             count: 0,
+            lacks_memory: false,
         }
     }
 
     /// One more.
-    pub(crate) fn add(&mut self, found: T) -> Result<(), AllocError> {
-        if self.count < FEW {
-            self.first.push(found)?;
+    pub(crate) fn add(&mut self, found: T) {
+        if self.count < FEW && self.first.push(found).is_err() {
+            self.lacks_memory = true;
         }
         self.count = self.count.saturating_add(1);
-        Ok(())
     }
 }

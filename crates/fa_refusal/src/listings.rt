@@ -5,7 +5,7 @@ use crate::found::Found;
 use crate::history::History;
 use fa_bodies::{Dirent, Entries, MAX_NAME};
 use fa_capture::Seed;
-use fa_ledger::{Calls, List, Operation, Outcome};
+use fa_ledger::{Calls, Operation, Outcome};
 use fa_tree::{FileId, Kind, OpenedDirectory, Tree};
 use indexmap::IndexMap;
 use std::alloc::{AllocError, Global};
@@ -63,26 +63,29 @@ pub struct Listing<'a, 't> {
     pub types: Found<OtherType<'a>>,
     /// that give a node, and are not in the directory any more.
     pub gone: Found<&'a [u8]>,
+    /// Whether memory was refused for something beside these.
+    lacks_memory: bool,
 }
 
 /// What is listed so far: each name whose file stayed, with the request whose answer lists it last.
 #[derive(Drop)]
 struct SoFar<'a> {
     names: IndexMap<&'a [u8], u32, Seed>,
+    /// Whether memory was refused for a name.
+    lacks_memory: bool,
 }
 
 impl<'a> SoFar<'a> {
     /// Notes an entry of an answer: the request whose answer lists its name already, if one does.
-    fn note(
-        &mut self,
-        opened: &OpenedDirectory<'_>,
-        name: &'a [u8],
-        asked: u32,
-    ) -> Result<Option<u32>, AllocError> {
-        if opened.stayed(name).is_none() {
-            return Ok(None);
+    fn note(&mut self, opened: &OpenedDirectory<'_>, name: &'a [u8], asked: u32) -> Option<u32> {
+        opened.stayed(name)?;
+        match self.names.insert(name, asked) {
+            Ok(before) => before,
+            Err(_) => {
+                self.lacks_memory = true;
+                None
+            }
         }
-        Ok(self.names.insert(name, asked)?)
     }
 }
 
@@ -96,13 +99,21 @@ struct Piece<'a> {
 }
 
 /// The entries that the answer to a request lists.
-fn entries_of<'a>(case: &Case<'a>) -> Option<(List<'a>, Entries<'a>)> {
+fn entries_of<'a>(case: &Case<'a>) -> Option<Entries<'a>> {
     match &case.operation {
         Operation::List(list) => match &list.outcome {
-            Outcome::Succeeds(entries) => Some((*list, *entries)),
+            Outcome::Succeeds(entries) => Some(*entries),
             _ => None,
         },
         Operation::Act(_) => None,
+    }
+}
+
+/// Whether a request asks for as much as any entry may take.
+fn has_room_for_any(case: &Case<'_>) -> bool {
+    match &case.operation {
+        Operation::List(list) => list.size as usize >= ROOM_FOR_ANY,
+        Operation::Act(_) => false,
     }
 }
 
@@ -110,17 +121,15 @@ fn entries_of<'a>(case: &Case<'a>) -> Option<(List<'a>, Entries<'a>)> {
 fn piece_before<'a>(calls: &'a Calls<'_>, case: &Case<'a>) -> Option<(Case<'a>, Piece<'a>)> {
     let (asked, count) = case.call.listing?.before?;
     let before = Case::of(calls, asked)?;
-    match entries_of(&before) {
-        Some((_, entries)) => Some((
-            before,
-            Piece {
-                asked,
-                entries,
-                count,
-            },
-        )),
-        None => None,
-    }
+    let entries = entries_of(&before)?;
+    Some((
+        before,
+        Piece {
+            asked,
+            entries,
+            count,
+        },
+    ))
 }
 
 /// The answers from which the listing of a request goes on, the last first.
@@ -151,13 +160,11 @@ pub(crate) fn listing_of<'a, 't>(
 ) -> Result<Listing<'a, 't>, AllocError> {
     let pieces = pieces_before(alloc, calls, case)?;
     let mut listing = Listing::empty(alloc, opened.directory());
-    let mut so_far = SoFar {
-        names: IndexMap::with_hasher(alloc, tree.seed()),
-    };
-    match listing.note_all(alloc, tree, opened, case, &pieces, &mut so_far) {
-        Ok(()) => Ok(listing),
-        Err(error) => Err(error),
+    listing.note_all(alloc, tree, opened, case, &pieces);
+    if listing.is_short_of_memory() {
+        return Err(AllocError);
     }
+    Ok(listing)
 }
 
 /// Whether it is known from where the listing of a request goes on, and its handle was open once alone.
@@ -181,7 +188,18 @@ impl<'a, 't> Listing<'a, 't> {
             never: Found::new(alloc),
             types: Found::new(alloc),
             gone: Found::new(alloc),
+            lacks_memory: false,
         }
+    }
+
+    /// Whether memory was refused for a part of it: it is not whole then.
+    fn is_short_of_memory(&self) -> bool {
+        self.lacks_memory
+            || self.missing.lacks_memory
+            || self.twice.lacks_memory
+            || self.never.lacks_memory
+            || self.types.lacks_memory
+            || self.gone.lacks_memory
     }
 
     /// Notes the answers from which it goes on, and the entries of its own.
@@ -192,18 +210,29 @@ impl<'a, 't> Listing<'a, 't> {
         opened: &OpenedDirectory<'t>,
         case: &Case<'a>,
         pieces: &[Piece<'a>],
-        so_far: &mut SoFar<'a>,
-    ) -> Result<(), AllocError> {
-        let Some((list, entries)) = entries_of(case) else {
-            return Ok(());
+    ) {
+        let Some(entries) = entries_of(case) else {
+            return;
         };
-        self.note_pieces(opened, pieces, so_far)?;
+        let mut so_far = SoFar {
+            names: IndexMap::with_hasher(alloc, tree.seed()),
+            lacks_memory: false,
+        };
+        self.note_pieces(opened, pieces, &mut so_far);
         let is_judged = is_whole(case);
-        self.note_entries(tree, opened, case.call.asked, entries, is_judged, so_far)?;
-        if is_judged && entries.take(1).count() == 0 && list.size as usize >= ROOM_FOR_ANY {
-            self.note_missing(alloc, so_far, opened)?;
+        self.note_entries(
+            tree,
+            opened,
+            case.call.asked,
+            entries,
+            is_judged,
+            &mut so_far,
+        );
+        if so_far.lacks_memory {
+            self.lacks_memory = true;
+        } else if is_judged && entries.take(1).count() == 0 && has_room_for_any(case) {
+            self.note_missing(alloc, &so_far, opened);
         }
-        Ok(())
     }
 
     /// Notes the answers from which it goes on.
@@ -212,16 +241,15 @@ impl<'a, 't> Listing<'a, 't> {
         opened: &OpenedDirectory<'t>,
         pieces: &[Piece<'a>],
         so_far: &mut SoFar<'a>,
-    ) -> Result<(), AllocError> {
+    ) {
         for piece in pieces {
-            if self.pieces.len() < LAST_PIECES {
-                self.pieces.push(piece.asked)?;
+            if self.pieces.len() < LAST_PIECES && self.pieces.push(piece.asked).is_err() {
+                self.lacks_memory = true;
             }
         }
         for piece in pieces.iter().rev() {
-            self.note_piece(opened, piece, so_far)?;
+            self.note_piece(opened, piece, so_far);
         }
-        Ok(())
     }
 
     /// Notes the entries of its own answer, and where it is judged those whose names are listed already.
@@ -233,14 +261,13 @@ impl<'a, 't> Listing<'a, 't> {
         entries: Entries<'a>,
         is_judged: bool,
         so_far: &mut SoFar<'a>,
-    ) -> Result<(), AllocError> {
+    ) {
         for dirent in entries {
-            self.note_entry(tree, opened, &dirent)?;
+            self.note_entry(tree, opened, &dirent);
             if is_judged {
-                self.note_again(so_far, opened, &dirent, asked)?;
+                self.note_again(so_far, opened, &dirent, asked);
             }
         }
-        Ok(())
     }
 
     /// Notes the entries that count of an answer from which it goes on.
@@ -249,42 +276,35 @@ impl<'a, 't> Listing<'a, 't> {
         opened: &OpenedDirectory<'_>,
         piece: &Piece<'a>,
         so_far: &mut SoFar<'a>,
-    ) -> Result<(), AllocError> {
+    ) {
         for dirent in piece.entries.take(piece.count as usize) {
             if !is_dots(dirent.name) {
                 self.listed = self.listed.saturating_add(1);
             }
-            so_far.note(opened, dirent.name, piece.asked)?;
+            so_far.note(opened, dirent.name, piece.asked);
         }
-        Ok(())
     }
 
     /// Notes an entry of the answer.
-    fn note_entry(
-        &mut self,
-        tree: &Tree,
-        opened: &OpenedDirectory<'_>,
-        dirent: &Dirent<'a>,
-    ) -> Result<(), AllocError> {
+    fn note_entry(&mut self, tree: &Tree, opened: &OpenedDirectory<'_>, dirent: &Dirent<'a>) {
         let name = dirent.name;
         if is_dots(name) {
-            return Ok(());
+            return;
         }
         self.entries = self.entries.saturating_add(1);
         if !opened.had(name) {
-            self.never.add(name)?;
+            self.never.add(name);
         }
         if let Some(expected) = other_kind(tree, opened, dirent) {
             self.types.add(OtherType {
                 name,
                 answered: dirent.kind,
                 expected,
-            })?;
+            });
         }
         if gives_node(dirent) && tree.find(self.directory, name).is_none() {
-            self.gone.add(name)?;
+            self.gone.add(name);
         }
-        Ok(())
     }
 
     /// Notes an entry whose name is listed already.
@@ -294,29 +314,26 @@ impl<'a, 't> Listing<'a, 't> {
         opened: &OpenedDirectory<'_>,
         dirent: &Dirent<'a>,
         asked: u32,
-    ) -> Result<(), AllocError> {
-        if let Some(first) = so_far.note(opened, dirent.name, asked)? {
+    ) {
+        if let Some(first) = so_far.note(opened, dirent.name, asked) {
             self.twice.add(Twice {
                 name: dirent.name,
                 first,
                 second: asked,
-            })?;
+            });
         }
-        Ok(())
     }
 
     /// Notes the names that stayed and were not listed, the least first.
-    fn note_missing(
-        &mut self,
-        alloc: Global,
-        so_far: &SoFar<'_>,
-        opened: &OpenedDirectory<'t>,
-    ) -> Result<(), AllocError> {
-        let missing = missing_names(alloc, so_far, opened)?;
-        for name in &missing {
-            self.missing.add(*name)?;
+    fn note_missing(&mut self, alloc: Global, so_far: &SoFar<'_>, opened: &OpenedDirectory<'t>) {
+        match missing_names(alloc, so_far, opened) {
+            Ok(missing) => {
+                for name in &missing {
+                    self.missing.add(*name);
+                }
+            }
+            Err(_) => self.lacks_memory = true,
         }
-        Ok(())
     }
 
     /// Asks a history for the places of which the lines tell, for the directory, and for the files whose entries have another type.

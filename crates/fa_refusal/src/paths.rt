@@ -10,38 +10,47 @@ const MOST_NAMES: u32 = 33_554_432;
 ///
 /// # Errors
 ///
-/// [`AllocError`] where memory was refused: for twice the path, and the slices of its names.
+/// [`AllocError`] where memory was refused for the path.
 ///
 /// # Cost
 ///
-/// Time in the path, and in what [`name_of`](Tree::name_of) takes for each of its names.
+/// Time in the path, and in what [`name_of`](Tree::name_of) takes for each of its names. Memory for the path.
 pub fn path_of(alloc: Global, tree: &Tree, file: FileId) -> Result<Option<Vec<u8>>, AllocError> {
-    let mut names = Vec::new(alloc);
-    let mut at = file;
-    for _ in 0..MOST_NAMES {
-        if at == tree.root() {
-            return Ok(Some(joined(alloc, &names)?));
-        }
-        let Some((directory, name)) = tree.name_of(at) else {
-            return Ok(None);
-        };
-        names.push(name)?;
-        at = directory;
+    let mut path = Vec::new(alloc);
+    if !put_backwards(&mut path, tree, file)? {
+        return Ok(None);
     }
-    Ok(None)
+    path.reverse();
+    Ok(Some(path))
 }
 
-/// The path of these names, the last first.
-fn joined(alloc: Global, names: &[&[u8]]) -> Result<Vec<u8>, AllocError> {
-    let mut path = Vec::new(alloc);
-    for name in names.iter().rev() {
+/// Puts the path of a file into an empty list, its last byte first: whether names lead to the file.
+fn put_backwards(path: &mut Vec<u8>, tree: &Tree, file: FileId) -> Result<bool, AllocError> {
+    if file == tree.root() {
         path.push(b'/')?;
-        path.extend_from_slice(name)?;
+        return Ok(true);
     }
-    if path.is_empty() {
-        path.push(b'/')?;
+    let mut at = file;
+    for _ in 0..MOST_NAMES {
+        let Some((directory, name)) = tree.name_of(at) else {
+            return Ok(false);
+        };
+        put_name_backwards(path, name)?;
+        if directory == tree.root() {
+            return Ok(true);
+        }
+        at = directory;
     }
-    Ok(path)
+    Ok(false)
+}
+
+/// Puts a name into a path that is put together backwards, and behind it the slash that it has in front.
+fn put_name_backwards(path: &mut Vec<u8>, name: &[u8]) -> Result<(), AllocError> {
+    for byte in name.iter().rev() {
+        path.push(*byte)?;
+    }
+    path.push(b'/')?;
+    Ok(())
 }
 
 /// Whether a directory is another file, or below it.
