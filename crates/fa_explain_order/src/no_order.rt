@@ -33,6 +33,15 @@ const FEW: usize = 8;
 /// How many bytes a label has, with the blank behind it.
 const LABEL: usize = 9;
 
+/// The label of the line of the rule.
+const RULE: &[u8] = b"rule ";
+
+/// That of a line of what does not hold of a success.
+const HERE: &[u8] = b"here ";
+
+/// That of the line that says until when the answer was right.
+const EARLIER: &[u8] = b"earlier ";
+
 /// The trees of which lines are written, in front of what to look at.
 static ON_TREE: [&str; MOST_REASONS] = [
     "On tree 1: ",
@@ -46,13 +55,13 @@ static ON_TREE: [&str; MOST_REASONS] = [
 ];
 
 /// The label of the line that says which part of what a success needs does not hold.
-static OF_PARTS: [&[u8]; 1] = [b"here "];
+static OF_PARTS: [&[u8]; 1] = [HERE];
 
 /// The same of lines that say what the tree holds: where an error has no cause, and where no part was found.
 static OF_TREES: [&[u8]; 1] = [b"tree "];
 
 /// The same of a node that is given for another file.
-static OF_NODES: [&[u8]; 2] = [b"given ", b"here "];
+static OF_NODES: [&[u8]; 2] = [b"given ", HERE];
 
 /// The same of a listing. There they are written too.
 static OF_LISTINGS: [&[u8]; 5] = [b"missing ", b"twice ", b"never ", b"type ", b"gone "];
@@ -94,8 +103,8 @@ pub struct NoOrderReasons {
 ///
 /// # Cost
 ///
-/// For each order that of [`order_reasons`](crate::order_reasons) on it, and for each two of them each line of one is compared with all of
-/// the other. Memory for two copies of the tree, and 32 KiB an order.
+/// For each order that of [`order_reasons`](crate::order_reasons) on it, and for each two of them each line of one that tells what differs
+/// is compared with all of the other. Memory for two copies of the tree, 32 KiB, and for each order the lines that tell.
 pub fn no_order_reasons(
     alloc: Global,
     capture: &Capture<'_>,
@@ -214,8 +223,12 @@ struct Reason {
     code: u16,
     /// Which of the lines of what to look at fit.
     looks: Looks,
-    /// The lines of it.
-    lines: Text,
+    /// The line of the rule that the answer breaks, empty where there is none,
+    rule: Vec<u8>,
+    /// those that say what differs on the tree,
+    differing: Vec<Vec<u8>>,
+    /// and the one that says until when the answer was right, empty where there is none.
+    earlier: Vec<u8>,
 }
 
 impl Reason {
@@ -283,79 +296,73 @@ impl Reason {
         case: &Case<'_>,
         finding: &Finding<'_, '_>,
     ) -> Result<Option<Self>, AllocError> {
-        let mut lines = Text::new(refused.alloc, ROOM_OF_A_TREE, false)?;
-        let looks = because(&mut lines, refused, tree, case, finding)?;
-        Ok(Some(Reason {
+        let mut text = Text::new(refused.alloc, ROOM_OF_A_TREE, false)?;
+        let looks = because(&mut text, refused, tree, case, finding)?;
+        let mut reason = Reason {
             order,
             code: finding.code(),
             looks,
-            lines,
-        }))
+            rule: Vec::new(refused.alloc),
+            differing: Vec::new(refused.alloc),
+            earlier: Vec::new(refused.alloc),
+        };
+        reason.take(refused.alloc, text.as_bytes())?;
+        Ok(Some(reason))
     }
 
-    /// The labels of the lines that say what differs on the tree.
-    fn telling(&self) -> &'static [&'static [u8]] {
-        match self.code {
-            codes::SUCCESS_NOT_ALLOWED => self.telling_of_success(),
-            codes::ERROR_WITHOUT_CAUSE => &OF_TREES,
-            codes::NODE_ID_OF_ANOTHER => &OF_NODES,
-            codes::LISTING => &OF_LISTINGS,
-            _ => &OF_VALUES,
+    /// Takes in the lines of it.
+    fn take(&mut self, alloc: Global, text: &[u8]) -> Result<(), AllocError> {
+        let telling = telling(self.code, text);
+        for line in text.split(is_line_feed) {
+            self.take_line(alloc, telling, line)?;
         }
+        Ok(())
     }
 
-    /// The same where a success is not allowed.
-    fn telling_of_success(&self) -> &'static [&'static [u8]] {
-        match self.line(b"here ") {
-            Some(_) => &OF_PARTS,
-            None => &OF_TREES,
+    /// Takes in a line: where its label is one of these, it says what differs.
+    fn take_line(
+        &mut self,
+        alloc: Global,
+        telling: &[&[u8]],
+        line: &[u8],
+    ) -> Result<(), AllocError> {
+        if has_one(line, telling) {
+            self.differing.push(Vec::from_slice(alloc, line)?)?;
+        } else if line.starts_with(RULE) && self.rule.is_empty() {
+            self.rule.extend_from_slice(line)?;
+        } else if line.starts_with(EARLIER) && self.earlier.is_empty() {
+            self.earlier.extend_from_slice(line)?;
         }
-    }
-
-    /// The first line that begins with this label.
-    fn line(&self, label: &[u8]) -> Option<&[u8]> {
-        for line in self.lines.as_bytes().split(is_line_feed) {
-            if line.starts_with(label) {
-                return Some(line);
-            }
-        }
-        None
-    }
-
-    /// Whether a line says what differs on the tree.
-    fn is_telling(&self, line: &[u8]) -> bool {
-        for label in self.telling() {
-            if line.starts_with(*label) {
-                return true;
-            }
-        }
-        false
+        Ok(())
     }
 
     /// Writes what differs on the tree, all but the first behind a label of its own.
     fn tell(&self, text: &mut Text, number: usize) {
         let mut is_first = true;
-        for line in self.lines.as_bytes().split(is_line_feed) {
-            if self.is_telling(line) {
-                if !is_first {
-                    text.end_line();
-                    tree_label(text, number);
-                    text.word("and ");
-                }
-                if self.code == codes::LISTING {
-                    printed(text, label_of(line));
-                    text.word(" ");
-                }
-                printed(text, behind_label(line));
-                is_first = false;
+        for line in &self.differing {
+            if !is_first {
+                text.end_line();
+                tree_label(text, number);
+                text.word("and ");
             }
+            self.tell_line(text, line);
+            is_first = false;
         }
     }
 
-    /// Whether one of the lines is this one.
+    /// Writes a line of what differs: of a listing with its label.
+    fn tell_line(&self, text: &mut Text, line: &[u8]) {
+        if self.code == codes::LISTING {
+            printed(text, label_of(line));
+            text.word(" ");
+        }
+        printed(text, behind_label(line));
+    }
+
+    /// Whether one of the lines that say what differs is this one.
     fn has_line(&self, line: &[u8]) -> bool {
-        for other in self.lines.as_bytes().split(is_line_feed) {
-            if other == line {
+        for other in &self.differing {
+            if other.as_slice() == line {
                 return true;
             }
         }
@@ -364,8 +371,8 @@ impl Reason {
 
     /// Whether all that is said to differ on the tree is said of another one too.
     fn is_told_by(&self, other: &Reason) -> bool {
-        for line in self.lines.as_bytes().split(is_line_feed) {
-            if self.is_telling(line) && !other.has_line(line) {
+        for line in &self.differing {
+            if !other.has_line(line) {
                 return false;
             }
         }
@@ -376,6 +383,37 @@ impl Reason {
     fn is_same(&self, other: &Reason) -> bool {
         self.code == other.code && self.is_told_by(other) && other.is_told_by(self)
     }
+}
+
+/// The labels of the lines that say what differs on a tree that refuses an answer with this code.
+fn telling(code: u16, text: &[u8]) -> &'static [&'static [u8]] {
+    match code {
+        codes::SUCCESS_NOT_ALLOWED if has_label(text, HERE) => &OF_PARTS,
+        codes::SUCCESS_NOT_ALLOWED | codes::ERROR_WITHOUT_CAUSE => &OF_TREES,
+        codes::NODE_ID_OF_ANOTHER => &OF_NODES,
+        codes::LISTING => &OF_LISTINGS,
+        _ => &OF_VALUES,
+    }
+}
+
+/// Whether a line of a text has this label.
+fn has_label(text: &[u8], label: &[u8]) -> bool {
+    for line in text.split(is_line_feed) {
+        if line.starts_with(label) {
+            return true;
+        }
+    }
+    false
+}
+
+/// Whether a line has one of these labels.
+fn has_one(line: &[u8], labels: &[&[u8]]) -> bool {
+    for label in labels {
+        if line.starts_with(*label) {
+            return true;
+        }
+    }
+    false
 }
 
 /// Whether a byte ends a line.
@@ -474,15 +512,19 @@ impl Reasons<'_> {
     /// Writes the rules that the answer breaks: one for each code with which trees refuse it.
     fn rule_lines(&self, text: &mut Text) {
         for code in codes::SUCCESS_NOT_ALLOWED..=codes::LISTING {
-            if let Some(reason) = self.with_code(code) {
-                if let Some(line) = reason.line(b"rule ") {
-                    text.word("rule     ");
-                    self.begin_code(text, code);
-                    printed(text, behind_label(line));
-                    text.end_line();
-                }
+            match self.with_code(code) {
+                Some(reason) if !reason.rule.is_empty() => self.rule_line(text, reason),
+                _ => {}
             }
         }
+    }
+
+    /// Writes the rule that the answer breaks on a tree.
+    fn rule_line(&self, text: &mut Text, reason: &Reason) {
+        text.word("rule     ");
+        self.begin_code(text, reason.code);
+        printed(text, behind_label(&reason.rule));
+        text.end_line();
     }
 
     /// Whether all trees refuse the answer with this code.
@@ -619,20 +661,18 @@ impl Reasons<'_> {
         let Some(first) = self.list.first() else {
             return;
         };
-        let Some(line) = first.line(b"earlier ") else {
-            return;
-        };
+        let line = first.earlier.as_slice();
         let are_all = self.list.len() == self.coming.trees;
-        if are_all && line != NEVER_RIGHT.as_bytes() && self.all_have_line(line) {
+        if are_all && !line.is_empty() && line != NEVER_RIGHT.as_bytes() && self.all_tell(line) {
             printed(text, line);
             text.end_line();
         }
     }
 
-    /// Whether one of the lines of each is this one.
-    fn all_have_line(&self, line: &[u8]) -> bool {
+    /// Whether each says that the answer was right until then.
+    fn all_tell(&self, earlier: &[u8]) -> bool {
         for reason in &self.list {
-            if !reason.has_line(line) {
+            if reason.earlier.as_slice() != earlier {
                 return false;
             }
         }
