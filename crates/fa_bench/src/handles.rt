@@ -2,7 +2,7 @@
 
 use crate::recording::Entries;
 use crate::volume::Volume;
-use std::alloc::{AllocError, Global};
+use std::alloc::Global;
 
 /// How many handles there are.
 const HANDLES: u64 = 20;
@@ -25,57 +25,52 @@ struct Listing {
 }
 
 /// The capture of a directory of so many names. At each of the first turns a new one comes.
-pub fn volume(alloc: Global, seed: u64, names: u64) -> Result<Volume, AllocError> {
-    let mut volume = Volume::seeded(alloc, 20, seed)?;
-    let directory = volume.mkdir(0)?;
+pub fn volume(alloc: Global, seed: u64, names: u64) -> Volume {
+    let mut volume = Volume::seeded(alloc, 20, seed);
+    let directory = volume.mkdir(0);
     for _ in 0..names {
-        volume.mknod(directory)?;
+        volume.mknod(directory);
     }
     let mut listings: Vec<Listing> = Vec::new(alloc);
     for place in 0..HANDLES {
-        let handle = volume.opendir(directory)?;
-        listings.push(Listing {
-            handle,
+        let listing = Listing {
+            handle: volume.opendir(directory),
             plus: place % 4 == 0,
             next: 0,
             ended: false,
-        })?;
+        };
+        volume.recording.note_refusal(listings.push(listing));
     }
     for turn in 0..names.saturating_add(TURNS) {
         for listing in listings.iter_mut() {
-            list_more(&mut volume, directory, listing)?;
+            list_more(&mut volume, directory, listing);
         }
         if listings.iter().all(|listing| listing.ended) {
             break;
         }
         if turn < TURNS {
-            volume.mknod(directory)?;
+            volume.mknod(directory);
         }
     }
     for listing in listings.iter() {
-        volume.releasedir(directory, listing.handle)?;
+        volume.releasedir(directory, listing.handle);
     }
-    Ok(volume)
+    volume
 }
 
 /// One answer of a listing, if it is not at its end.
-fn list_more(
-    volume: &mut Volume,
-    directory: usize,
-    listing: &mut Listing,
-) -> Result<(), AllocError> {
+fn list_more(volume: &mut Volume, directory: usize, listing: &mut Listing) {
     if listing.ended {
-        return Ok(());
+        return;
     }
     let mut entries = Entries::new(volume.alloc, listing.plus, ASKED);
     if listing.next == 0 {
         let node = volume.directory_node(directory);
         let attributes = volume.attributes(node);
-        entries.add(b".", DOT, 0, attributes)?;
-        entries.add(b"..", DOT_DOT, 0, attributes)?;
+        entries.add(b".", DOT, 0, attributes);
+        entries.add(b"..", DOT_DOT, 0, attributes);
     }
-    let next = volume.list_on(directory, listing.handle, listing.next, entries)?;
+    let next = volume.list_on(directory, listing.handle, listing.next, entries);
     listing.ended = next == listing.next;
     listing.next = next;
-    Ok(())
 }

@@ -54,7 +54,7 @@ fn all_jobs<R: AllocGlobal + Print>(rt: &R, work: Work, seed: u64, size: u64) ->
 }
 
 fn stress_job<R: AllocGlobal + Print>(rt: &R, work: Work, seed: u64, size: u64) -> Result<()> {
-    let volume = stress::volume(rt.alloc(), seed, size)?;
+    let volume = stress::volume(rt.alloc(), seed, size);
     take(rt, work, "stress", volume, None)
 }
 
@@ -79,21 +79,21 @@ fn walk_job<R: AllocGlobal + Print>(rt: &R, work: Work, seed: u64, size: u64) ->
 }
 
 fn threads_job<R: AllocGlobal + Print>(rt: &R, work: Work, seed: u64, size: u64) -> Result<()> {
-    let volume = threads::volume(rt.alloc(), seed, size)?;
+    let volume = threads::volume(rt.alloc(), seed, size);
     take(rt, work, "threads", volume, None)
 }
 
 /// The size is that of the deep tree; the others are so much larger or smaller that each takes its share of the time.
 fn awkward_job<R: AllocGlobal + Print>(rt: &R, work: Work, seed: u64, size: u64) -> Result<()> {
     let alloc = rt.alloc();
-    take(rt, work, "deep", awkward::deep(alloc, seed, size)?, None)?;
-    let removal = awkward::removal(alloc, seed, size.saturating_mul(20))?;
+    take(rt, work, "deep", awkward::deep(alloc, seed, size), None)?;
+    let removal = awkward::removal(alloc, seed, size.saturating_mul(20));
     take(rt, work, "removal", removal, None)?;
-    let listing = awkward::listing(alloc, seed, size.saturating_mul(60))?;
+    let listing = awkward::listing(alloc, seed, size.saturating_mul(60));
     take(rt, work, "listing", listing, None)?;
-    let growth = awkward::growth(alloc, seed, size / 4)?;
+    let growth = awkward::growth(alloc, seed, size / 4);
     take(rt, work, "growth", growth, None)?;
-    let links = awkward::links(alloc, seed, size.saturating_mul(5))?;
+    let links = awkward::links(alloc, seed, size.saturating_mul(5));
     take(rt, work, "links", links, None)
 }
 
@@ -105,7 +105,7 @@ fn wrong_job<R: AllocGlobal + Print>(rt: &R, work: Work, seed: u64, size: u64) -
 
 /// A capture that ends as `fault`.
 fn fault_job<R: AllocGlobal + Print>(rt: &R, work: Work, seed: u64, size: u64) -> Result<()> {
-    let volume = stress::answered_twice(rt.alloc(), seed, size)?;
+    let volume = stress::answered_twice(rt.alloc(), seed, size);
     take(rt, work, "fault", volume, None)
 }
 
@@ -115,22 +115,22 @@ fn unaligned_job<R: AllocGlobal + Print>(rt: &R, work: Work, seed: u64, size: u6
 }
 
 fn handles_job<R: AllocGlobal + Print>(rt: &R, work: Work, seed: u64, size: u64) -> Result<()> {
-    let volume = handles::volume(rt.alloc(), seed, size)?;
+    let volume = handles::volume(rt.alloc(), seed, size);
     take(rt, work, "handles", volume, None)
 }
 
 fn interrupted_job<R: AllocGlobal + Print>(rt: &R, work: Work, seed: u64, size: u64) -> Result<()> {
-    let volume = interrupted::volume(rt.alloc(), seed, size)?;
+    let volume = interrupted::volume(rt.alloc(), seed, size);
     take(rt, work, "interrupted", volume, None)
 }
 
 fn reused_job<R: AllocGlobal + Print>(rt: &R, work: Work, seed: u64, size: u64) -> Result<()> {
-    let volume = reused::volume(rt.alloc(), seed, size)?;
+    let volume = reused::volume(rt.alloc(), seed, size);
     take(rt, work, "reused", volume, None)
 }
 
 fn names_job<R: AllocGlobal + Print>(rt: &R, work: Work, seed: u64, size: u64) -> Result<()> {
-    let volume = new_names::volume(rt.alloc(), seed, size)?;
+    let volume = new_names::volume(rt.alloc(), seed, size);
     take(rt, work, "names", volume, None)
 }
 

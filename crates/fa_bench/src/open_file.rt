@@ -13,13 +13,13 @@ pub struct OpenFile {
 
 impl OpenFile {
     /// CREATE of a file in the root
-    pub fn create(volume: &mut Volume) -> Result<Self, AllocError> {
-        let (node, handle) = volume.create(0)?;
-        Ok(OpenFile {
+    pub fn create(volume: &mut Volume) -> Self {
+        let (node, handle) = volume.create(0);
+        OpenFile {
             node,
             handle,
             bytes: Vec::new(volume.alloc),
-        })
+        }
     }
 
     /// How many bytes it has.
@@ -28,14 +28,10 @@ impl OpenFile {
     }
 
     /// WRITE at a place
-    pub fn write(
-        &mut self,
-        volume: &mut Volume,
-        offset: u64,
-        payload: &[u8],
-    ) -> Result<(), AllocError> {
-        volume.write(self.node, self.handle, offset, payload)?;
-        self.put_at(offset as usize, payload)
+    pub fn write(&mut self, volume: &mut Volume, offset: u64, payload: &[u8]) {
+        volume.write(self.node, self.handle, offset, payload);
+        let written = self.put_at(offset as usize, payload);
+        volume.recording.note_refusal(written);
     }
 
     /// Writes bytes at a place, with zeros before it where there are fewer.
@@ -51,23 +47,20 @@ impl OpenFile {
     }
 
     /// READ of so many bytes, of which those come that are there
-    pub fn read(&self, volume: &mut Volume, offset: u64, asked: u32) -> Result<(), AllocError> {
+    pub fn read(&self, volume: &mut Volume, offset: u64, asked: u32) {
         let bytes = self.range(offset, asked);
-        volume.read(self.node, self.handle, offset, asked, bytes)
+        volume.read(self.node, self.handle, offset, asked, bytes);
     }
 
     /// The same, but that the last byte is another one
-    pub fn read_wrong(
-        &self,
-        volume: &mut Volume,
-        offset: u64,
-        asked: u32,
-    ) -> Result<(), AllocError> {
-        let mut bytes = Vec::from_slice(volume.alloc, self.range(offset, asked))?;
+    pub fn read_wrong(&self, volume: &mut Volume, offset: u64, asked: u32) {
+        let mut bytes = Vec::new(volume.alloc);
+        let copied = bytes.extend_from_slice(self.range(offset, asked));
+        volume.recording.note_refusal(copied);
         if let Some(last) = bytes.last_mut() {
             *last ^= 1;
         }
-        volume.read(self.node, self.handle, offset, asked, bytes.as_slice())
+        volume.read(self.node, self.handle, offset, asked, bytes.as_slice());
     }
 
     /// The bytes from a place on, so many if they are there.
@@ -77,8 +70,9 @@ impl OpenFile {
     }
 
     /// SETATTR of the size, by which it is cut or filled with zeros
-    pub fn set_size(&mut self, volume: &mut Volume, size: u64) -> Result<(), AllocError> {
-        volume.truncate(self.node, size)?;
-        self.bytes.resize(size as usize, 0)
+    pub fn set_size(&mut self, volume: &mut Volume, size: u64) {
+        volume.truncate(self.node, size);
+        let resized = self.bytes.resize(size as usize, 0);
+        volume.recording.note_refusal(resized);
     }
 }

@@ -4,54 +4,52 @@ use crate::random::Random;
 use crate::recording::EEXIST;
 use crate::volume::{DIR, LNK, REG, ROOT, Volume};
 use fa_bodies::opcodes;
-use std::alloc::{AllocError, Global};
+use std::alloc::Global;
 
 /// How many directories there are.
 const DIRECTORIES: u64 = 6;
 
 /// The capture of so many steps, before which a twelfth as many files are made.
-pub fn volume(alloc: Global, seed: u64, steps: u64) -> Result<Volume, AllocError> {
+pub fn volume(alloc: Global, seed: u64, steps: u64) -> Volume {
     let mut random = Random::new(seed);
-    let mut volume = Volume::new(alloc, 28)?;
-    begin(&mut volume, &mut random, steps / 12)?;
-    take_steps(&mut volume, &mut random, steps)?;
-    Ok(volume)
+    let mut volume = Volume::new(alloc, 28);
+    begin(&mut volume, &mut random, steps / 12);
+    take_steps(&mut volume, &mut random, steps);
+    volume
 }
 
 /// The same, but that a request is answered twice when so many steps are taken, behind which there are a fiftieth as many.
-pub fn answered_twice(alloc: Global, seed: u64, steps: u64) -> Result<Volume, AllocError> {
+pub fn answered_twice(alloc: Global, seed: u64, steps: u64) -> Volume {
     let mut random = Random::new(seed);
-    let mut volume = Volume::seeded(alloc, 28, seed)?;
-    begin(&mut volume, &mut random, steps / 12)?;
-    take_steps(&mut volume, &mut random, steps)?;
-    let unique = volume.recording.bare(opcodes::STATFS, ROOT)?;
-    volume.recording.done(unique, 80)?;
-    volume.recording.done(unique, 80)?;
-    take_steps(&mut volume, &mut random, steps / 50)?;
-    Ok(volume)
+    let mut volume = Volume::seeded(alloc, 28, seed);
+    begin(&mut volume, &mut random, steps / 12);
+    take_steps(&mut volume, &mut random, steps);
+    let unique = volume.recording.bare(opcodes::STATFS, ROOT);
+    volume.recording.done(unique, 80);
+    volume.recording.done(unique, 80);
+    take_steps(&mut volume, &mut random, steps / 50);
+    volume
 }
 
 /// The directories, and so many files in them.
-fn begin(volume: &mut Volume, random: &mut Random, files: u64) -> Result<(), AllocError> {
+fn begin(volume: &mut Volume, random: &mut Random, files: u64) {
     for _ in 1..DIRECTORIES {
-        volume.mkdir(0)?;
+        volume.mkdir(0);
     }
     for _ in 0..files {
         let directory = random.below(DIRECTORIES) as usize;
-        volume.mknod(directory)?;
+        volume.mknod(directory);
     }
-    Ok(())
 }
 
-fn take_steps(volume: &mut Volume, random: &mut Random, steps: u64) -> Result<(), AllocError> {
+fn take_steps(volume: &mut Volume, random: &mut Random, steps: u64) {
     for _ in 0..steps {
-        step(volume, random)?;
+        step(volume, random);
     }
-    Ok(())
 }
 
 /// One of the requests of such a run, by their shares of a thousand.
-fn step(volume: &mut Volume, random: &mut Random) -> Result<(), AllocError> {
+fn step(volume: &mut Volume, random: &mut Random) {
     let directory = random.below(DIRECTORIES) as usize;
     match random.below(1000) {
         0..370 => volume.statfs(),
@@ -65,87 +63,75 @@ fn step(volume: &mut Volume, random: &mut Random) -> Result<(), AllocError> {
         905..915 => link_refused(volume, random, directory),
         915..940 => opened(volume, directory),
         940..965 => {
-            volume.symlink(directory)?;
-            Ok(())
+            volume.symlink(directory);
         }
         965..985 => {
-            volume.mknod(directory)?;
-            Ok(())
+            volume.mknod(directory);
         }
         _ => rename(volume, random, directory),
     }
 }
 
-fn look(volume: &mut Volume, random: &mut Random, directory: usize) -> Result<(), AllocError> {
-    match volume.some_child(random, directory) {
-        Some((_, child)) => volume.lookup(directory, child),
-        None => Ok(()),
+fn look(volume: &mut Volume, random: &mut Random, directory: usize) {
+    if let Some((_, child)) = volume.some_child(random, directory) {
+        volume.lookup(directory, child);
     }
 }
 
-fn stat(volume: &mut Volume, random: &mut Random, directory: usize) -> Result<(), AllocError> {
-    match volume.some_child(random, directory) {
-        Some((_, child)) => volume.getattr(child.node),
-        None => Ok(()),
+fn stat(volume: &mut Volume, random: &mut Random, directory: usize) {
+    if let Some((_, child)) = volume.some_child(random, directory) {
+        volume.getattr(child.node);
     }
 }
 
-fn remove(volume: &mut Volume, random: &mut Random, directory: usize) -> Result<(), AllocError> {
-    match volume.some_child(random, directory) {
-        Some((place, child)) if volume.attributes(child.node).mode != DIR => {
-            volume.unlink(directory, place, child)
+fn remove(volume: &mut Volume, random: &mut Random, directory: usize) {
+    if let Some((place, child)) = volume.some_child(random, directory) {
+        if volume.attributes(child.node).mode != DIR {
+            volume.unlink(directory, place, child);
         }
-        _ => Ok(()),
     }
 }
 
 /// READLINK of a symbolic link, if one of a few names is one
-fn read_link(volume: &mut Volume, random: &mut Random, directory: usize) -> Result<(), AllocError> {
+fn read_link(volume: &mut Volume, random: &mut Random, directory: usize) {
     for _ in 0..8 {
         if let Some((_, child)) = volume.some_child(random, directory) {
             if volume.attributes(child.node).mode == LNK {
-                return volume.readlink(child.node);
+                volume.readlink(child.node);
+                break;
             }
         }
     }
-    Ok(())
 }
 
-fn link(volume: &mut Volume, random: &mut Random, directory: usize) -> Result<(), AllocError> {
+fn link(volume: &mut Volume, random: &mut Random, directory: usize) {
     let from = random.below(DIRECTORIES) as usize;
-    match volume.some_child(random, from) {
-        Some((_, child)) if volume.attributes(child.node).mode == REG => {
-            volume.link(child.node, directory)
+    if let Some((_, child)) = volume.some_child(random, from) {
+        if volume.attributes(child.node).mode == REG {
+            volume.link(child.node, directory);
         }
-        _ => Ok(()),
     }
 }
 
 /// LINK to a name that is there
-fn link_refused(
-    volume: &mut Volume,
-    random: &mut Random,
-    directory: usize,
-) -> Result<(), AllocError> {
-    match volume.some_child(random, directory) {
-        Some((_, child)) if volume.attributes(child.node).mode == REG => {
-            volume.link_refused(child.node, directory, child, EEXIST)
+fn link_refused(volume: &mut Volume, random: &mut Random, directory: usize) {
+    if let Some((_, child)) = volume.some_child(random, directory) {
+        if volume.attributes(child.node).mode == REG {
+            volume.link_refused(child.node, directory, child, EEXIST);
         }
-        _ => Ok(()),
     }
 }
 
-fn opened(volume: &mut Volume, directory: usize) -> Result<(), AllocError> {
-    let handle = volume.opendir(directory)?;
-    volume.releasedir(directory, handle)
+fn opened(volume: &mut Volume, directory: usize) {
+    let handle = volume.opendir(directory);
+    volume.releasedir(directory, handle);
 }
 
-fn rename(volume: &mut Volume, random: &mut Random, directory: usize) -> Result<(), AllocError> {
+fn rename(volume: &mut Volume, random: &mut Random, directory: usize) {
     let to = random.below(DIRECTORIES) as usize;
-    match volume.some_child(random, directory) {
-        Some((place, child)) if volume.attributes(child.node).mode != DIR => {
-            volume.rename(directory, place, child, to)
+    if let Some((place, child)) = volume.some_child(random, directory) {
+        if volume.attributes(child.node).mode != DIR {
+            volume.rename(directory, place, child, to);
         }
-        _ => Ok(()),
     }
 }

@@ -21,26 +21,22 @@ const GAP: u64 = 10_000;
 pub fn volume(alloc: Global, seed: u64, steps: u64) -> Result<Volume, AllocError> {
     let mut random = Random::new(seed);
     let pool = Pool::new(alloc, &mut random)?;
-    let mut volume = Volume::seeded(alloc, 20, seed)?;
+    let mut volume = Volume::seeded(alloc, 20, seed);
     let mut files = Vec::new(alloc);
     for _ in 0..FILES {
-        files.push(OpenFile::create(&mut volume)?)?;
+        let file = OpenFile::create(&mut volume);
+        volume.recording.note_refusal(files.push(file));
     }
     for _ in 0..steps {
         let place = random.place(files.len());
         if let Some(file) = files.get_mut(place) {
-            step(&mut volume, &pool, &mut random, file)?;
+            step(&mut volume, &pool, &mut random, file);
         }
     }
     Ok(volume)
 }
 
-fn step(
-    volume: &mut Volume,
-    pool: &Pool,
-    random: &mut Random,
-    file: &mut OpenFile,
-) -> Result<(), AllocError> {
+fn step(volume: &mut Volume, pool: &Pool, random: &mut Random, file: &mut OpenFile) {
     let size = file.size();
     let within = random.below(size.saturating_add(1));
     let beyond = random.below(size.saturating_add(GAP));
@@ -65,9 +61,9 @@ fn write(
     file: &mut OpenFile,
     offset: u64,
     len: u64,
-) -> Result<(), AllocError> {
+) {
     let from = random.below(500_000);
     let payload = pool.range(from, from.saturating_add(len));
     let last = MOST.saturating_sub(len).saturating_sub(random.below(GAP));
-    file.write(volume, offset.min(last), payload)
+    file.write(volume, offset.min(last), payload);
 }

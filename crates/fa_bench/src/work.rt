@@ -21,7 +21,7 @@ pub fn take<R: AllocGlobal + Print>(
     volume: Volume,
     tree: Option<&[u8]>,
 ) -> Result<()> {
-    let capture = volume.recording.as_slice();
+    let capture = volume.recording.capture()?;
     match work {
         Work::Make => tell_made(rt, name, capture, tree.unwrap_or(b"")),
         Work::Judge => judge(rt, name, capture, tree),
