@@ -52,17 +52,14 @@ pub fn look_at(text: &mut Text, code: u16, advice: Advice) {
         return;
     };
     let mut left = paragraph.lines;
-    let mut place: usize = 0;
-    for _ in 0..MOST_LINES {
-        let Some((line, behind)) = left.split_once('\n') else {
+    for place in 0..MOST_LINES {
+        let Some((line, behind)) = next_advice(left) else {
             break;
         };
-        if line.starts_with("look at  ") {
-            if advice.has(place) {
-                text.word(line);
-                text.end_line();
-            }
-            place = place.saturating_add(1);
+        if advice.has(place) {
+            text.word("look at  ");
+            text.word(line);
+            text.end_line();
         }
         left = behind;
     }
@@ -72,18 +69,36 @@ pub fn look_at(text: &mut Text, code: u16, advice: Advice) {
 ///
 /// Takes no memory, and time linear in the paragraph.
 pub fn advice_of(code: u16, case: &str) -> Option<&'static str> {
-    let mut left = Paragraph::of(code)?.lines;
+    let Some(paragraph) = Paragraph::of(code) else {
+        return None;
+    };
+    let mut left = paragraph.lines;
     for _ in 0..MOST_LINES {
-        let (line, behind) = left.split_once('\n')?;
+        let Some((advice, behind)) = next_advice(left) else {
+            break;
+        };
+        if case.is_empty() {
+            return Some(advice);
+        }
+        if let Some(rest) = advice.strip_prefix(case) {
+            if let Some(words) = rest.strip_prefix(": ") {
+                return Some(words);
+            }
+        }
+        left = behind;
+    }
+    None
+}
+
+/// The first of the lines of what to look at, without its label, and the lines behind it.
+fn next_advice(lines: &'static str) -> Option<(&'static str, &'static str)> {
+    let mut left = lines;
+    for _ in 0..MOST_LINES {
+        let Some((line, behind)) = left.split_once('\n') else {
+            break;
+        };
         if let Some(advice) = line.strip_prefix("look at  ") {
-            if case.is_empty() {
-                return Some(advice);
-            }
-            if let Some(rest) = advice.strip_prefix(case) {
-                if let Some(words) = rest.strip_prefix(": ") {
-                    return Some(words);
-                }
-            }
+            return Some((advice, behind));
         }
         left = behind;
     }

@@ -38,17 +38,22 @@ pub(crate) fn refused(text: &mut Text, fault: &Fault<'_>) {
 pub(crate) fn looks_up_a_dot(fault: &Fault<'_>) -> bool {
     match request_in(&fault.packet) {
         Some(asked) => {
-            asked.opcode == opcodes::LOOKUP
-                && (asked.behind == b".\0".as_slice() || asked.behind == b"..\0".as_slice())
+            asked.opcode == opcodes::LOOKUP && matches!(asked.behind, [b'.', 0] | [b'.', b'.', 0])
         }
         None => false,
     }
 }
 
-/// Writes how many bytes a body has.
-fn this_one(text: &mut Text, body: &[u8]) {
+/// Writes how many bytes a message or a body has.
+pub(crate) fn this_one(text: &mut Text, bytes: &[u8]) {
     text.word("this one has ");
-    text.count(body.len(), " byte", " bytes");
+    text.count(bytes.len(), " byte", " bytes");
+}
+
+/// Writes how many bytes stand behind something.
+pub(crate) fn stand_behind(text: &mut Text, bytes: &[u8], what: &str) {
+    text.count(bytes.len(), " byte stands behind ", " bytes stand behind ");
+    text.word(what);
 }
 
 /// Writes why what stands behind the struct of a body is none of its operation.
@@ -70,11 +75,15 @@ fn rest_refused(text: &mut Text, asked: &Asked<'_>, shape: &Shape, rest: &[u8]) 
         },
         Rest::Payload => {
             let size = u32_at(asked.behind, WRITE_SIZE).unwrap_or(0);
-            counted(text, "size says ", size, rest.len(), "the struct");
+            text.field("size says ", u64::from(size));
+            text.word(", and ");
+            stand_behind(text, rest, "the struct");
         }
         Rest::Items => {
             let count = u32_at(asked.behind, 0).unwrap_or(0);
-            counted(text, "count says ", count, rest.len(), "it");
+            text.field("count says ", u64::from(count));
+            text.word(", and ");
+            stand_behind(text, rest, "it");
         }
     }
 }
@@ -84,14 +93,6 @@ fn mode(text: &mut Text, body: &[u8]) {
     text.word("mode ");
     text.octal(u32_at(body, 0).unwrap_or(0), 7);
     text.word(" has no type that MKNOD makes");
-}
-
-/// Writes how many bytes are said to stand behind a struct, and how many do.
-fn counted(text: &mut Text, says: &str, said: u32, there: usize, behind: &str) {
-    text.field(says, u64::from(said));
-    text.word(", and ");
-    text.count(there, " byte stands behind ", " bytes stand behind ");
-    text.word(behind);
 }
 
 /// Writes which limit a request passes.

@@ -1,9 +1,9 @@
 //! Lines that cite messages.
 
-use crate::exchange::{Answered, Exchange, last_asked};
+use crate::exchange::{Answered, Exchange, last_asked, unique_of};
 use crate::fault::Fault;
 use fa_capture::{Capture, Direction, Packet, codes};
-use fa_show::{Fate, InitFields, Line, Text, message_in, request_in};
+use fa_show::{Fate, InitFields, Line, Text};
 
 /// So many first bytes of a message are written.
 const FRONT: usize = 48;
@@ -18,7 +18,10 @@ pub(crate) fn message_line(text: &mut Text, fault: &Fault<'_>, exchange: Option<
             partner: None,
             code: Some(fault.code),
         },
-        partner: answered_by(fault, exchange),
+        partner: match exchange {
+            Some(exchange) if fault.is_of_reply() => Some((exchange.asked, exchange.packet)),
+            _ => None,
+        },
     };
     // Where the flags are at fault, they are told.
     let fields = if fault.code == codes::NEGOTIATED_FLAGS {
@@ -30,32 +33,25 @@ pub(crate) fn message_line(text: &mut Text, fault: &Fault<'_>, exchange: Option<
     text.end_line();
 }
 
-/// The request that a message at fault answers, behind its number.
-fn answered_by<'a>(fault: &Fault<'_>, exchange: Option<Exchange<'a>>) -> Option<(u32, Packet<'a>)> {
-    let exchange = exchange?;
-    if fault.is_of_reply() {
-        Some((exchange.asked, exchange.packet))
-    } else {
-        None
+/// Writes the line of an earlier message: of an answer with what it answers.
+pub(crate) fn earlier(text: &mut Text, capture: &Capture<'_>, number: u32, asked: Option<u32>) {
+    text.word("earlier  ");
+    cite(text, capture, number, asked);
+}
+
+/// Writes the lines of an earlier answer and of an earlier request, where there are such.
+pub(crate) fn earlier_two(
+    text: &mut Text,
+    capture: &Capture<'_>,
+    answered: Option<Answered>,
+    request: Option<u32>,
+) {
+    if let Some(answered) = answered {
+        earlier(text, capture, answered.at, Some(answered.asked));
     }
-}
-
-/// Writes the line of an earlier request.
-pub(crate) fn earlier_request(text: &mut Text, capture: &Capture<'_>, number: u32) {
-    text.word("earlier  ");
-    cite(text, capture, number, None);
-}
-
-/// Writes the line of an earlier answer.
-pub(crate) fn earlier_answer(text: &mut Text, capture: &Capture<'_>, answered: Answered) {
-    text.word("earlier  ");
-    cite(text, capture, answered.at, Some(answered.asked));
-}
-
-/// Writes the line of an earlier message, with what it answers if it is a reply.
-pub(crate) fn earlier_message(text: &mut Text, capture: &Capture<'_>, number: u32) {
-    text.word("earlier  ");
-    cite(text, capture, number, asked_before(capture, number));
+    if let Some(request) = request {
+        earlier(text, capture, request, None);
+    }
 }
 
 /// The number of the request that the message of this number answers, if it is a reply: the last one before it with its unique.
@@ -63,7 +59,8 @@ pub(crate) fn earlier_message(text: &mut Text, capture: &Capture<'_>, number: u3
 /// Takes no memory, and time linear in the capture up to the message.
 pub fn asked_before(capture: &Capture<'_>, number: u32) -> Option<u32> {
     let packet = capture.packets().nth(number as usize)?;
-    Some(last_asked(capture, number, &packet)?.asked)
+    let unique = unique_of(&packet)?;
+    Some(last_asked(capture, number, unique)?.asked)
 }
 
 /// Writes what an answer that is at fault answers.
@@ -105,36 +102,31 @@ pub fn cite(text: &mut Text, capture: &Capture<'_>, number: u32, asked: Option<u
 
 /// The message of this number, behind the number.
 fn request_at<'a>(capture: &Capture<'a>, number: Option<u32>) -> Option<(u32, Packet<'a>)> {
-    let number = number?;
-    let packet = capture.packets().nth(number as usize)?;
-    Some((number, packet))
+    let Some(number) = number else {
+        return None;
+    };
+    match capture.packets().nth(number as usize) {
+        Some(packet) => Some((number, packet)),
+        None => None,
+    }
 }
 
 /// The number of the message that answers a request, if one does: the first message of the server behind it with its unique.
 fn answer_behind(capture: &Capture<'_>, number: u32, packet: &Packet<'_>) -> Option<u32> {
-    if packet.direction == Direction::FromServer {
+    let (Direction::ToServer, Some(unique)) = (packet.direction, unique_of(packet)) else {
         return None;
-    }
-    let asked = request_in(packet)?;
+    };
     let mut at: u32 = 0;
     for packet in capture.packets() {
-        if at > number && is_answer_to(&packet, asked.unique) {
+        if at > number
+            && packet.direction == Direction::FromServer
+            && unique_of(&packet) == Some(unique)
+        {
             return Some(at);
         }
         at = at.saturating_add(1);
     }
     None
-}
-
-/// Whether a message of the server answers the request with this unique.
-fn is_answer_to(packet: &Packet<'_>, unique: u64) -> bool {
-    match packet.direction {
-        Direction::ToServer => false,
-        Direction::FromServer => match message_in(packet) {
-            Some(told) => told.unique == unique,
-            None => false,
-        },
-    }
 }
 
 /// Writes how a message begins, in groups of four bytes; no line of one that has none.
@@ -144,14 +136,15 @@ pub(crate) fn bytes_line(text: &mut Text, bytes: &[u8]) {
     }
     text.word("bytes    ");
     let mut place: usize = 0;
-    for byte in bytes.iter().take(FRONT) {
+    let (front, behind) = bytes.split_at(FRONT.min(bytes.len()));
+    for byte in front {
         if place != 0 && place % 4 == 0 {
             text.word(" ");
         }
         text.digits(*byte);
         place = place.saturating_add(1);
     }
-    if bytes.len() > FRONT {
+    if !behind.is_empty() {
         text.word(" ..");
     }
     text.end_line();

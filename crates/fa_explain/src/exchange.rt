@@ -1,7 +1,8 @@
 //! Requests, and their answers.
 
+use fa_bodies::Request;
 use fa_capture::{Capture, Direction, Packet};
-use fa_show::{Asked, request_in, u64_at};
+use fa_show::{request_in, u64_at};
 
 /// Where the unique stands in the header of a message of either direction.
 const UNIQUE: usize = 8;
@@ -28,41 +29,33 @@ pub(crate) struct Exchange<'a> {
     pub answer: Option<u32>,
 }
 
-impl<'a> Exchange<'a> {
-    /// The last request, behind a message more with the unique.
-    fn behind(last: Option<Self>, at: u32, packet: Packet<'a>) -> Option<Self> {
-        match packet.direction {
-            Direction::ToServer => Some(Exchange {
-                asked: at,
-                packet,
-                answer: None,
-            }),
-            Direction::FromServer => {
-                let mut last = last?;
-                last.answer = Some(at);
-                Some(last)
-            }
-        }
-    }
-
-    /// The request, read.
-    pub fn request(&self) -> Option<Asked<'a>> {
-        request_in(&self.packet)
+/// The request that a message is, if it is one.
+pub(crate) fn request_of<'a>(packet: &Packet<'a>) -> Option<Request<'a>> {
+    match request_in(packet) {
+        Some(asked) => asked.request.ok(),
+        None => None,
     }
 }
 
-/// The last request before the message of this number with its unique.
+/// The last request with this unique before the message of this number.
 pub(crate) fn last_asked<'a>(
     capture: &Capture<'a>,
     number: u32,
-    packet: &Packet<'_>,
+    unique: u64,
 ) -> Option<Exchange<'a>> {
-    let unique = unique_of(packet)?;
     let mut last = None;
     let mut at: u32 = 0;
     for packet in capture.packets().take(number as usize) {
         if unique_of(&packet) == Some(unique) {
-            last = Exchange::behind(last, at, packet);
+            if packet.direction == Direction::ToServer {
+                last = Some(Exchange {
+                    asked: at,
+                    packet,
+                    answer: None,
+                });
+            } else if let Some(last) = &mut last {
+                last.answer = Some(at);
+            }
         }
         at = at.saturating_add(1);
     }

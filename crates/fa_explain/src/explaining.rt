@@ -61,7 +61,7 @@ fn explain_message(
     capture: &Capture<'_>,
     fault: &Fault<'_>,
 ) -> Result<(), AllocError> {
-    let exchange = last_asked(capture, fault.number, &fault.packet);
+    let exchange = last_asked(capture, fault.number, fault.unique());
     message_line(text, fault, exchange);
     text.word("because  ");
     let advice = match fault.code {

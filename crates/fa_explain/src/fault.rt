@@ -1,6 +1,7 @@
 //! The message at fault.
 
-use crate::exchange::unique_of;
+use crate::exchange::{request_of, unique_of};
+use fa_bodies::Request;
 use fa_capture::{Packet, codes};
 
 /// A message that is refused.
@@ -13,7 +14,12 @@ pub(crate) struct Fault<'a> {
     pub code: u16,
 }
 
-impl Fault<'_> {
+impl<'a> Fault<'a> {
+    /// The request that it is, if it is one.
+    pub fn request(&self) -> Option<Request<'a>> {
+        request_of(&self.packet)
+    }
+
     /// Whether it is the reply to a request, and is refused for what it says to that.
     pub fn is_of_reply(&self) -> bool {
         matches!(

@@ -1,7 +1,7 @@
 //! Why bytes are no capture, or only in front.
 
 use crate::advice::{Advice, look_at};
-use crate::citing::earlier_message;
+use crate::citing::{asked_before, earlier};
 use fa_capture::limits::{MAX_CAPTURE_BYTES, MAX_MESSAGE_BYTES, MAX_MESSAGES};
 use fa_capture::{Capture, Format, codes};
 use fa_show::{Text, u32_at};
@@ -9,8 +9,11 @@ use fa_show::{Text, u32_at};
 /// The bytes that a capture begins with.
 const MAGIC: usize = 8;
 
-/// The bytes of a record before its message, where it has no time.
-const PLAIN_HEADER: usize = 5;
+/// The bytes of a record before its time and its length: its direction.
+const DIRECTION_SIZE: usize = 1;
+
+/// The bytes of the length of a message in its record.
+const LENGTH: usize = 4;
 
 /// The bytes of the time of a record.
 const TIME: usize = 8;
@@ -21,64 +24,48 @@ struct Record<'a> {
     number: u32,
     begins: usize,
     bytes: &'a [u8],
-    format: Format,
+    /// The bytes of its time, if the records of the capture have one.
+    time: usize,
 }
 
 impl<'a> Record<'a> {
     /// The record behind those that are whole.
     fn behind(bytes: &'a [u8], capture: &Capture<'_>, number: u32) -> Self {
-        let format = if bytes.starts_with(Format::Timed.magic()) {
-            Format::Timed
+        let time = if bytes.starts_with(Format::Timed.magic()) {
+            TIME
         } else {
-            Format::Plain
+            0
         };
         let mut begins = MAGIC;
         for packet in capture.packets() {
             begins = begins
-                .saturating_add(header_size(format))
+                .saturating_add(DIRECTION_SIZE + LENGTH)
+                .saturating_add(time)
                 .saturating_add(packet.bytes.len());
         }
+        let (_, bytes) = bytes.split_at(begins.min(bytes.len()));
         Record {
             number,
             begins,
-            bytes: from(bytes, begins),
-            format,
+            bytes,
+            time,
         }
+    }
+
+    /// How many bytes of it stand before its message.
+    fn header(&self) -> usize {
+        self.time.saturating_add(DIRECTION_SIZE + LENGTH)
     }
 
     /// The length that it states for its message, if that is there.
     fn length(&self) -> Option<u32> {
-        u32_at(self.bytes, length_place(self.format))
+        u32_at(self.bytes, self.time.saturating_add(DIRECTION_SIZE))
     }
 
     /// Writes its number and where it begins.
     fn place(&self, text: &mut Text) {
         text.field("record ", u64::from(self.number));
         text.field(", at byte ", self.begins as u64);
-    }
-}
-
-/// The bytes from this place on.
-fn from(bytes: &[u8], place: usize) -> &[u8] {
-    match bytes.split_at_checked(place) {
-        Some((_, behind)) => behind,
-        None => &[],
-    }
-}
-
-/// How many bytes of a record stand before its message.
-fn header_size(format: Format) -> usize {
-    match format {
-        Format::Plain => PLAIN_HEADER,
-        Format::Timed => PLAIN_HEADER + TIME,
-    }
-}
-
-/// Where the length of its message stands in a record.
-fn length_place(format: Format) -> usize {
-    match format {
-        Format::Plain => 1,
-        Format::Timed => 1 + TIME,
     }
 }
 
@@ -101,7 +88,8 @@ pub(crate) fn explain(
     }
     text.end_line();
     if code == codes::DIRECTION && number > 0 {
-        earlier_message(text, capture, number - 1);
+        let before = number - 1;
+        earlier(text, capture, before, asked_before(capture, before));
     }
     look_at(text, code, Advice::All);
 }
@@ -120,7 +108,7 @@ fn no_magic(text: &mut Text, bytes: &[u8]) {
 
 /// Writes which part of a record is there.
 fn cut_off(text: &mut Text, record: &Record<'_>) {
-    let header = header_size(record.format);
+    let header = record.header();
     record.place(text);
     match record.length() {
         None => {
@@ -166,23 +154,13 @@ fn too_large(text: &mut Text, record: &Record<'_>) {
         return text.word(", which are the most");
     }
     let ends = (record.begins as u64)
-        .saturating_add(header_size(record.format) as u64)
+        .saturating_add(record.header() as u64)
         .saturating_add(u64::from(record.length().unwrap_or(0)));
+    let times = (u64::from(record.number) + 1).saturating_mul(record.time as u64);
     record.place(text);
-    text.field(", ends at byte ", counted(record, ends));
-    if record.format == Format::Timed {
+    text.field(", ends at byte ", ends.saturating_sub(times));
+    if record.time > 0 {
         text.word(", where no time is counted");
     }
     text.field(": at most ", MAX_CAPTURE_BYTES as u64);
-}
-
-/// The place without the times of the records before it and of this one.
-fn counted(record: &Record<'_>, ends: u64) -> u64 {
-    match record.format {
-        Format::Plain => ends,
-        Format::Timed => {
-            let times = (u64::from(record.number) + 1) * TIME as u64;
-            ends.saturating_sub(times)
-        }
-    }
 }

@@ -1,6 +1,7 @@
 //! What replies give, and open.
 
-use fa_bodies::{Dirent, Entries, Reply, Request, RequestBody};
+use crate::names::is_dots;
+use fa_bodies::{Dirent, Entries, Reply, Request, RequestBody, opcodes};
 
 /// The nodes that a reply gives: each of them stands for one lookup.
 #[derive(Clone, Copy)]
@@ -12,18 +13,19 @@ pub(crate) enum Given<'a> {
 }
 
 impl<'a> Given<'a> {
-    /// The nodes that a reply to a request gives.
-    pub fn by(asked: &RequestBody<'_>, reply: &Reply<'a>) -> Self {
+    /// The nodes that a reply to a request gives: to LOOKUP node 0 stands for none.
+    pub fn by(asked: &Request<'_>, reply: &Reply<'a>) -> Self {
         match reply {
-            Reply::Entry(entry) => Given::looked_up(asked, entry.nodeid()),
-            Reply::Created { entry, .. } => Given::One(entry.nodeid()),
-            Reply::Listed(entries) => {
-                if entries.is_plus() {
-                    Given::Listed(*entries)
-                } else {
+            Reply::Entry(entry) => {
+                let node = entry.nodeid();
+                if node == 0 && asked.opcode == opcodes::LOOKUP {
                     Given::Nothing
+                } else {
+                    Given::One(node)
                 }
             }
+            Reply::Created { entry, .. } => Given::One(entry.nodeid()),
+            Reply::Listed(entries) if entries.is_plus() => Given::Listed(*entries),
             _ => Given::Nothing,
         }
     }
@@ -36,25 +38,16 @@ impl<'a> Given<'a> {
             Given::Listed(entries) => name_listed(entries, node).is_some(),
         }
     }
-
-    /// The node of a name: to LOOKUP 0 stands for none.
-    fn looked_up(asked: &RequestBody<'_>, nodeid: u64) -> Self {
-        match asked {
-            RequestBody::Lookup { .. } if nodeid == 0 => Given::Nothing,
-            _ => Given::One(nodeid),
-        }
-    }
 }
 
 /// The node that an entry of a READDIRPLUS gives, if any: the entries `.` and `..` give none.
 ///
 /// Takes no memory, in constant time.
 pub(crate) fn node_listed(dirent: &Dirent<'_>) -> Option<u64> {
-    let entry = dirent.entry.as_ref()?;
-    if dirent.name == b".".as_slice() || dirent.name == b"..".as_slice() || entry.nodeid == 0 {
-        return None;
+    match &dirent.entry {
+        Some(entry) if entry.nodeid != 0 && !is_dots(dirent.name) => Some(entry.nodeid),
+        _ => None,
     }
-    Some(entry.nodeid)
 }
 
 /// The name of the first entry of a READDIRPLUS that gives a node, if one does.
@@ -62,8 +55,10 @@ pub(crate) fn node_listed(dirent: &Dirent<'_>) -> Option<u64> {
 /// Takes no memory, and time linear in the entries.
 pub(crate) fn name_listed<'a>(entries: Entries<'a>, node: u64) -> Option<&'a [u8]> {
     for dirent in entries {
-        if node_listed(&dirent) == Some(node) {
-            return Some(dirent.name);
+        if let Some(given) = node_listed(&dirent) {
+            if given == node {
+                return Some(dirent.name);
+            }
         }
     }
     None
@@ -77,6 +72,15 @@ pub(crate) enum HandleKind {
 }
 
 impl HandleKind {
+    /// The kind of handle that an operation opens or uses.
+    pub fn of(opcode: u32) -> Self {
+        match opcode {
+            opcodes::OPENDIR | opcodes::READDIR | opcodes::READDIRPLUS | opcodes::RELEASEDIR =>
+                HandleKind::Directory,
+            _ => HandleKind::File,
+        }
+    }
+
     /// The other one.
     pub fn other(self) -> Self {
         match self {
@@ -102,62 +106,53 @@ pub(crate) struct Handle {
     pub node: u64,
 }
 
+impl Handle {
+    /// The handle of this number that a request opens or uses on its node.
+    pub fn of(asked: &Request<'_>, fh: u64) -> Self {
+        Handle {
+            fh,
+            kind: HandleKind::of(asked.opcode),
+            node: asked.node,
+        }
+    }
+}
+
 /// The file handle that a success opens.
 #[derive(Clone, Copy)]
-pub(crate) enum Opened {
-    /// On a node that its request named.
-    Named(Handle),
-    /// On a node that it gives.
-    Given(Handle),
+pub(crate) struct Opened {
+    pub handle: Handle,
+    /// Whether it is on a node that the success gives, and not on one that the request named.
+    pub is_on_given: bool,
 }
 
 impl Opened {
     /// The file handle that a reply to a request opens, if any.
     pub fn by(asked: &Request<'_>, reply: &Reply<'_>) -> Option<Self> {
-        match reply {
-            Reply::Opened(open) => Some(Opened::Named(Handle {
-                fh: open.fh,
-                kind: match &asked.body {
-                    RequestBody::Opendir(_) => HandleKind::Directory,
-                    _ => HandleKind::File,
-                },
-                node: asked.node,
-            })),
-            Reply::Created { entry, open } => Some(Opened::Given(Handle {
-                fh: open.fh,
-                kind: HandleKind::File,
-                node: entry.nodeid(),
-            })),
-            _ => None,
-        }
-    }
-
-    /// The handle.
-    pub fn handle(self) -> Handle {
-        match self {
-            Opened::Named(handle) | Opened::Given(handle) => handle,
-        }
+        let (fh, node, is_on_given) = match reply {
+            Reply::Opened(open) => (open.fh, asked.node, false),
+            Reply::Created { entry, open } => (open.fh, entry.nodeid(), true),
+            _ => return None,
+        };
+        let kind = HandleKind::of(asked.opcode);
+        Some(Opened {
+            handle: Handle { fh, kind, node },
+            is_on_given,
+        })
     }
 }
 
 /// The file handle of a request that is refused for it. A GETATTR or a SETATTR that uses none is not, so its flag is not looked at.
 pub(crate) fn handle_used(asked: &Request<'_>) -> Option<Handle> {
-    let (fh, kind) = match &asked.body {
-        RequestBody::Getattr(getattr) => (getattr.fh, HandleKind::File),
-        RequestBody::Setattr(setattr) => (setattr.fh(), HandleKind::File),
-        RequestBody::Read(read) => (read.fh, HandleKind::File),
-        RequestBody::Write { fh, .. } => (*fh, HandleKind::File),
-        RequestBody::Release(release) => (release.fh, HandleKind::File),
-        RequestBody::Flush(flush) => (flush.fh, HandleKind::File),
-        RequestBody::Readdir(read) | RequestBody::Readdirplus(read) => {
-            (read.fh, HandleKind::Directory)
+    let fh = match &asked.body {
+        RequestBody::Getattr(getattr) => getattr.fh,
+        RequestBody::Setattr(setattr) => setattr.fh(),
+        RequestBody::Read(read) | RequestBody::Readdir(read) | RequestBody::Readdirplus(read) => {
+            read.fh
         }
-        RequestBody::Releasedir(release) => (release.fh, HandleKind::Directory),
+        RequestBody::Write { fh, .. } => *fh,
+        RequestBody::Release(release) | RequestBody::Releasedir(release) => release.fh,
+        RequestBody::Flush(flush) => flush.fh,
         _ => return None,
     };
-    Some(Handle {
-        fh,
-        kind,
-        node: asked.node,
-    })
+    Some(Handle::of(asked, fh))
 }

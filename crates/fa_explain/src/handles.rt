@@ -1,7 +1,7 @@
 //! File handles that are not open: code 50.
 
 use crate::advice::Advice;
-use crate::citing::{earlier_answer, earlier_request};
+use crate::citing::earlier_two;
 use crate::exchange::Answered;
 use crate::fault::Fault;
 use crate::given::{Handle, handle_used};
@@ -9,7 +9,7 @@ use crate::misplaced::{Sought, given_behind, late_answer, may_be_late_behind};
 use crate::nodes::NodePast;
 use crate::past::Past;
 use fa_capture::Capture;
-use fa_show::{Text, request_in};
+use fa_show::Text;
 use std::alloc::{AllocError, Global};
 
 /// What the messages so far say of a file handle.
@@ -92,7 +92,7 @@ impl HandlePast {
 
     /// Notes that a request closes an opening of a handle.
     pub fn close(&mut self, at: u32, of: Handle) {
-        if of.fh == self.handle.fh && of.kind == self.handle.kind && of.node == self.handle.node {
+        if of == self.handle {
             self.open = self.open.saturating_sub(1);
             self.closed = Some(at);
         }
@@ -102,61 +102,60 @@ impl HandlePast {
 /// Why a file handle is not open.
 #[derive(Clone, Copy)]
 enum Cause {
-    /// All its openings were closed: the last opening, and what closed it.
-    Closed(Answered, u32),
+    /// All its openings were closed, the last by this request.
+    Closed(u32),
     /// It was opened as another kind.
-    OtherKind(Answered),
-    /// It was opened before its node was taken back, by this request, and given anew.
-    BeforeItsNode {
-        opened: Answered,
-        forgotten: Option<u32>,
-        anew: Answered,
-    },
+    OtherKind,
+    /// It was opened before its node was taken back and given anew, by this answer.
+    BeforeItsNode(Answered),
     /// It was opened for this node, another one.
-    Elsewhere(u64, Answered),
+    Elsewhere(u64),
     /// No answer opened it.
     Never,
 }
 
-impl Cause {
+/// Why a file handle is not open, and the messages that say so.
+#[derive(Clone, Copy)]
+struct NotOpen {
+    cause: Cause,
+    /// The answer that opened it, if one did.
+    opened: Option<Answered>,
+    /// The request that ended its opening, if one did.
+    ended: Option<u32>,
+}
+
+impl NotOpen {
     /// Why a handle is not open, by what the messages say of it and of its node.
     fn of(past: &HandlePast, node: &NodePast) -> Self {
-        if let (Some(opened), Some(closed)) = (past.opened, past.closed) {
-            return Cause::Closed(opened, closed);
-        }
-        if let Some(opened) = past.as_other {
-            return Cause::OtherKind(opened);
-        }
-        if let (Some(opened), Some(anew)) = (past.before, node.first()) {
-            return Cause::BeforeItsNode {
-                opened,
-                forgotten: past.forgotten,
-                anew,
+        if let (Some(_), Some(closed)) = (past.opened, past.closed) {
+            return NotOpen {
+                cause: Cause::Closed(closed),
+                opened: past.opened,
+                ended: past.closed,
             };
         }
-        match past.elsewhere {
-            Some((node, opened)) => Cause::Elsewhere(node, opened),
-            None => Cause::Never,
+        if past.as_other.is_some() {
+            return NotOpen {
+                cause: Cause::OtherKind,
+                opened: past.as_other,
+                ended: None,
+            };
         }
-    }
-
-    /// The answer that opened it, if one did.
-    fn opened(self) -> Option<Answered> {
-        match self {
-            Cause::Closed(opened, _) => Some(opened),
-            Cause::OtherKind(opened) => Some(opened),
-            Cause::BeforeItsNode { opened, .. } => Some(opened),
-            Cause::Elsewhere(_, opened) => Some(opened),
-            Cause::Never => None,
+        if let (Some(_), Some(anew)) = (past.before, node.first) {
+            return NotOpen {
+                cause: Cause::BeforeItsNode(anew),
+                opened: past.before,
+                ended: past.forgotten,
+            };
         }
-    }
-
-    /// The request that ended its opening, if one did.
-    fn ended(self) -> Option<u32> {
-        match self {
-            Cause::Closed(_, closed) => Some(closed),
-            Cause::BeforeItsNode { forgotten, .. } => forgotten,
-            Cause::OtherKind(_) | Cause::Elsewhere(..) | Cause::Never => None,
+        let (cause, opened) = match past.elsewhere {
+            Some((node, opened)) => (Cause::Elsewhere(node), Some(opened)),
+            None => (Cause::Never, None),
+        };
+        NotOpen {
+            cause,
+            opened,
+            ended: None,
         }
     }
 }
@@ -169,25 +168,22 @@ pub(crate) fn explain(
     fault: &Fault<'_>,
     past: &mut Past,
 ) -> Result<Advice, AllocError> {
-    let Some(handle) = used_by(fault) else {
+    let Some(request) = fault.request() else {
         return Ok(Advice::First);
     };
-    past.ask_for_handle(handle)?;
+    let Some(handle) = handle_used(&request) else {
+        return Ok(Advice::First);
+    };
+    past.ask_for_handle(handle);
     past.read(alloc, capture, fault.number)?;
     let late = late_answer(alloc, capture, fault.number, Sought::Handle(handle))?;
     let node = past.node(handle.node);
-    let Some(past) = past.handle() else {
+    let Some(past) = past.handle else {
         return Ok(Advice::First);
     };
-    let cause = Cause::of(&past, &node);
-    not_open(text, capture, &past, cause, late);
-    Ok(advice_on(capture, fault, cause, late))
-}
-
-/// The file handle that the request at fault uses.
-fn used_by(fault: &Fault<'_>) -> Option<Handle> {
-    let request = request_in(&fault.packet)?.request.ok()?;
-    handle_used(&request)
+    let not_open = NotOpen::of(&past, &node);
+    write_not_open(text, capture, &past, &not_open, late);
+    Ok(advice_on(capture, fault, &not_open, late))
 }
 
 /// What to look at: an answer that was recorded too late, or one that is missing and the request, which may have been recorded too late
@@ -195,92 +191,59 @@ fn used_by(fault: &Fault<'_>) -> Option<Handle> {
 fn advice_on(
     capture: &Capture<'_>,
     fault: &Fault<'_>,
-    cause: Cause,
+    not_open: &NotOpen,
     late: Option<Answered>,
 ) -> Advice {
     if late.is_some() {
         return Advice::Fourth;
     }
-    if let Some(ended) = cause.ended() {
-        if may_be_late_behind(capture, fault, ended) {
-            return Advice::FirstAndThird;
-        }
+    if may_be_late_behind(capture, fault, not_open.ended) {
+        return Advice::FirstAndThird;
     }
-    match cause {
-        Cause::Closed(..) | Cause::Never => Advice::First,
-        Cause::OtherKind(_) | Cause::BeforeItsNode { .. } | Cause::Elsewhere(..) => {
-            Advice::FirstAndSecond
-        }
+    match not_open.cause {
+        Cause::Closed(_) | Cause::Never => Advice::First,
+        Cause::OtherKind | Cause::BeforeItsNode(_) | Cause::Elsewhere(_) => Advice::FirstAndSecond,
     }
 }
 
 /// Writes why a file handle is not open, and the messages that say so.
-fn not_open(
+fn write_not_open(
     text: &mut Text,
     capture: &Capture<'_>,
     past: &HandlePast,
-    cause: Cause,
+    not_open: &NotOpen,
     late: Option<Answered>,
 ) {
-    match cause {
-        Cause::Closed(_, closed) => closed_again(text, past, closed),
-        Cause::OtherKind(_) => opened_as_other(text, past),
-        Cause::BeforeItsNode { anew, .. } => opened_before(text, past, anew),
-        Cause::Elsewhere(node, _) => opened_elsewhere(text, past, node),
-        Cause::Never => opened_never(text, past),
+    text.field("fh ", past.handle.fh);
+    if let Cause::Elsewhere(node) = not_open.cause {
+        text.field(" was opened for node ", node);
+        text.field(", and is used with node ", past.handle.node);
+    } else {
+        text.field(" of node ", past.handle.node);
+    }
+    match not_open.cause {
+        Cause::Closed(closed) => {
+            text.word(" is closed: ");
+            text.count(past.answers, " answer", " answers");
+            text.field(" opened it, and ", u64::from(closed));
+            text.word(" closed the last opening");
+        }
+        Cause::OtherKind => {
+            text.word(" was opened as a ");
+            text.word(past.handle.kind.other().word());
+            text.word(", and is used as a ");
+            text.word(past.handle.kind.word());
+        }
+        Cause::BeforeItsNode(anew) => {
+            text.field(" was opened before ", u64::from(anew.at));
+            text.word(" gave the node anew");
+        }
+        Cause::Elsewhere(_) => {}
+        Cause::Never => text.word(" was opened by no answer before"),
     }
     if let Some(late) = late {
         given_behind(text, capture, late, "opens it");
     }
     text.end_line();
-    if let Some(opened) = cause.opened() {
-        earlier_answer(text, capture, opened);
-    }
-    if let Some(ended) = cause.ended() {
-        earlier_request(text, capture, ended);
-    }
-}
-
-/// Writes a file handle and its node.
-fn handle_of_node(text: &mut Text, past: &HandlePast) {
-    text.field("fh ", past.handle.fh);
-    text.field(" of node ", past.handle.node);
-}
-
-/// Writes that all openings of a handle were closed.
-fn closed_again(text: &mut Text, past: &HandlePast, closed: u32) {
-    handle_of_node(text, past);
-    text.word(" is closed: ");
-    text.count(past.answers, " answer", " answers");
-    text.field(" opened it, and ", u64::from(closed));
-    text.word(" closed the last opening");
-}
-
-/// Writes that a handle was opened as another kind.
-fn opened_as_other(text: &mut Text, past: &HandlePast) {
-    handle_of_node(text, past);
-    text.word(" was opened as a ");
-    text.word(past.handle.kind.other().word());
-    text.word(", and is used as a ");
-    text.word(past.handle.kind.word());
-}
-
-/// Writes that a handle was opened before its node was given anew.
-fn opened_before(text: &mut Text, past: &HandlePast, anew: Answered) {
-    handle_of_node(text, past);
-    text.field(" was opened before ", u64::from(anew.at));
-    text.word(" gave the node anew");
-}
-
-/// Writes that a handle was opened for another node.
-fn opened_elsewhere(text: &mut Text, past: &HandlePast, node: u64) {
-    text.field("fh ", past.handle.fh);
-    text.field(" was opened for node ", node);
-    text.field(", and is used with node ", past.handle.node);
-}
-
-/// Writes that no answer opened a handle.
-fn opened_never(text: &mut Text, past: &HandlePast) {
-    handle_of_node(text, past);
-    text.word(" was opened by no answer before");
+    earlier_two(text, capture, not_open.opened, not_open.ended);
 }

@@ -8,14 +8,19 @@ use crate::{bodies, successes};
 use fa_capture::{Direction, codes};
 use fa_show::{Text, message_in, request_in, u32_at, words};
 
-/// The bytes of the header of a request (`struct fuse_in_header`).
-const IN_HEADER: u64 = 40;
-
-/// The bytes of the header of a message of the server (`struct fuse_out_header`).
-const OUT_HEADER: u64 = 16;
-
 /// The last operation of `fuse.h` 7.31.
 const LAST_OPCODE: u32 = 49;
+
+/// The names of operations that are not judged: the kernel's answer to a RETRIEVE, and those of the latest `fuse.h`.
+static OTHERS: [(u32, &str); 7] = [
+    (41, "NOTIFY_REPLY"),
+    (48, "SETUPMAPPING"),
+    (49, "REMOVEMAPPING"),
+    (50, "SYNCFS"),
+    (51, "TMPFILE"),
+    (52, "STATX"),
+    (53, "COPY_FILE_RANGE_64"),
+];
 
 /// The one notification of `fuse.h` that is not judged, as the kernel answers it.
 const RETRIEVE: i32 = 5;
@@ -68,16 +73,13 @@ fn advice_on(fault: &Fault<'_>, exchange: Option<Exchange<'_>>) -> Advice {
 
 /// Writes which header has no room.
 fn too_short(text: &mut Text, fault: &Fault<'_>) {
-    let (begins, header) = match fault.packet.direction {
-        Direction::ToServer => ("a request begins with struct fuse_in_header, ", IN_HEADER),
-        Direction::FromServer => (
-            "a message of the server begins with struct fuse_out_header, ",
-            OUT_HEADER,
-        ),
-    };
-    text.field(begins, header);
-    text.word(" bytes: this one has ");
-    text.count(fault.packet.bytes.len(), " byte", " bytes");
+    text.word(match fault.packet.direction {
+        Direction::ToServer => "a request begins with struct fuse_in_header, 40 bytes: ",
+        Direction::FromServer => {
+            "a message of the server begins with struct fuse_out_header, 16 bytes: "
+        }
+    });
+    bodies::this_one(text, fault.packet.bytes);
 }
 
 /// Writes which lengths differ.
@@ -101,23 +103,11 @@ fn no_operation(text: &mut Text, fault: &Fault<'_>) {
         "this profile"
     });
     text.field(" has no opcode ", u64::from(asked.opcode));
-    if let Some(name) = other_operation(asked.opcode) {
-        text.word(", which is ");
-        text.word(name);
-    }
-}
-
-/// The name of an operation that is not judged: the kernel's answer to a RETRIEVE, and those of the latest `fuse.h`.
-fn other_operation(opcode: u32) -> Option<&'static str> {
-    match opcode {
-        41 => Some("NOTIFY_REPLY"),
-        48 => Some("SETUPMAPPING"),
-        49 => Some("REMOVEMAPPING"),
-        50 => Some("SYNCFS"),
-        51 => Some("TMPFILE"),
-        52 => Some("STATX"),
-        53 => Some("COPY_FILE_RANGE_64"),
-        _ => None,
+    for (opcode, name) in &OTHERS {
+        if *opcode == asked.opcode {
+            text.word(", which is ");
+            text.word(name);
+        }
     }
 }
 

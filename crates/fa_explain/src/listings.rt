@@ -50,16 +50,9 @@ fn dirent_refused(text: &mut Text, bytes: &[u8]) {
     match behind.split_at_checked(padded(0, namelen)) {
         Some((name, _)) => {
             text.word("has the name ");
-            text.name(front(name, namelen));
+            let (name, _) = name.split_at(namelen.min(name.len()));
+            text.name(name);
         }
         None => text.word("is cut off, or lacks its padding"),
-    }
-}
-
-/// So many first bytes, or all where there are fewer.
-fn front(bytes: &[u8], most: usize) -> &[u8] {
-    match bytes.split_at_checked(most) {
-        Some((front, _)) => front,
-        None => bytes,
     }
 }

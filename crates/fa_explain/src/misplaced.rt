@@ -24,9 +24,9 @@ impl Sought {
     /// Whether a reply to a request gives it.
     fn is_given(self, request: &Request<'_>, reply: &Reply<'_>) -> bool {
         match self {
-            Sought::Node(node) => Given::by(&request.body, reply).has(node),
+            Sought::Node(node) => Given::by(request, reply).has(node),
             Sought::Handle(handle) => match Opened::by(request, reply) {
-                Some(opened) => opened.handle() == handle,
+                Some(opened) => opened.handle == handle,
                 None => false,
             },
         }
@@ -109,13 +109,20 @@ pub(crate) fn given_behind(text: &mut Text, capture: &Capture<'_>, late: Answere
 }
 
 /// Whether the request at fault may have been recorded too late, behind one that was sent after it: that stands right before it, or has a
-/// higher unique, so that Linux made it later.
-pub(crate) fn may_be_late_behind(capture: &Capture<'_>, fault: &Fault<'_>, before: u32) -> bool {
+/// higher unique, so that Linux made it later. Not where there is none.
+pub(crate) fn may_be_late_behind(
+    capture: &Capture<'_>,
+    fault: &Fault<'_>,
+    before: Option<u32>,
+) -> bool {
+    let Some(before) = before else {
+        return false;
+    };
     if before.saturating_add(1) == fault.number {
         return true;
     }
     match capture.packets().nth(before as usize) {
-        Some(packet) => matches!(unique_of(&packet), Some(unique) if unique > fault.unique()),
+        Some(packet) => unique_of(&packet).unwrap_or(0) > fault.unique(),
         None => false,
     }
 }

@@ -46,24 +46,28 @@ impl NameFault<'_> {
     }
 }
 
+/// Whether a name is `.` or `..`.
+pub(crate) fn is_dots(name: &[u8]) -> bool {
+    matches!(name, [b'.'] | [b'.', b'.'])
+}
+
 /// What stands behind the name at the front of bytes.
 pub(crate) fn behind_name(bytes: &[u8]) -> Result<&[u8], NameFault<'_>> {
     let Some((name, behind)) = split_at_byte(bytes, 0) else {
         return Err(NameFault::Unended);
     };
-    if name.is_empty() {
-        return Err(NameFault::Empty);
-    }
-    if name == b".".as_slice() || name == b"..".as_slice() {
-        return Err(NameFault::Dots(name));
-    }
-    if name.contains(&b'/') {
-        return Err(NameFault::Slash(name));
-    }
-    if name.len() > MAX_NAME {
-        return Err(NameFault::Long(name.len()));
-    }
-    Ok(behind)
+    let fault = if name.is_empty() {
+        NameFault::Empty
+    } else if is_dots(name) {
+        NameFault::Dots(name)
+    } else if name.contains(&b'/') {
+        NameFault::Slash(name)
+    } else if name.len() > MAX_NAME {
+        NameFault::Long(name.len())
+    } else {
+        return Ok(behind);
+    };
+    Err(fault)
 }
 
 /// Why bytes are no name with a zero byte behind it.

@@ -1,15 +1,15 @@
 //! Nodes that are not known, are taken back too often or may not be given: codes 40 to 42.
 
 use crate::advice::Advice;
-use crate::citing::{earlier_answer, earlier_request};
-use crate::exchange::{Answered, Exchange};
+use crate::citing::earlier_two;
+use crate::exchange::{Answered, Exchange, request_of};
 use crate::fault::Fault;
 use crate::given::{Given, name_listed};
 use crate::misplaced::{Sought, given_behind, late_answer, may_be_late_behind};
 use crate::past::Past;
-use fa_bodies::{ROOT_ID, Request, RequestBody, items};
+use fa_bodies::{ROOT_ID, RequestBody, items};
 use fa_capture::{Capture, codes};
-use fa_show::{Asked, Text, request_in, said};
+use fa_show::{Text, said};
 use std::alloc::{AllocError, Global};
 
 /// What the messages so far say of a node since its lookup count was last 0.
@@ -20,11 +20,11 @@ pub(crate) struct NodePast {
     /// How many answers gave it.
     answers: usize,
     /// The first of them.
-    first: Option<Answered>,
+    pub first: Option<Answered>,
     /// The last of them.
     given: Option<Answered>,
     /// The last request that took lookups of it back.
-    taken: Option<u32>,
+    pub taken: Option<u32>,
 }
 
 impl NodePast {
@@ -41,16 +41,6 @@ impl NodePast {
         }
     }
 
-    /// The first answer that gave it.
-    pub fn first(&self) -> Option<Answered> {
-        self.first
-    }
-
-    /// The last request that took lookups of it back.
-    pub fn taken(&self) -> Option<u32> {
-        self.taken
-    }
-
     /// Notes that an answer gives it.
     pub fn give(&mut self, answered: Answered) {
         if !self.is_known() {
@@ -60,18 +50,11 @@ impl NodePast {
             };
         }
         self.lookups = self.lookups.saturating_add(1);
-        if self.last_answer() != Some(answered.at) {
-            self.answers = self.answers.saturating_add(1);
+        match self.given {
+            Some(given) if given.at == answered.at => {}
+            _ => self.answers = self.answers.saturating_add(1),
         }
         self.given = Some(answered);
-    }
-
-    /// The number of the last answer that gave it.
-    fn last_answer(&self) -> Option<u32> {
-        match self.given {
-            Some(given) => Some(given.at),
-            None => None,
-        }
     }
 
     /// Notes that a request takes lookups of it back.
@@ -100,11 +83,6 @@ pub(crate) fn explain(
     Ok(Advice::First)
 }
 
-/// The request at fault, if it is one.
-fn request_of<'a>(fault: &Fault<'a>) -> Option<Request<'a>> {
-    request_in(&fault.packet)?.request.ok()
-}
-
 /// The second node that a request names: the new directory of RENAME and RENAME2, and the file of LINK.
 fn other_node(body: &RequestBody<'_>) -> Option<u64> {
     match body {
@@ -122,12 +100,12 @@ fn unknown(
     fault: &Fault<'_>,
     past: &mut Past,
 ) -> Result<Advice, AllocError> {
-    let Some(request) = request_of(fault) else {
+    let Some(request) = fault.request() else {
         return Ok(Advice::First);
     };
     let other = other_node(&request.body).unwrap_or(ROOT_ID);
-    past.ask_for(request.node)?;
-    past.ask_for(other)?;
+    past.ask_for(request.node);
+    past.ask_for(other);
     past.read(alloc, capture, fault.number)?;
     let node = if request.node == ROOT_ID || past.node(request.node).is_known() {
         other
@@ -137,22 +115,16 @@ fn unknown(
     let late = late_answer(alloc, capture, fault.number, Sought::Node(node))?;
     let past = past.node(node);
     unknown_node(text, capture, node, &past, late);
-    let may_be_late = match past.taken {
-        Some(taken) => may_be_late_behind(capture, fault, taken),
-        None => false,
-    };
-    Ok(advice_on_unknown(may_be_late, late))
-}
-
-/// What to look at where a node is not known: an answer that was recorded too late, the request, which may have been recorded too late
-/// behind a FORGET, or an answer that is missing.
-fn advice_on_unknown(may_be_late: bool, late: Option<Answered>) -> Advice {
-    match (may_be_late, late) {
-        (true, Some(_)) => Advice::SecondAndThird,
-        (true, None) => Advice::FirstAndSecond,
-        (false, Some(_)) => Advice::Third,
-        (false, None) => Advice::First,
-    }
+    // What to look at: an answer that was recorded too late, the request, which may have been recorded too late behind a FORGET, or an
+    // answer that is missing.
+    Ok(
+        match (may_be_late_behind(capture, fault, past.taken), late) {
+            (true, Some(_)) => Advice::SecondAndThird,
+            (true, None) => Advice::FirstAndSecond,
+            (false, Some(_)) => Advice::Third,
+            (false, None) => Advice::First,
+        },
+    )
 }
 
 /// Writes why a node is not known, and the messages that say so.
@@ -174,12 +146,7 @@ fn unknown_node(
         given_behind(text, capture, late, "gives it");
     }
     text.end_line();
-    if let Some(given) = past.given {
-        earlier_answer(text, capture, given);
-    }
-    if let Some(taken) = past.taken {
-        earlier_request(text, capture, taken);
-    }
+    earlier_two(text, capture, past.given, past.taken);
 }
 
 /// Writes how the lookups of a node came and went.
@@ -199,13 +166,13 @@ fn too_often(
     fault: &Fault<'_>,
     past: &mut Past,
 ) -> Result<(), AllocError> {
-    let Some(request) = request_of(fault) else {
+    let Some(request) = fault.request() else {
         return Ok(());
     };
     match &request.body {
         RequestBody::BatchForget { items: bytes, .. } => {
             for (node, _) in items(bytes) {
-                past.ask_for(node)?;
+                past.ask_for(node);
             }
             past.read(alloc, capture, fault.number)?;
             for (node, nlookup) in items(bytes) {
@@ -217,7 +184,7 @@ fn too_often(
             }
         }
         RequestBody::Forget { nlookup } => {
-            past.ask_for(request.node)?;
+            past.ask_for(request.node);
             past.read(alloc, capture, fault.number)?;
             let node = request.node;
             taken_too_often(text, capture, fault, node, *nlookup, &past.node(node));
@@ -251,41 +218,34 @@ fn taken_too_often(
         text.count(past.answers, " answer", " answers");
     }
     text.word(" gave it");
-    match past.taken {
-        Some(taken) if taken == fault.number => text.word(", and an item before took from it"),
-        Some(taken) => {
+    let mut earlier = past.taken;
+    if let Some(taken) = earlier {
+        if taken == fault.number {
+            text.word(", and an item before took from it");
+            earlier = None;
+        } else {
             text.field(", and ", u64::from(taken));
             text.word(" took from it");
         }
-        None => {}
     }
     text.end_line();
-    if let Some(given) = past.given {
-        earlier_answer(text, capture, given);
-    }
-    match past.taken {
-        Some(taken) if taken != fault.number => earlier_request(text, capture, taken),
-        _ => {}
-    }
+    earlier_two(text, capture, past.given, earlier);
 }
 
 /// Writes which node may not be given, and of a listing which entry gives it.
 fn not_allowed(text: &mut Text, fault: &Fault<'_>, exchange: Option<Exchange<'_>>) {
-    let node = match given_by(fault, exchange) {
-        Given::One(node) => {
-            text.word("it");
-            node
-        }
+    let mut node = ROOT_ID;
+    match given_by(fault, exchange) {
         Given::Listed(entries) => {
             text.word("its entry ");
             text.name(name_listed(entries, ROOT_ID).unwrap_or(&[]));
-            ROOT_ID
         }
-        Given::Nothing => {
+        Given::One(given) => {
             text.word("it");
-            ROOT_ID
+            node = given;
         }
-    };
+        Given::Nothing => text.word("it"),
+    }
     text.field(" gives node ", node);
     text.word(if node == ROOT_ID {
         ", which is the root's"
@@ -300,19 +260,11 @@ fn given_by<'a>(fault: &Fault<'a>, exchange: Option<Exchange<'_>>) -> Given<'a> 
     let Some(exchange) = exchange else {
         return Given::Nothing;
     };
-    match exchange.request() {
-        Some(asked) => given_to(&asked, fault),
-        None => Given::Nothing,
-    }
-}
-
-/// What the reply at fault gives to a request.
-fn given_to<'a>(asked: &Asked<'_>, fault: &Fault<'a>) -> Given<'a> {
-    let Ok(request) = &asked.request else {
+    let Some(request) = request_of(&exchange.packet) else {
         return Given::Nothing;
     };
-    match said(request, &fault.packet) {
-        Some(reply) => Given::by(&request.body, &reply),
+    match said(&request, &fault.packet) {
+        Some(reply) => Given::by(&request, &reply),
         None => Given::Nothing,
     }
 }

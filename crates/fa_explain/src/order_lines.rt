@@ -1,6 +1,6 @@
 //! Lines that do not fit into an order text: code 60.
 
-use crate::misfits::{Misfit, is_blank};
+use crate::misfits::Misfit;
 
 const FIRST_LINE: &str = "the first line is not `fuse-order 1`";
 
@@ -20,88 +20,77 @@ const NO_COUNT: &str = "no count stands behind `w`";
 
 /// Why a line does not fit into an order text, where it can be told.
 pub(crate) fn cause_of(line: &Misfit<'_>) -> Option<&'static str> {
-    if let Some(cause) = line.common_cause(b"fuse-order 1".as_slice()) {
-        return Some(cause);
+    match line.common_cause(b"fuse-order 1".as_slice()) {
+        Some(cause) => Some(cause),
+        None if line.number == 1 => Some(FIRST_LINE),
+        None => entry_cause(line.bytes),
     }
-    if line.number == 1 {
-        return Some(FIRST_LINE);
-    }
-    entry_cause(line.bytes)
 }
 
 /// Why a line is no entry. It has a byte or more.
 fn entry_cause(line: &[u8]) -> Option<&'static str> {
-    if line.first().is_some_and(is_blank) {
-        return Some(BLANK_IN_FRONT);
+    if is_blank(line.first()) {
+        Some(BLANK_IN_FRONT)
+    } else if line.ends_with(b" w ".as_slice()) {
+        Some(NO_COUNT)
+    } else if is_blank(line.last()) {
+        Some(BLANK_AT_END)
+    } else {
+        numbers_cause(line)
     }
-    if line.ends_with(b" w ".as_slice()) {
-        return Some(NO_COUNT);
-    }
-    if line.last().is_some_and(is_blank) {
-        return Some(BLANK_AT_END);
-    }
-    let (number, behind) = split_behind_digits(line);
-    if let Some(cause) = number_cause(number, behind) {
-        return Some(cause);
-    }
+}
+
+/// Whether a byte of a line is a blank.
+fn is_blank(byte: Option<&u8>) -> bool {
+    matches!(byte, Some(b' ' | b'\t'))
+}
+
+/// Why a line is neither a number nor one with a count behind it.
+fn numbers_cause(line: &[u8]) -> Option<&'static str> {
+    let behind = match behind_number(line) {
+        Ok(behind) => behind,
+        Err(cause) => return Some(cause),
+    };
     if behind.is_empty() {
         return None;
     }
-    let Some(count) = behind.strip_prefix(b" w".as_slice()) else {
-        return Some(OTHER_LINE);
-    };
-    if count.is_empty() {
+    if behind == b" w".as_slice() {
         return Some(NO_COUNT);
     }
-    let Some(count) = count.strip_prefix(b" ".as_slice()) else {
+    let Some(count) = behind.strip_prefix(b" w ".as_slice()) else {
         return Some(OTHER_LINE);
     };
-    let (count, behind) = split_behind_digits(count);
-    if let Some(cause) = number_cause(count, behind) {
-        return Some(cause);
-    }
-    if behind.is_empty() {
-        None
-    } else {
-        Some(OTHER_LINE)
+    match behind_number(count) {
+        Ok(behind) if behind.is_empty() => None,
+        Ok(_) => Some(OTHER_LINE),
+        Err(cause) => Some(cause),
     }
 }
 
-/// Why digits, with what stands behind them, are no number.
-fn number_cause(digits: &[u8], behind: &[u8]) -> Option<&'static str> {
-    if digits.is_empty() {
-        return Some(match behind.first() {
-            Some(b'+' | b'-') => SIGN,
-            _ => OTHER_LINE,
-        });
-    }
-    if digits.len() > 1 && digits.starts_with(b"0".as_slice()) {
-        return Some(ZERO_IN_FRONT);
-    }
-    if is_too_large(digits) {
-        return Some(TOO_LARGE);
-    }
-    None
-}
-
-/// The digits at the front, and what stands behind them.
-fn split_behind_digits(bytes: &[u8]) -> (&[u8], &[u8]) {
-    let mut count: usize = 0;
+/// What stands behind the number at the front of bytes, or why there is none.
+fn behind_number(bytes: &[u8]) -> Result<&[u8], &'static str> {
+    let mut digits: usize = 0;
+    let mut number: u64 = 0;
     for byte in bytes {
         if !byte.is_ascii_digit() {
             break;
         }
-        count = count.saturating_add(1);
-    }
-    bytes.split_at(count.min(bytes.len()))
-}
-
-/// Whether digits spell a number that has no room in 32 bits.
-fn is_too_large(digits: &[u8]) -> bool {
-    let mut number: u64 = 0;
-    for digit in digits {
-        let value = u64::from(digit.saturating_sub(b'0'));
+        digits = digits.saturating_add(1);
+        let value = u64::from(byte.saturating_sub(b'0'));
         number = number.saturating_mul(10).saturating_add(value);
     }
-    number > u64::from(u32::MAX)
+    let cause = if digits == 0 {
+        match bytes.first() {
+            Some(b'+' | b'-') => SIGN,
+            _ => OTHER_LINE,
+        }
+    } else if digits > 1 && bytes.starts_with(b"0".as_slice()) {
+        ZERO_IN_FRONT
+    } else if number > u64::from(u32::MAX) {
+        TOO_LARGE
+    } else {
+        let (_, behind) = bytes.split_at(digits.min(bytes.len()));
+        return Ok(behind);
+    };
+    Err(cause)
 }

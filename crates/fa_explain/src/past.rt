@@ -4,7 +4,7 @@ ghost use Rattle.std.specs.Prelude.{[]};
 ghost use Rattle.fa_session.specs.Shows.{Shows};
 
 use crate::exchange::Answered;
-use crate::given::{Given, Handle, HandleKind, Opened, node_listed};
+use crate::given::{Given, Handle, Opened, node_listed};
 use crate::handles::HandlePast;
 use crate::nodes::NodePast;
 use fa_bodies::{ROOT_ID, Reply, Request, RequestBody, items};
@@ -18,7 +18,10 @@ use std::alloc::{AllocError, Global};
 #[derive(Drop)]
 pub(crate) struct Past {
     nodes: IndexMap<u64, NodePast, Seed>,
-    handle: Option<HandlePast>,
+    /// What is said of the file handle that was asked for.
+    pub handle: Option<HandlePast>,
+    /// Whether memory was refused to a node that is asked for.
+    lacks_memory: bool,
 }
 
 impl Past {
@@ -27,20 +30,21 @@ impl Past {
         Past {
             nodes: IndexMap::with_hasher(alloc, seed),
             handle: None,
+            lacks_memory: false,
         }
     }
 
-    /// Asks for what is said of a node.
-    pub fn ask_for(&mut self, node: u64) -> Result<(), AllocError> {
-        self.nodes.insert(node, NodePast::default())?;
-        Ok(())
+    /// Asks for what is said of a node. That memory was refused is told when the messages are read.
+    pub fn ask_for(&mut self, node: u64) {
+        if !self.lacks_memory && self.nodes.insert(node, NodePast::default()).is_err() {
+            self.lacks_memory = true;
+        }
     }
 
     /// Asks for what is said of a file handle, and of its node.
-    pub fn ask_for_handle(&mut self, handle: Handle) -> Result<(), AllocError> {
-        self.ask_for(handle.node)?;
+    pub fn ask_for_handle(&mut self, handle: Handle) {
+        self.ask_for(handle.node);
         self.handle = Some(HandlePast::of(handle));
-        Ok(())
     }
 
     /// What is said of a node that was asked for.
@@ -51,11 +55,6 @@ impl Past {
         }
     }
 
-    /// What is said of the file handle that was asked for.
-    pub fn handle(&self) -> Option<HandlePast> {
-        self.handle
-    }
-
     /// Notes the messages before the one of this number.
     pub fn read(
         &mut self,
@@ -63,6 +62,9 @@ impl Past {
         capture: &Capture<'_>,
         number: u32,
     ) -> Result<(), AllocError> {
+        if self.lacks_memory {
+            return Err(AllocError);
+        }
         let mut session = Session::new(alloc, capture.seed);
         self.read_in(&mut session, capture, number)
     }
@@ -119,11 +121,10 @@ impl Past {
                     self.take(at, node, nlookup);
                 }
             }
-            RequestBody::Release(release) => {
-                self.close(at, request.node, release.fh, HandleKind::File)
-            }
-            RequestBody::Releasedir(release) => {
-                self.close(at, request.node, release.fh, HandleKind::Directory)
+            RequestBody::Release(release) | RequestBody::Releasedir(release) => {
+                if let Some(handle) = &mut self.handle {
+                    handle.close(at, Handle::of(request, release.fh));
+                }
             }
             _ => {}
         }
@@ -131,7 +132,7 @@ impl Past {
 
     /// Notes a reply.
     fn answered(&mut self, answered: Answered, request: &Request<'_>, reply: &Reply<'_>) {
-        match Given::by(&request.body, reply) {
+        match Given::by(request, reply) {
             Given::Nothing => {}
             Given::One(node) => self.give(answered, node),
             Given::Listed(entries) => {
@@ -154,7 +155,7 @@ impl Past {
         };
         if !past.is_known() {
             if let Some(handle) = &mut self.handle {
-                handle.node_begins_anew(node, past.taken());
+                handle.node_begins_anew(node, past.taken);
             }
         }
         past.give(answered);
@@ -169,21 +170,12 @@ impl Past {
 
     /// Notes that an answer opens a handle.
     fn open(&mut self, answered: Answered, opened: Opened) {
-        let of = opened.handle();
-        let is_lasting = match opened {
-            Opened::Given(_) => true,
-            Opened::Named(_) => of.node == ROOT_ID
-                || self.node(of.node).is_known_since(answered.asked),
-        };
+        let node = opened.handle.node;
+        let is_lasting = opened.is_on_given
+            || node == ROOT_ID
+            || self.node(node).is_known_since(answered.asked);
         if let Some(handle) = &mut self.handle {
-            handle.open(answered, of, is_lasting);
-        }
-    }
-
-    /// Notes that a request closes an opening of a handle.
-    fn close(&mut self, at: u32, node: u64, fh: u64, kind: HandleKind) {
-        if let Some(handle) = &mut self.handle {
-            handle.close(at, Handle { fh, kind, node });
+            handle.open(answered, opened.handle, is_lasting);
         }
     }
 }

@@ -1,14 +1,14 @@
 //! Messages that a session does not allow: codes 20 to 34.
 
 use crate::advice::Advice;
-use crate::citing::{earlier_answer, earlier_request};
-use crate::exchange::{Answered, Exchange, unique_of};
+use crate::citing::earlier;
+use crate::exchange::{Exchange, last_asked};
 use crate::fault::Fault;
 use bitflags::Flags;
 use fa_bodies::{InitIn, Negotiated, Reply, RequestBody, opcodes};
 use fa_capture::{Capture, Direction, codes};
 use fa_show::words::{self, INIT_FLAGS, RENAME_FLAGS};
-use fa_show::{Asked, Text, said, u32_at};
+use fa_show::{Asked, Text, request_in, said, u32_at};
 
 /// The minor version of the protocol that is judged.
 const MINOR: u32 = 31;
@@ -51,25 +51,18 @@ fn first_not_init(text: &mut Text, capture: &Capture<'_>, fault: &Fault<'_>) -> 
     let advice = sentence(text, "message 0 of a capture is the request INIT");
     match fault.packet.direction {
         Direction::ToServer => advice,
-        Direction::FromServer if is_asked(capture, fault.unique()) => Advice::Second,
-        Direction::FromServer => Advice::Third,
+        // Any request of the capture may be the one that it answers.
+        Direction::FromServer => match last_asked(capture, capture.messages, fault.unique()) {
+            Some(_) => Advice::Second,
+            None => Advice::Third,
+        },
     }
-}
-
-/// Whether a request of a capture has this unique.
-fn is_asked(capture: &Capture<'_>, unique: u64) -> bool {
-    for packet in capture.packets() {
-        if packet.direction == Direction::ToServer && unique_of(&packet) == Some(unique) {
-            return true;
-        }
-    }
-    false
 }
 
 /// Writes what a request breaks that comes behind INIT, and the line of INIT.
 fn after_init(text: &mut Text, capture: &Capture<'_>, words: &str) -> Advice {
     let advice = sentence(text, words);
-    earlier_request(text, capture, 0);
+    earlier(text, capture, 0, None);
     advice
 }
 
@@ -85,7 +78,7 @@ fn in_use(
     };
     unique_of_message(text, fault, " is that of message ", exchange.asked);
     let advice = sentence(text, ", which still waits for its answer");
-    earlier_request(text, capture, exchange.asked);
+    earlier(text, capture, exchange.asked, None);
     if exchange.packet.bytes == fault.packet.bytes {
         advice
     } else {
@@ -116,26 +109,20 @@ fn none_waits(
             unique_of_message(text, fault, " was last that of message ", exchange.asked);
             text.field(", which ", u64::from(answer));
             let advice = sentence(text, " has answered");
-            earlier_request(text, capture, exchange.asked);
-            let asked = exchange.asked;
-            earlier_answer(text, capture, Answered { at: answer, asked });
+            earlier(text, capture, exchange.asked, None);
+            earlier(text, capture, answer, Some(exchange.asked));
             advice
         }
         None => {
             unique_of_message(text, fault, " is that of message ", exchange.asked);
             text.word(", and ");
-            operation(text, &exchange);
+            if let Some(asked) = request_in(&exchange.packet) {
+                words::operation(text, asked.opcode);
+            }
             sentence(text, " has no answer");
-            earlier_request(text, capture, exchange.asked);
+            earlier(text, capture, exchange.asked, None);
             Advice::Second
         }
-    }
-}
-
-/// Writes the operation of a request.
-fn operation(text: &mut Text, exchange: &Exchange<'_>) {
-    if let Some(asked) = exchange.request() {
-        words::operation(text, asked.opcode);
     }
 }
 
@@ -144,7 +131,7 @@ fn reply_not_allowed(text: &mut Text, fault: &Fault<'_>, exchange: Option<Exchan
     let Some(exchange) = exchange else {
         return Advice::First;
     };
-    let Some(asked) = exchange.request() else {
+    let Some(asked) = request_in(&exchange.packet) else {
         return Advice::First;
     };
     let advice = match fault.code {
@@ -166,8 +153,8 @@ fn both_inits(fault: &Fault<'_>, asked: &Asked<'_>) -> Option<(InitIn, Negotiate
     let Ok(request) = &asked.request else {
         return None;
     };
-    match (&request.body, said(request, &fault.packet)?) {
-        (RequestBody::Init(init), Reply::Negotiated(negotiated)) => Some((*init, negotiated)),
+    match (&request.body, said(request, &fault.packet)) {
+        (RequestBody::Init(init), Some(Reply::Negotiated(negotiated))) => Some((*init, negotiated)),
         _ => None,
     }
 }

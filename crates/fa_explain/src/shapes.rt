@@ -17,6 +17,98 @@ pub(crate) enum Rest {
     Items,
 }
 
+// The bodies of requests, in words.
+const NAME: &str = "a name";
+
+const NAME_AND_TARGET: &str = "a name, and a target";
+
+const FORGET_IN: &str = "struct fuse_forget_in, 8 bytes";
+
+const GETATTR_IN: &str = "struct fuse_getattr_in, 16 bytes";
+
+const SETATTR_IN: &str = "struct fuse_setattr_in, 88 bytes";
+
+const MKNOD_IN: &str = "struct fuse_mknod_in, 16 bytes, and a name";
+
+const MKDIR_IN: &str = "struct fuse_mkdir_in, 8 bytes, and a name";
+
+const RENAME_IN: &str = "struct fuse_rename_in, 8 bytes, and two names";
+
+const RENAME2_IN: &str = "struct fuse_rename2_in, 16 bytes, and two names";
+
+const LINK_IN: &str = "struct fuse_link_in, 8 bytes, and a name";
+
+const OPEN_IN: &str = "struct fuse_open_in, 8 bytes";
+
+const READ_IN: &str = "struct fuse_read_in, 40 bytes";
+
+const WRITE_IN: &str = "struct fuse_write_in, 40 bytes, and as many bytes as size says";
+
+const RELEASE_IN: &str = "struct fuse_release_in, 24 bytes";
+
+const FLUSH_IN: &str = "struct fuse_flush_in, 24 bytes";
+
+const INIT_IN: &str = "struct fuse_init_in, 16 bytes or more";
+
+const CREATE_IN: &str = "struct fuse_create_in, 16 bytes, and a name";
+
+const BATCH_FORGET_IN: &str = "struct fuse_batch_forget_in, 8 bytes, and 16 bytes an item";
+
+// The structs of successes, in words.
+const ENTRY_OUT: &str = "struct fuse_entry_out, 128 bytes";
+
+const CREATE_OUT: &str = "struct fuse_entry_out and struct fuse_open_out, 144 bytes";
+
+const ATTR_OUT: &str = "struct fuse_attr_out, 104 bytes";
+
+const OPEN_OUT: &str = "struct fuse_open_out, 16 bytes";
+
+const WRITE_OUT: &str = "struct fuse_write_out, 8 bytes";
+
+/// What the body of each operation that is judged is: in words, how many bytes its struct has, and what stands behind that.
+static REQUESTS: [(u32, &str, usize, Rest); 25] = [
+    (opcodes::LOOKUP, NAME, 0, Rest::Name),
+    (opcodes::FORGET, FORGET_IN, 8, Rest::Nothing),
+    (opcodes::GETATTR, GETATTR_IN, 16, Rest::Nothing),
+    (opcodes::SETATTR, SETATTR_IN, 88, Rest::Nothing),
+    (opcodes::READLINK, "nothing", 0, Rest::Nothing),
+    (opcodes::SYMLINK, NAME_AND_TARGET, 0, Rest::NameAndTarget),
+    (opcodes::MKNOD, MKNOD_IN, 16, Rest::Name),
+    (opcodes::MKDIR, MKDIR_IN, 8, Rest::Name),
+    (opcodes::UNLINK, NAME, 0, Rest::Name),
+    (opcodes::RMDIR, NAME, 0, Rest::Name),
+    (opcodes::RENAME, RENAME_IN, 8, Rest::Names),
+    (opcodes::LINK, LINK_IN, 8, Rest::Name),
+    (opcodes::OPEN, OPEN_IN, 8, Rest::Nothing),
+    (opcodes::READ, READ_IN, 40, Rest::Nothing),
+    (opcodes::WRITE, WRITE_IN, 40, Rest::Payload),
+    (opcodes::RELEASE, RELEASE_IN, 24, Rest::Nothing),
+    (opcodes::FLUSH, FLUSH_IN, 24, Rest::Nothing),
+    (opcodes::INIT, INIT_IN, 16, Rest::Any),
+    (opcodes::OPENDIR, OPEN_IN, 8, Rest::Nothing),
+    (opcodes::READDIR, READ_IN, 40, Rest::Nothing),
+    (opcodes::RELEASEDIR, RELEASE_IN, 24, Rest::Nothing),
+    (opcodes::CREATE, CREATE_IN, 16, Rest::Name),
+    (opcodes::BATCH_FORGET, BATCH_FORGET_IN, 8, Rest::Items),
+    (opcodes::READDIRPLUS, READ_IN, 40, Rest::Nothing),
+    (opcodes::RENAME2, RENAME2_IN, 16, Rest::Names),
+];
+
+/// The structs of the successes that have any.
+static SUCCESSES: [(u32, &str); 11] = [
+    (opcodes::LOOKUP, ENTRY_OUT),
+    (opcodes::GETATTR, ATTR_OUT),
+    (opcodes::SETATTR, ATTR_OUT),
+    (opcodes::SYMLINK, ENTRY_OUT),
+    (opcodes::MKNOD, ENTRY_OUT),
+    (opcodes::MKDIR, ENTRY_OUT),
+    (opcodes::LINK, ENTRY_OUT),
+    (opcodes::OPEN, OPEN_OUT),
+    (opcodes::WRITE, WRITE_OUT),
+    (opcodes::OPENDIR, OPEN_OUT),
+    (opcodes::CREATE, CREATE_OUT),
+];
+
 /// What the body of a request is.
 #[derive(Clone, Copy)]
 pub(crate) struct Shape {
@@ -29,65 +121,24 @@ pub(crate) struct Shape {
 
 /// What the body of an operation is, if it is judged.
 pub(crate) fn shape_of(opcode: u32) -> Option<Shape> {
-    let (words, size, rest) = match opcode {
-        opcodes::LOOKUP | opcodes::UNLINK | opcodes::RMDIR => ("a name", 0, Rest::Name),
-        opcodes::FORGET => ("struct fuse_forget_in, 8 bytes", 8, Rest::Nothing),
-        opcodes::GETATTR => ("struct fuse_getattr_in, 16 bytes", 16, Rest::Nothing),
-        opcodes::SETATTR => ("struct fuse_setattr_in, 88 bytes", 88, Rest::Nothing),
-        opcodes::READLINK => ("nothing", 0, Rest::Nothing),
-        opcodes::SYMLINK => ("a name, and a target", 0, Rest::NameAndTarget),
-        opcodes::MKNOD => ("struct fuse_mknod_in, 16 bytes, and a name", 16, Rest::Name),
-        opcodes::MKDIR => ("struct fuse_mkdir_in, 8 bytes, and a name", 8, Rest::Name),
-        opcodes::RENAME => (
-            "struct fuse_rename_in, 8 bytes, and two names",
-            8,
-            Rest::Names,
-        ),
-        opcodes::RENAME2 => (
-            "struct fuse_rename2_in, 16 bytes, and two names",
-            16,
-            Rest::Names,
-        ),
-        opcodes::LINK => ("struct fuse_link_in, 8 bytes, and a name", 8, Rest::Name),
-        opcodes::OPEN | opcodes::OPENDIR => ("struct fuse_open_in, 8 bytes", 8, Rest::Nothing),
-        opcodes::READ | opcodes::READDIR | opcodes::READDIRPLUS => {
-            ("struct fuse_read_in, 40 bytes", 40, Rest::Nothing)
+    for (judged, words, size, rest) in &REQUESTS {
+        if *judged == opcode {
+            return Some(Shape {
+                words,
+                size: *size,
+                rest: *rest,
+            });
         }
-        opcodes::WRITE => (
-            "struct fuse_write_in, 40 bytes, and as many bytes as size says",
-            40,
-            Rest::Payload,
-        ),
-        opcodes::RELEASE | opcodes::RELEASEDIR => {
-            ("struct fuse_release_in, 24 bytes", 24, Rest::Nothing)
-        }
-        opcodes::FLUSH => ("struct fuse_flush_in, 24 bytes", 24, Rest::Nothing),
-        opcodes::INIT => ("struct fuse_init_in, 16 bytes or more", 16, Rest::Any),
-        opcodes::CREATE => (
-            "struct fuse_create_in, 16 bytes, and a name",
-            16,
-            Rest::Name,
-        ),
-        opcodes::BATCH_FORGET => (
-            "struct fuse_batch_forget_in, 8 bytes, and 16 bytes an item",
-            8,
-            Rest::Items,
-        ),
-        _ => return None,
-    };
-    Some(Shape { words, size, rest })
+    }
+    None
 }
 
 /// The structs of a success, in words; none where it is the header alone.
 pub(crate) fn success_of(opcode: u32) -> Option<&'static str> {
-    match opcode {
-        opcodes::LOOKUP | opcodes::SYMLINK | opcodes::MKNOD | opcodes::MKDIR | opcodes::LINK => {
-            Some("struct fuse_entry_out, 128 bytes")
+    for (judged, words) in &SUCCESSES {
+        if *judged == opcode {
+            return Some(words);
         }
-        opcodes::CREATE => Some("struct fuse_entry_out and struct fuse_open_out, 144 bytes"),
-        opcodes::GETATTR | opcodes::SETATTR => Some("struct fuse_attr_out, 104 bytes"),
-        opcodes::OPEN | opcodes::OPENDIR => Some("struct fuse_open_out, 16 bytes"),
-        opcodes::WRITE => Some("struct fuse_write_out, 8 bytes"),
-        _ => None,
     }
+    None
 }

@@ -1,11 +1,12 @@
 //! Replies whose body is none of their request: code 16.
 
-use crate::exchange::Exchange;
+use crate::bodies::stand_behind;
+use crate::exchange::{Exchange, request_of};
 use crate::fault::Fault;
 use crate::listings;
 use crate::shapes::success_of;
 use fa_bodies::{RequestBody, opcodes};
-use fa_show::{Asked, Text, message_in, u32_at, words};
+use fa_show::{Asked, Text, message_in, request_in, u32_at, words};
 
 /// The bytes of `struct fuse_write_out`.
 const WRITE_OUT: usize = 8;
@@ -22,30 +23,26 @@ pub(crate) fn refused(text: &mut Text, fault: &Fault<'_>, exchange: Option<Excha
     let Some(exchange) = exchange else {
         return;
     };
-    if let Some(asked) = exchange.request() {
+    if let Some(asked) = request_in(&exchange.packet) {
         success_refused(text, &asked, told.behind);
     }
 }
 
 /// Whether a reply has as many bytes as a listing may have, so that an entry of it is none.
 pub(crate) fn is_of_entries(fault: &Fault<'_>, exchange: Option<Exchange<'_>>) -> bool {
-    let (Some(told), Some(exchange)) = (message_in(&fault.packet), exchange) else {
-        return false;
-    };
-    let Some(most) = exchange.request().and_then(listed_at_most) else {
-        return false;
-    };
-    told.error == 0 && told.behind.len() <= most
+    match (message_in(&fault.packet), listed_at_most(exchange)) {
+        (Some(told), Some(most)) => told.error == 0 && told.behind.len() <= most,
+        _ => false,
+    }
 }
 
-/// How many bytes a request asks for, if it lists.
-fn listed_at_most(asked: Asked<'_>) -> Option<usize> {
-    match &asked.request {
-        Ok(request) => match &request.body {
-            RequestBody::Readdir(read) | RequestBody::Readdirplus(read) => Some(read.size as usize),
-            _ => None,
-        },
-        Err(_) => None,
+/// How many bytes the request of an exchange asks for, if it lists.
+fn listed_at_most(exchange: Option<Exchange<'_>>) -> Option<usize> {
+    let exchange = exchange?;
+    let request = request_of(&exchange.packet)?;
+    match &request.body {
+        RequestBody::Readdir(read) | RequestBody::Readdirplus(read) => Some(read.size as usize),
+        _ => None,
     }
 }
 
@@ -81,12 +78,6 @@ fn success_refused(text: &mut Text, asked: &Asked<'_>, body: &[u8]) {
         }
         _ => other_size(text, asked.opcode, body),
     }
-}
-
-/// Writes how many bytes stand behind something.
-fn stand_behind(text: &mut Text, body: &[u8], what: &str) {
-    text.count(body.len(), " byte stands behind ", " bytes stand behind ");
-    text.word(what);
 }
 
 /// Writes that more bytes came than were asked for.

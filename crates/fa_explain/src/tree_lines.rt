@@ -78,7 +78,7 @@ impl Cause<'_> {
 }
 
 /// What a line adds, by the letter that it begins with.
-#[derive(Clone, Copy, PartialEq, Eq)]
+#[derive(Clone, Copy)]
 enum Kind {
     Directory,
     File,
@@ -103,114 +103,107 @@ impl Kind {
     }
 }
 
+/// What a line adds, and at which path.
+#[derive(Clone, Copy)]
+struct Added<'a> {
+    kind: Kind,
+    path: &'a [u8],
+    /// What stands behind the path and a blank, if one does.
+    behind: Option<&'a [u8]>,
+}
+
+impl<'a> Added<'a> {
+    /// What a line adds, or why it adds nothing.
+    fn by(line: &'a [u8]) -> Result<Self, &'static str> {
+        let [letter, b' ', fields @ ..] = line else {
+            return Err(NO_LETTER);
+        };
+        let Some(kind) = Kind::of(*letter) else {
+            return Err(NO_LETTER);
+        };
+        let fields = match (kind, fields) {
+            (Kind::Name, _) => fields,
+            (_, [b'0'..=b'7', b'0'..=b'7', b'0'..=b'7', b' ', fields @ ..]) => fields,
+            _ => return Err(BITS),
+        };
+        let (path, behind) = match split_at_byte(fields, b' ') {
+            Some((path, behind)) => (path, Some(behind)),
+            None => (fields, None),
+        };
+        Ok(Added { kind, path, behind })
+    }
+}
+
 /// Why a line does not fit into a tree text, where it can be told.
 pub(crate) fn cause_of<'a>(line: &Misfit<'a>) -> Option<Cause<'a>> {
-    if let Some(words) = line.common_cause(b"fuse-tree 1".as_slice()) {
-        return Some(Cause::Words(words));
-    }
-    match line.number {
-        1 => Some(Cause::Words(FIRST_LINE)),
-        2 => Some(Cause::Words(ROOT_LINE)),
-        _ => entry_cause(line),
-    }
-}
-
-/// Why a line is no entry, or not behind the lines before it.
-fn entry_cause<'a>(line: &Misfit<'a>) -> Option<Cause<'a>> {
-    let Some((kind, fields)) = kind_at(line.bytes) else {
-        return Some(Cause::Words(NO_LETTER));
-    };
-    if kind == Kind::Name {
-        return name_cause(fields, line.before);
-    }
-    let Some(fields) = behind_bits(fields) else {
-        return Some(Cause::Words(BITS));
-    };
-    let (path, body) = match split_at_byte(fields, b' ') {
-        Some((path, body)) => (path, Some(body)),
-        None => (fields, None),
-    };
-    match body_cause(kind, body).or(path_cause(path)) {
+    match line_cause(line) {
         Some(words) => Some(Cause::Words(words)),
-        None => path_cause_behind(path, line.before),
+        None => cause_behind(line),
     }
 }
 
-/// Why the two paths of a further name do not fit behind the lines before it.
-fn name_cause<'a>(fields: &'a [u8], before: &'a [u8]) -> Option<Cause<'a>> {
-    let Some((path, older)) = split_at_byte(fields, b' ') else {
-        return Some(Cause::Words(NO_OLDER_PATH));
-    };
-    if older.contains(&b' ') {
-        return Some(Cause::Words(BITS_OF_A_NAME));
-    }
-    match path_cause(path).or(path_cause(older)) {
-        Some(words) => Some(Cause::Words(words)),
-        None => older_cause(older, before).or(path_cause_behind(path, before)),
+/// Why a line is none of a tree text, whatever the lines before it add.
+fn line_cause(line: &Misfit<'_>) -> Option<&'static str> {
+    match line.common_cause(b"fuse-tree 1".as_slice()) {
+        Some(words) => Some(words),
+        None => match line.number {
+            1 => Some(FIRST_LINE),
+            2 => Some(ROOT_LINE),
+            _ => entry_cause(line.bytes),
+        },
     }
 }
 
-/// What the letter at the front of a line stands for, and what stands behind it and a blank.
-fn kind_at(line: &[u8]) -> Option<(Kind, &[u8])> {
-    let [letter, b' ', fields @ ..] = line else {
-        return None;
-    };
-    Some((Kind::of(*letter)?, fields))
-}
-
-/// What stands behind permission bits and a blank.
-fn behind_bits(fields: &[u8]) -> Option<&[u8]> {
-    let [high, middle, low, b' ', behind @ ..] = fields else {
-        return None;
-    };
-    if is_octal(*high) && is_octal(*middle) && is_octal(*low) {
-        Some(behind)
-    } else {
-        None
+/// Why a line is no entry.
+fn entry_cause(line: &[u8]) -> Option<&'static str> {
+    match Added::by(line) {
+        Ok(added) => behind_path_cause(&added).or(paths_cause(&added)),
+        Err(words) => Some(words),
     }
 }
 
-/// Whether a byte is an octal digit.
-fn is_octal(byte: u8) -> bool {
-    b'0' <= byte && byte <= b'7'
+/// Why the path, or the two of a further name, are none.
+fn paths_cause(added: &Added<'_>) -> Option<&'static str> {
+    match (added.kind, added.behind) {
+        (Kind::Name, Some(older)) => path_cause(added.path).or(path_cause(older)),
+        _ => path_cause(added.path),
+    }
 }
 
-/// Why what stands behind the path of a new file, and a blank, is not what its kind has there.
-fn body_cause(kind: Kind, body: Option<&[u8]>) -> Option<&'static str> {
-    match kind {
-        Kind::Directory | Kind::Special | Kind::Name => match body {
+/// Why what stands behind the path is not what its kind has there.
+fn behind_path_cause(added: &Added<'_>) -> Option<&'static str> {
+    match added.kind {
+        Kind::Directory | Kind::Special => match added.behind {
             Some(_) => Some(BODY),
             None => None,
         },
-        _ if body.is_some_and(has_blank) => Some(TOO_MANY_BLANKS),
-        Kind::File if body == Some(b"-".as_slice()) => None,
-        Kind::File => digits_cause(body, NO_BYTES),
-        Kind::Symlink if body == Some(b"-".as_slice()) => Some(EMPTY_TARGET),
-        Kind::Symlink => match digits_cause(body, NO_TARGET) {
-            None if body.is_some_and(has_zero_byte) => Some(ZERO_IN_TARGET),
-            cause => cause,
+        Kind::Name => match added.behind {
+            Some(older) if older.contains(&b' ') => Some(BITS_OF_A_NAME),
+            Some(_) => None,
+            None => Some(NO_OLDER_PATH),
         },
+        Kind::File => digits_cause(added.behind.unwrap_or(&[]), false),
+        Kind::Symlink => digits_cause(added.behind.unwrap_or(&[]), true),
     }
 }
 
-/// Why these are not the hexadecimal digits of one byte or more: with these words where they are missing.
-fn digits_cause(digits: Option<&[u8]>, missing: &'static str) -> Option<&'static str> {
-    let digits = digits.unwrap_or(&[]);
-    if digits.is_empty() {
-        return Some(missing);
+/// Why hexadecimal digits are none of the bytes of a file, or none of a target.
+fn digits_cause(digits: &[u8], is_target: bool) -> Option<&'static str> {
+    if digits.contains(&b' ') {
+        Some(TOO_MANY_BLANKS)
+    } else if digits.is_empty() {
+        Some(if is_target { NO_TARGET } else { NO_BYTES })
+    } else if digits == b"-".as_slice() {
+        if is_target { Some(EMPTY_TARGET) } else { None }
+    } else if !digits.iter().all(u8::is_ascii_hexdigit) {
+        Some(NO_DIGIT)
+    } else if digits.len() % 2 != 0 {
+        Some(ODD_DIGITS)
+    } else if is_target && has_zero_byte(digits) {
+        Some(ZERO_IN_TARGET)
+    } else {
+        None
     }
-    if !digits.iter().all(u8::is_ascii_hexdigit) {
-        return Some(NO_DIGIT);
-    }
-    if digits.len() % 2 != 0 {
-        return Some(ODD_DIGITS);
-    }
-    None
-}
-
-/// Whether one of these bytes is a blank.
-fn has_blank(bytes: &[u8]) -> bool {
-    bytes.contains(&b' ')
 }
 
 /// Whether one of the bytes that hexadecimal digits spell is zero.
@@ -226,15 +219,32 @@ fn has_zero_byte(digits: &[u8]) -> bool {
     false
 }
 
-/// Why a path does not fit behind the lines before it. Nothing is told where a byte of a path is spelled by its digits.
+/// Why an entry does not fit behind the lines before it. Nothing is told where a byte of a path is spelled by its digits.
+fn cause_behind<'a>(line: &Misfit<'a>) -> Option<Cause<'a>> {
+    if line.before.contains(&b'%') {
+        return None;
+    }
+    let Ok(added) = Added::by(line.bytes) else {
+        return None;
+    };
+    let path = path_cause_behind(added.path, line.before);
+    match (added.kind, added.behind) {
+        (Kind::Name, Some(older)) => older_cause(older, line.before).or(path),
+        _ => path,
+    }
+}
+
+/// Why a path does not fit behind the lines before it.
 fn path_cause_behind<'a>(path: &'a [u8], before: &[u8]) -> Option<Cause<'a>> {
-    if path.contains(&b'%') || before.contains(&b'%') {
+    if path.contains(&b'%') {
         return None;
     }
     if let Some((line, _)) = line_with(before, path) {
         return Some(Cause::PathTwice(line));
     }
-    let directory = directory_of(path)?;
+    let Some(directory) = directory_of(path) else {
+        return None;
+    };
     match line_with(before, directory) {
         Some((_, Kind::Directory)) => None,
         _ => Some(Cause::NoDirectory(directory)),
@@ -243,7 +253,7 @@ fn path_cause_behind<'a>(path: &'a [u8], before: &[u8]) -> Option<Cause<'a>> {
 
 /// Why a further name has no file with the older path.
 fn older_cause<'a>(older: &'a [u8], before: &[u8]) -> Option<Cause<'a>> {
-    if older.contains(&b'%') || before.contains(&b'%') {
+    if older.contains(&b'%') {
         return None;
     }
     match line_with(before, older) {
@@ -270,28 +280,16 @@ fn line_with(lines: &[u8], path: &[u8]) -> Option<(u32, Kind)> {
     let mut left = lines;
     let mut number: u32 = 0;
     for _ in 0..lines.len() {
-        let (line, behind) = split_at_byte(left, b'\n')?;
+        let Some((line, behind)) = split_at_byte(left, b'\n') else {
+            break;
+        };
         number = number.saturating_add(1);
-        if let Some((kind, own)) = path_in(line) {
-            if own == path {
-                return Some((number, kind));
+        if let Ok(added) = Added::by(line) {
+            if added.path == path {
+                return Some((number, added.kind));
             }
         }
         left = behind;
     }
     None
-}
-
-/// The path that a line adds, and what it adds there.
-fn path_in(line: &[u8]) -> Option<(Kind, &[u8])> {
-    let (kind, fields) = kind_at(line)?;
-    let fields = if kind == Kind::Name {
-        fields
-    } else {
-        behind_bits(fields)?
-    };
-    match split_at_byte(fields, b' ') {
-        Some((path, _)) => Some((kind, path)),
-        None => Some((kind, fields)),
-    }
 }
