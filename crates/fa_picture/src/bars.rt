@@ -2,6 +2,7 @@
 
 use crate::fault::Fault;
 use crate::mark::{Mark, Share};
+use crate::numbered::Numbered;
 use fa_bodies::Request;
 use fa_capture::Packet;
 
@@ -23,6 +24,12 @@ pub(crate) struct Bar<'a> {
     pub entry: Option<u32>,
     /// Where the order places it, if that is between its request and its answer.
     pub mark: Option<Mark>,
+}
+
+impl Numbered for Bar<'_> {
+    fn number(&self) -> u32 {
+        self.begins
+    }
 }
 
 impl Bar<'_> {

@@ -1,5 +1,6 @@
 //! Messages that are no part of a bar.
 
+use crate::numbered::Numbered;
 use fa_capture::Packet;
 
 /// A message that stands alone: a notification, a message of the server with which no bar ends, or one that is not read.
@@ -12,4 +13,10 @@ pub(crate) struct Diamond<'a> {
     pub answered: Option<(u32, Packet<'a>)>,
     /// In which lane it lies.
     pub lane: u32,
+}
+
+impl Numbered for Diamond<'_> {
+    fn number(&self) -> u32 {
+        self.at
+    }
 }

@@ -1,12 +1,12 @@
 //! A picture, from a capture to its text.
 
-use crate::escape::{write_content, write_markup};
+use crate::escape::{write_content, write_markup, write_pieces};
 use crate::exchanges::Exchanges;
 use crate::fitting::{Letters, write_fitted};
 use crate::layout::{HEADING_LINE, SIDE, WIDTH};
 use crate::legend::Legend;
 use crate::painting::{height, paint};
-use crate::palette::write_style;
+use crate::palette::STYLE;
 use crate::scene::{Scene, Subject};
 use crate::shapes::{Anchor, length, measure, open_text};
 use crate::window::View;
@@ -24,19 +24,11 @@ pub enum Heading {
 }
 
 impl Heading {
-    /// Where what is drawn begins.
-    fn top(self) -> u64 {
+    /// Where the line stands that says which messages are drawn, and where what is drawn begins.
+    fn lines(self) -> (u64, u64) {
         match self {
-            Heading::Verdict => 440,
-            Heading::Nothing => 280,
-        }
-    }
-
-    /// Where the line stands that says which messages are drawn.
-    fn subtitle(self) -> u64 {
-        match self {
-            Heading::Verdict => 350,
-            Heading::Nothing => 180,
+            Heading::Verdict => (350, 440),
+            Heading::Nothing => (180, 280),
         }
     }
 }
@@ -83,17 +75,17 @@ impl<'a, 'e> Drawing<'a, 'e> {
     /// Takes no memory, in time linear in the messages that are drawn and in the bars, as often as these have a part in a band.
     pub fn write(&mut self, text: &mut Text, verdict: Option<&str>, heading: Heading) {
         let legend = Legend::of(&self.scene, self.exchanges.fault, self.has_order);
-        let bottom = heading.top().saturating_add(height(&self.scene));
-        self.take_name(verdict);
+        let (_, top) = heading.lines();
+        let bottom = top.saturating_add(height(&self.scene));
+        let name = &mut self.words.title;
+        name.begin(0);
+        match verdict {
+            Some(verdict) => name.word(verdict),
+            None => name.count(self.scene.messages as usize, " message", " messages"),
+        }
         self.open(text, bottom.saturating_add(legend.height()));
         self.write_heading(text, heading);
-        paint(
-            text,
-            &mut self.words,
-            self.exchanges,
-            &self.scene,
-            heading.top(),
-        );
+        paint(text, &mut self.words, self.exchanges, &self.scene, top);
         legend.write(text, bottom);
         write_markup(text, "</svg>\n");
     }
@@ -107,29 +99,19 @@ impl<'a, 'e> Drawing<'a, 'e> {
         Ok(text)
     }
 
-    /// Takes what the picture is called as the words that are written next.
-    fn take_name(&mut self, verdict: Option<&str>) {
-        let name = &mut self.words.title;
-        name.begin(0);
-        match verdict {
-            Some(verdict) => name.word(verdict),
-            None => name.count(self.scene.messages as usize, " message", " messages"),
-        }
-    }
-
     /// Writes the beginning of a picture of this height, with its style and its background.
     fn open(&self, text: &mut Text, height: u64) {
         text.word("<svg xmlns=\"http://www.w3.org/2000/svg\" class=\"kp\" viewBox=\"0 0 ");
         length(text, WIDTH);
         text.word(" ");
         length(text, height);
-        text.word("\"");
+        text.character(b'"');
         measure(text, "width", WIDTH);
         measure(text, "height", height);
         text.word(" role=\"img\" aria-label=\"");
         write_content(text, self.words.title.as_bytes());
         text.word("\">");
-        write_style(text);
+        write_pieces(text, &STYLE);
         text.word("<rect class=\"bg\"");
         measure(text, "width", WIDTH);
         measure(text, "height", height);
@@ -151,12 +133,12 @@ impl<'a, 'e> Drawing<'a, 'e> {
         let Some(window) = self.scene.window else {
             return;
         };
-        open_text(text, "s", SIDE, heading.subtitle(), Anchor::Start);
+        let (subtitle, _) = heading.lines();
+        open_text(text, "s", SIDE, subtitle, Anchor::Start);
         text.field("messages ", u64::from(window.first));
         text.field(" to ", u64::from(window.last));
         text.field(" of ", u64::from(self.scene.messages));
-        text.word(", a column each: &gt; to the server, &lt; from it");
-        text.word("</text>");
+        text.word(", a column each: &gt; to the server, &lt; from it</text>");
     }
 }
 

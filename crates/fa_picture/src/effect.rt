@@ -25,8 +25,14 @@ impl Effect {
             | RequestBody::Opendir(_)
             | RequestBody::Readdir(_)
             | RequestBody::Readdirplus(_) => Effect::Leaves,
-            RequestBody::Open(open) => Effect::of_open(open.flags),
-            RequestBody::Setattr(setattr) => Effect::of_setattr(setattr.valid()),
+            RequestBody::Open(open) => Effect::changing(open.flags.contains(OpenFlags::TRUNC)),
+            RequestBody::Setattr(setattr) => {
+                // Owners and times are not of the tree (this profile).
+                let valid = setattr.valid();
+                Effect::changing(
+                    valid.contains(FattrFlags::MODE) || valid.contains(FattrFlags::SIZE),
+                )
+            }
             RequestBody::Symlink { .. }
             | RequestBody::Mknod { .. }
             | RequestBody::Mkdir { .. }
@@ -47,18 +53,9 @@ impl Effect {
         }
     }
 
-    /// What an OPEN with these flags may do.
-    fn of_open(flags: OpenFlags) -> Effect {
-        if flags.contains(OpenFlags::TRUNC) {
-            Effect::MayChange
-        } else {
-            Effect::Leaves
-        }
-    }
-
-    /// What a SETATTR of these attributes may do: owners and times are not of the tree (this profile).
-    fn of_setattr(valid: FattrFlags) -> Effect {
-        if valid.contains(FattrFlags::MODE) || valid.contains(FattrFlags::SIZE) {
+    /// `MayChange` if a request may change the tree, and else `Leaves`.
+    fn changing(may_change: bool) -> Effect {
+        if may_change {
             Effect::MayChange
         } else {
             Effect::Leaves

@@ -65,6 +65,15 @@ pub fn write_content(text: &mut Text, bytes: &[u8]) {
     }
 }
 
+/// Writes pieces of markup, one behind the other.
+///
+/// Takes no memory, in linear time.
+pub(crate) fn write_pieces(text: &mut Text, pieces: &[&str]) {
+    for piece in pieces {
+        write_markup(text, piece);
+    }
+}
+
 /// Writes markup as it stands, with its line feeds.
 ///
 /// Takes no memory, in linear time.

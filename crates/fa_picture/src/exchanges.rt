@@ -48,46 +48,43 @@ impl Exchanges {
         capture: &Capture<'_>,
         waiting: &mut IndexMap<u64, u32, Seed>,
     ) -> Result<(), AllocError> {
+        let mut number: u32 = 0;
         for packet in capture.packets() {
-            let taken = match packet.direction {
-                Direction::ToServer => self.ask(&packet, waiting),
-                Direction::FromServer => self.answer(&packet, waiting),
-            };
-            taken?;
+            let mut partner = None;
+            if packet.direction == Direction::FromServer {
+                partner = self.answer(number, &packet, waiting);
+            } else if let Some(unique) = self.unique_to_answer(number, &packet) {
+                waiting.insert(unique, number)?;
+            }
+            self.partners.push(partner)?;
+            number = number.saturating_add(1);
         }
         Ok(())
     }
 
-    /// Takes in a request.
-    fn ask(
-        &mut self,
-        packet: &Packet<'_>,
-        waiting: &mut IndexMap<u64, u32, Seed>,
-    ) -> Result<(), AllocError> {
-        let number = self.begin(None)?;
+    /// The unique with which a message is a request that waits for an answer, if it is one.
+    fn unique_to_answer(&self, number: u32, packet: &Packet<'_>) -> Option<u64> {
         if self.fault.refusal(number).is_some() {
-            return Ok(());
+            return None;
         }
-        if let Some(unique) = unique_to_answer(packet) {
-            waiting.insert(unique, number)?;
+        match readable(packet) {
+            Some(request) if request.body.may_be_answered() => Some(request.unique),
+            _ => None,
         }
-        Ok(())
     }
 
-    /// Takes in a message of the server.
+    /// The number of the request that a message of the server answers, if there is one: they go together.
     fn answer(
         &mut self,
+        number: u32,
         packet: &Packet<'_>,
         waiting: &mut IndexMap<u64, u32, Seed>,
-    ) -> Result<(), AllocError> {
+    ) -> Option<u32> {
         let Some(told) = message_in(packet) else {
-            self.begin(None)?;
-            return Ok(());
+            return None;
         };
-        let asked = waiting.get(&told.unique).copied();
-        let number = self.begin(asked)?;
-        let Some(asked) = asked else {
-            return Ok(());
+        let Some(asked) = waiting.get(&told.unique).copied() else {
+            return None;
         };
         if let Some(partner) = self.partners.get_mut(asked as usize) {
             *partner = Some(number);
@@ -95,14 +92,7 @@ impl Exchanges {
         if self.fault.refusal(number).is_none() {
             let _ = waiting.swap_remove(&told.unique);
         }
-        Ok(())
-    }
-
-    /// Takes in the next message, with the one that goes with it: its number.
-    fn begin(&mut self, partner: Option<u32>) -> Result<u32, AllocError> {
-        let number = number_at(self.partners.len())?;
-        self.partners.push(partner)?;
-        Ok(number)
+        Some(asked)
     }
 
     /// The number of the message that goes with the one of this number, if there is one: of a request its reply, or the last that was
@@ -154,21 +144,5 @@ impl Exchanges {
             },
             partner: answered,
         }
-    }
-}
-
-/// The number of what stands at this place: where it is none of 32 bits, memory is as good as refused.
-pub(crate) fn number_at(place: usize) -> Result<u32, AllocError> {
-    match u32::try_from(place) {
-        Ok(number) => Ok(number),
-        Err(_) => Err(AllocError),
-    }
-}
-
-/// The unique with which a message is a request that may be answered, if it is one.
-fn unique_to_answer(packet: &Packet<'_>) -> Option<u64> {
-    match readable(packet) {
-        Some(request) if request.body.may_be_answered() => Some(request.unique),
-        _ => None,
     }
 }

@@ -5,6 +5,26 @@ use fa_bodies::{Attributes, Entries, FattrFlags, Kind, OpenFlags, Reply, Request
 use fa_capture::Packet;
 use fa_show::{Text, Told, message_in, said, words};
 
+/// What a notification is called, by its code (`enum fuse_notify_code` of `fuse.h`): first what one is called that has no name.
+static NOTIFICATIONS: [&str; 7] = [
+    "notification",
+    "POLL",
+    "INVAL_INODE",
+    "INVAL_ENTRY",
+    "STORE",
+    "RETRIEVE",
+    "DELETE",
+];
+
+/// How much is said of what a request acts on.
+#[derive(Clone, Copy)]
+pub(crate) enum Detail {
+    /// Of a node the size and the offset too.
+    Extent,
+    /// Of a node its number alone.
+    Node,
+}
+
 /// Writes the operation, and that it empties a file that is there.
 pub(crate) fn operation(text: &mut Text, request: &Request<'_>) {
     words::operation(text, request.opcode);
@@ -18,8 +38,8 @@ pub(crate) fn operation(text: &mut Text, request: &Request<'_>) {
     }
 }
 
-/// Writes on what a request acts: names, or its node, with the size and the offset.
-pub(crate) fn objects(text: &mut Text, request: &Request<'_>) {
+/// Writes on what a request acts: names, or its node.
+pub(crate) fn objects(text: &mut Text, request: &Request<'_>, detail: Detail) {
     match &request.body {
         RequestBody::Rename {
             old_name,
@@ -46,7 +66,9 @@ pub(crate) fn objects(text: &mut Text, request: &Request<'_>) {
         RequestBody::Init(_) | RequestBody::BatchForget { .. } => {}
         body => {
             text.field("node ", request.node);
-            extent(text, body);
+            if let Detail::Extent = detail {
+                extent(text, body);
+            }
         }
     }
 }
@@ -72,43 +94,21 @@ fn range(text: &mut Text, size: u32, offset: u64) {
     text.field(" at ", offset);
 }
 
-/// Writes the node alone, in the place of what [`objects`] writes of a request that has no name.
-pub(crate) fn shorter(text: &mut Text, request: &Request<'_>) {
-    match &request.body {
-        RequestBody::Read(_)
-        | RequestBody::Write { .. }
-        | RequestBody::Readdir(_)
-        | RequestBody::Readdirplus(_)
-        | RequestBody::Setattr(_) => {
-            text.begin(0);
-            text.field("node ", request.node);
-        }
-        _ => {}
-    }
-}
-
-/// Whether an answer is an error.
-pub(crate) fn is_error(answer: Option<&Packet<'_>>) -> bool {
-    let Some(packet) = answer else {
-        return false;
-    };
-    match message_in(packet) {
-        Some(told) => told.error != 0,
-        None => false,
+/// The error of an answer; 0, if it is none.
+pub(crate) fn error_of(answer: &Packet<'_>) -> i32 {
+    match message_in(answer) {
+        Some(told) => told.error,
+        None => 0,
     }
 }
 
 /// Writes what an answer says to a request: its error, or the size of a file, or how many bytes or entries it has.
-pub(crate) fn result(text: &mut Text, request: &Request<'_>, answer: Option<&Packet<'_>>) {
-    let Some(packet) = answer else {
-        return;
-    };
-    match message_in(packet) {
-        Some(told) if told.error != 0 => error(text, told.error),
-        _ => match said(request, packet) {
-            Some(reply) => success(text, &reply),
-            None => {}
-        },
+pub(crate) fn result(text: &mut Text, request: &Request<'_>, answer: &Packet<'_>) {
+    let code = error_of(answer);
+    if code != 0 {
+        error(text, code);
+    } else if let Some(reply) = said(request, answer) {
+        success(text, &reply);
     }
 }
 
@@ -151,18 +151,16 @@ fn listed(text: &mut Text, entries: Entries<'_>) {
     }
 }
 
-/// Writes what a message of the server is that answers nothing: a notification (`enum fuse_notify_code` of `fuse.h`), an error or a
-/// success.
+/// Writes what a message of the server is that answers nothing: a notification, an error or a success.
 pub(crate) fn alone(text: &mut Text, told: &Told<'_>) {
-    match (told.unique, told.error) {
-        (0, 1) => text.word("POLL"),
-        (0, 2) => text.word("INVAL_INODE"),
-        (0, 3) => text.word("INVAL_ENTRY"),
-        (0, 4) => text.word("STORE"),
-        (0, 5) => text.word("RETRIEVE"),
-        (0, 6) => text.word("DELETE"),
-        (0, _) => text.word("notification"),
-        (_, 0) => text.word("ok"),
-        (_, number) => error(text, number),
+    if told.unique == 0 {
+        text.word(match NOTIFICATIONS.get(told.error.max(0) as usize) {
+            Some(name) => name,
+            None => "notification",
+        });
+    } else if told.error == 0 {
+        text.word("ok");
+    } else {
+        error(text, told.error);
     }
 }

@@ -1,6 +1,5 @@
 //! Lanes, one below the other, in which bars lie.
 
-use crate::exchanges::number_at;
 use std::alloc::{AllocError, Global};
 
 /// The lanes, each by the number of the last message that it is taken up to.
@@ -20,16 +19,16 @@ impl Lanes {
     /// Takes the first lane that is free for what lies from one message to another: its place. What is handed in later begins later.
     pub fn take(&mut self, begins: u32, ends: u32) -> Result<u32, AllocError> {
         let lane = self.first_free(begins);
-        match self.taken_up_to.get_mut(lane) {
+        match self.taken_up_to.get_mut(lane as usize) {
             Some(taken) => *taken = ends,
             None => self.taken_up_to.push(ends)?,
         }
-        number_at(lane)
+        Ok(lane)
     }
 
     /// The place of the first lane that is free from a message on: behind all others, if none of them is.
-    fn first_free(&self, begins: u32) -> usize {
-        let mut lane: usize = 0;
+    fn first_free(&self, begins: u32) -> u32 {
+        let mut lane: u32 = 0;
         for taken in self.taken_up_to.iter() {
             if *taken < begins {
                 break;

@@ -3,60 +3,70 @@
 use crate::fault::Fault;
 use crate::layout::{MARK_HEIGHT, SIDE, WIDTH};
 use crate::scene::Scene;
-use crate::shapes::{Anchor, Area, rectangle, words};
+use crate::shapes::{Anchor, Area, open_text, rectangle};
 use fa_show::Text;
+
+/// When a look is explained.
+#[derive(Clone, Copy)]
+enum When {
+    Always,
+    /// Where a request was never answered.
+    Unanswered,
+    /// Where something is at fault.
+    AtFault,
+}
 
 /// How a bar may look.
 #[derive(Clone, Copy)]
-enum Look {
-    Leaves,
-    MayChange,
-    Apart,
-    Error,
-    Unanswered,
-    AtFault,
+struct Look {
+    /// The classes of the style sheet.
+    classes: &'static str,
+    /// What it means.
+    meaning: &'static str,
+    /// Whether its left edge is thick.
+    has_edge: bool,
+    when: When,
 }
 
 /// All looks, as they are explained.
 static LOOKS: [Look; 6] = [
-    Look::Leaves,
-    Look::MayChange,
-    Look::Apart,
-    Look::Error,
-    Look::Unanswered,
-    Look::AtFault,
+    Look {
+        classes: "read",
+        meaning: "leaves the tree",
+        has_edge: false,
+        when: When::Always,
+    },
+    Look {
+        classes: "change",
+        meaning: "may change it",
+        has_edge: true,
+        when: When::Always,
+    },
+    Look {
+        classes: "other",
+        meaning: "does not act on it",
+        has_edge: false,
+        when: When::Always,
+    },
+    Look {
+        classes: "read error",
+        meaning: "answered by an error",
+        has_edge: false,
+        when: When::Always,
+    },
+    Look {
+        classes: "read never",
+        meaning: "never answered",
+        has_edge: false,
+        when: When::Unanswered,
+    },
+    Look {
+        classes: "bad",
+        meaning: "at fault",
+        has_edge: false,
+        when: When::AtFault,
+    },
 ];
-
-impl Look {
-    /// The classes of the style sheet.
-    fn classes(self) -> &'static str {
-        match self {
-            Look::Leaves => "read",
-            Look::MayChange => "change",
-            Look::Apart => "other",
-            Look::Error => "read error",
-            Look::Unanswered => "read never",
-            Look::AtFault => "bad",
-        }
-    }
-
-    /// What it means.
-    fn meaning(self) -> &'static str {
-        match self {
-            Look::Leaves => "leaves the tree",
-            Look::MayChange => "may change it",
-            Look::Apart => "does not act on it",
-            Look::Error => "answered by an error",
-            Look::Unanswered => "never answered",
-            Look::AtFault => "at fault",
-        }
-    }
-
-    /// How wide its sample and its words are.
-    fn width(self) -> u64 {
-        width(self.meaning()).saturating_add(SAMPLE.0 + BESIDE + BETWEEN)
-    }
-}
 
 /// What a mark means.
 const MARK: &str = "entry of the order, where it may have taken effect";
@@ -102,6 +112,13 @@ fn width(words: &str) -> u64 {
     (words.len() as u64).saturating_mul(LETTER)
 }
 
+impl Look {
+    /// How wide its sample and its words are, with what is free behind them.
+    fn width(&self) -> u64 {
+        width(self.meaning).saturating_add(SAMPLE.0 + BESIDE + BETWEEN)
+    }
+}
+
 /// Which looks are explained below a picture.
 #[derive(Clone, Copy)]
 pub(crate) struct Legend {
@@ -129,18 +146,18 @@ impl Legend {
     }
 
     /// Whether it explains a look.
-    fn explains(self, look: Look) -> bool {
-        match look {
-            Look::Leaves | Look::MayChange | Look::Apart | Look::Error => true,
-            Look::Unanswered => self.has_unanswered,
-            Look::AtFault => self.has_fault,
+    fn explains(&self, look: &Look) -> bool {
+        match look.when {
+            When::Always => true,
+            When::Unanswered => self.has_unanswered,
+            When::AtFault => self.has_fault,
         }
     }
 
-    /// Where the words on marks begin, on the line of the looks.
-    fn end_of_looks(self) -> u64 {
+    /// Where the looks end on their line.
+    fn end_of_looks(&self) -> u64 {
         let mut end = SIDE;
-        for look in LOOKS {
+        for look in LOOKS.iter() {
             if self.explains(look) {
                 end = end.saturating_add(look.width());
             }
@@ -148,53 +165,52 @@ impl Legend {
         end
     }
 
-    /// Whether marks are explained on a line of their own.
-    fn has_two_lines(self) -> bool {
-        self.has_order
-            && self
-                .end_of_looks()
-                .saturating_add(MARK_WIDTH + BESIDE)
-                .saturating_add(width(MARK))
-                > WIDTH - SIDE
-    }
-
     /// How high it is.
-    pub fn height(self) -> u64 {
-        let lines = if self.has_two_lines() { 2 } else { 1 };
-        FREE.0 + lines * LINE + FREE.1
+    pub fn height(&self) -> u64 {
+        if self.has_order && !has_room_for_mark(self.end_of_looks()) {
+            FREE.0 + 2 * LINE + FREE.1
+        } else {
+            FREE.0 + LINE + FREE.1
+        }
     }
 
     /// Writes it, below this height.
-    pub fn write(self, text: &mut Text, top: u64) {
+    pub fn write(&self, text: &mut Text, top: u64) {
         let top = top.saturating_add(FREE.0);
         let mut left = SIDE;
-        for look in LOOKS {
+        for look in LOOKS.iter() {
             if self.explains(look) {
                 write_look(text, look, left, top);
                 left = left.saturating_add(look.width());
             }
         }
-        if !self.has_order {
-            return;
-        }
-        if self.has_two_lines() {
-            write_mark(text, SIDE, top.saturating_add(LINE));
-        } else {
-            write_mark(text, left, top);
+        if self.has_order {
+            if has_room_for_mark(left) {
+                write_mark(text, left, top);
+            } else {
+                write_mark(text, SIDE, top.saturating_add(LINE));
+            }
         }
     }
 }
 
+/// Whether a mark and what it means have room on a line from here on.
+fn has_room_for_mark(left: u64) -> bool {
+    left.saturating_add(MARK_WIDTH + BESIDE)
+        .saturating_add(width(MARK))
+        <= WIDTH - SIDE
+}
+
 /// Writes a sample of a look, and what it means.
-fn write_look(text: &mut Text, look: Look, left: u64, top: u64) {
+fn write_look(text: &mut Text, look: &Look, left: u64, top: u64) {
     let mut area = Area {
         x: left,
         y: top.saturating_add(SAMPLE_TOP),
         width: SAMPLE.0,
         height: SAMPLE.1,
     };
-    rectangle(text, look.classes(), &area, ROUNDING);
-    if let Look::MayChange = look {
+    rectangle(text, look.classes, &area, ROUNDING);
+    if look.has_edge {
         area.width = EDGE;
         rectangle(text, "edge", &area, 0);
     }
@@ -202,7 +218,7 @@ fn write_look(text: &mut Text, look: Look, left: u64, top: u64) {
         text,
         left.saturating_add(SAMPLE.0 + BESIDE),
         top,
-        look.meaning(),
+        look.meaning,
     );
 }
 
@@ -215,25 +231,20 @@ fn write_mark(text: &mut Text, left: u64, top: u64) {
         height: MARK_HEIGHT,
     };
     rectangle(text, "mark", &area, MARK_HEIGHT / 2);
-    words(
+    open_text(
         text,
         "marked",
         left.saturating_add(MARK_WIDTH / 2),
         top.saturating_add(MARK_LINES.1),
         Anchor::Start,
-        b"7",
     );
+    text.word("7</text>");
     explain(text, left.saturating_add(MARK_WIDTH + BESIDE), top, MARK);
 }
 
 /// Writes what a sample means.
 fn explain(text: &mut Text, left: u64, top: u64, meaning: &str) {
-    words(
-        text,
-        "s",
-        left,
-        top.saturating_add(BASELINE),
-        Anchor::Start,
-        meaning.as_bytes(),
-    );
+    open_text(text, "s", left, top.saturating_add(BASELINE), Anchor::Start);
+    text.word(meaning);
+    text.word("</text>");
 }

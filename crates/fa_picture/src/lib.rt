@@ -23,6 +23,7 @@ mod layout;
 mod legend;
 mod look;
 mod mark;
+mod numbered;
 mod outcome;
 mod overlap;
 mod page;

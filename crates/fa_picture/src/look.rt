@@ -4,7 +4,8 @@ use crate::band::Band;
 use crate::bars::Bar;
 use crate::effect::Effect;
 use crate::fault::Fault;
-use crate::labels::is_error;
+use crate::labels::error_of;
+use crate::shapes::open;
 use fa_show::Text;
 
 /// How a bar looks in a band.
@@ -31,12 +32,16 @@ impl Look {
     pub fn of(bar: &Bar<'_>, band: &Band, fault: Fault) -> Look {
         let effect = Effect::of(&bar.request.body);
         let is_at_fault = bar.is_at_fault(fault);
+        let is_error = match &bar.answer {
+            Some(answer) => error_of(answer) != 0,
+            None => false,
+        };
         let is_begun = bar.begins < band.first;
         let goes_on = bar.ends > band.last;
         Look {
             class: if is_at_fault { "bad" } else { effect.class() },
             is_at_fault,
-            is_error: is_error(bar.answer.as_ref()),
+            is_error,
             is_unanswered: bar.is_unanswered(),
             is_begun,
             goes_on,
@@ -47,10 +52,7 @@ impl Look {
 
     /// Writes an element's name with the classes of the bar: a hollow one is answered by an error, a dashed one never.
     pub fn open(&self, text: &mut Text, element: &str) {
-        text.word("<");
-        text.word(element);
-        text.word(" class=\"");
-        text.word(self.class);
+        open(text, element, self.class);
         if self.is_error && !self.is_at_fault {
             text.word(" error");
         }

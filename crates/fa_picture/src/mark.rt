@@ -7,7 +7,7 @@ use crate::layout::COLUMN;
 /// Which part of what is between two messages an entry of an order has.
 #[derive(Clone, Copy)]
 pub(crate) struct Share {
-    /// Its place among the entries that are there too, from 1 on.
+    /// Its place among the entries that are there too, from 1 on; 0 of no entry.
     pub place: u32,
     /// How many entries are there.
     pub entries: u32,
@@ -15,16 +15,26 @@ pub(crate) struct Share {
 }
 
 impl Share {
-    /// The part of the entry of this number, which is placed behind a message: one of as many as are. `moments` has, for each entry, the
-    /// message behind which it is placed.
-    pub fn of(moments: &[u32], entry: u32, behind: u32) -> Share {
-        let before = placed_before(moments, behind);
-        let up_to = placed_before(moments, behind.saturating_add(1));
-        let place = (entry as usize).saturating_sub(before).saturating_add(1);
-        let entries = up_to.saturating_sub(before).max(place);
+    /// That of no entry, before the first.
+    pub fn none() -> Share {
         Share {
-            place: u32::try_from(place).unwrap_or(u32::MAX),
-            entries: u32::try_from(entries).unwrap_or(u32::MAX),
+            place: 0,
+            entries: 0,
+        }
+    }
+
+    /// The part of the entry of this number, which is placed behind a message, where the entry before has this part: the next one there, or
+    /// else the first behind another message. `moments` has, for each entry, the message behind which it is placed.
+    pub fn next(&self, moments: &[u32], entry: u32, behind: u32) -> Share {
+        if self.place < self.entries {
+            return Share {
+                place: self.place + 1,
+                entries: self.entries,
+            };
+        }
+        Share {
+            place: 1,
+            entries: count_together(moments, entry, behind).max(1),
         }
     }
 
@@ -37,9 +47,16 @@ impl Share {
     }
 }
 
-/// How many entries are placed behind a message before this one, by their `moments`.
-fn placed_before(moments: &[u32], message: u32) -> usize {
-    moments.partition_point(|moment| *moment < message)
+/// How many entries from this one on are placed behind a message, by their `moments`.
+fn count_together(moments: &[u32], entry: u32, behind: u32) -> u32 {
+    let mut count: u32 = 0;
+    for place in entry as usize..moments.len() {
+        match moments.get(place) {
+            Some(moment) if *moment == behind => count = count.saturating_add(1),
+            _ => break,
+        }
+    }
+    count
 }
 
 /// The place in the picture at which a request may have taken effect: behind a message, before the next one.

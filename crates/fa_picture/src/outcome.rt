@@ -25,12 +25,12 @@ impl Outcome {
         }
     }
 
-    /// The class of the verdict.
-    pub(crate) fn class(self) -> &'static str {
+    /// The tag in front of the verdict, with its class.
+    pub(crate) fn opening_tag(self) -> &'static str {
         match self {
-            Outcome::Legal => "legal",
-            Outcome::Open => "open",
-            Outcome::Fault => "fault",
+            Outcome::Legal => "<h1 class=\"legal\">",
+            Outcome::Open => "<h1 class=\"open\">",
+            Outcome::Fault => "<h1 class=\"fault\">",
         }
     }
 }

@@ -1,14 +1,14 @@
 //! A page, from a verdict to its text.
 
 use crate::drawing::{Drawing, Heading};
-use crate::escape::{write_content, write_markup};
+use crate::escape::{write_content, write_markup, write_pieces};
 use crate::exchanges::Exchanges;
 use crate::outcome::Outcome;
 use crate::reasons::write_reasons;
 use crate::rows::write_rows;
 use crate::scene::Subject;
 use crate::script::SCRIPT;
-use crate::style::write_style;
+use crate::style::BEHIND_TITLE;
 use crate::table::Table;
 use crate::window::{DEFAULT_MESSAGES, View};
 use fa_show::Text;
@@ -27,6 +27,13 @@ const HEAD: &str =
 /// The heading of the messages, the filter, which is hidden until the script is there, and the heads of the columns.
 const FILTER: &str =
     "<h2>Messages</h2>\n<div class=\"tools\" id=\"tools\" hidden><input id=\"filter\" type=\"search\" placeholder=\"filter: words such as  node 2  or  ENOENT\" aria-label=\"filter\"><span class=\"s\" id=\"told\"></span></div>\n<table><thead><tr><th>message</th><th>unique</th><th>what it says</th><th>entry</th></tr></thead><tbody>\n";
+
+/// What stands behind the messages.
+static END: [&str; 3] = [
+    "</tbody></table></main><script>",
+    SCRIPT,
+    "</script></body></html>\n",
+];
 
 /// What a page tells of what was judged.
 #[derive(Clone, Copy)]
@@ -88,8 +95,7 @@ impl<'a, 'e> Page<'a, 'e> {
 
     /// Writes the page.
     fn write(&mut self, text: &mut Text, findings: Findings<'_>) {
-        write_head(text, findings.verdict);
-        self.write_findings(text, findings);
+        write_beginning(text, findings, &self.table);
         write_markup(text, "<h2>The requests around it</h2>\n");
         self.drawing
             .write(text, Some(findings.verdict), Heading::Nothing);
@@ -101,31 +107,22 @@ impl<'a, 'e> Page<'a, 'e> {
             self.exchanges,
             self.messages,
         );
-        write_markup(text, "</tbody></table></main><script>");
-        write_markup(text, SCRIPT);
-        write_markup(text, "</script></body></html>\n");
-    }
-
-    /// Writes the verdict, what was judged, and the reasons.
-    fn write_findings(&self, text: &mut Text, findings: Findings<'_>) {
-        write_markup(text, "<h1 class=\"");
-        write_markup(text, findings.outcome.class());
-        write_markup(text, "\">");
-        write_content(text, findings.verdict.as_bytes());
-        write_markup(text, "</h1>\n<p class=\"s\">");
-        write_content(text, findings.source.as_bytes());
-        write_markup(text, "</p>\n");
-        write_reasons(text, findings.reasons.as_bytes(), &self.table);
+        write_pieces(text, &END);
     }
 }
 
-/// Writes all before what a page shows.
-fn write_head(text: &mut Text, verdict: &str) {
+/// Writes the beginning of a page: the verdict, what was judged, and the reasons.
+fn write_beginning(text: &mut Text, findings: Findings<'_>, table: &Table<'_>) {
+    let verdict = findings.verdict.as_bytes();
     write_markup(text, HEAD);
-    write_content(text, verdict.as_bytes());
-    write_markup(text, "</title><style>");
-    write_style(text);
-    write_markup(text, "</style></head><body><main>\n");
+    write_content(text, verdict);
+    write_pieces(text, &BEHIND_TITLE);
+    text.word(findings.outcome.opening_tag());
+    write_content(text, verdict);
+    write_markup(text, "</h1>\n<p class=\"s\">");
+    write_content(text, findings.source.as_bytes());
+    write_markup(text, "</p>\n");
+    write_reasons(text, findings.reasons.as_bytes(), table);
 }
 
 /// A verdict as an HTML page that stands by itself.

@@ -6,7 +6,7 @@ use crate::layout::{COLUMN, GAP, HEAD, NUMBER_LINE, PITCH, RULE_MARGINS};
 use crate::painting_bars::paint_bar;
 use crate::painting_diamonds::paint_diamond;
 use crate::scene::{Scene, Strip};
-use crate::shapes::{Anchor, Stroke, close_line, open_text};
+use crate::shapes::{Anchor, close_line, open_text};
 use crate::words::Words;
 use fa_capture::Direction;
 use fa_show::Text;
@@ -64,12 +64,10 @@ fn paint_columns(text: &mut Text, scene: &Scene<'_>, band: &Band, top: u64, bott
 
 /// Writes a line between two columns.
 fn paint_rule(text: &mut Text, left: u64, top: u64, bottom: u64) {
-    let stroke = Stroke {
-        from: (left, top.saturating_add(RULE_MARGINS.0)),
-        to: (left, bottom.saturating_sub(RULE_MARGINS.1)),
-    };
+    let from = top.saturating_add(RULE_MARGINS.0);
+    let to = bottom.saturating_sub(RULE_MARGINS.1);
     text.word("<line class=\"rule\"");
-    close_line(text, &stroke);
+    close_line(text, (left, from), (left, to));
 }
 
 /// Writes the number of a message, and which way it went.
@@ -83,10 +81,9 @@ fn paint_number(text: &mut Text, scene: &Scene<'_>, number: u32, middle: u64, to
     );
     text.number(u64::from(number));
     text.word(match scene.direction(number) {
-        Some(Direction::FromServer) => " &lt;",
-        Some(Direction::ToServer) | None => " &gt;",
+        Some(Direction::FromServer) => " &lt;</text>",
+        Some(Direction::ToServer) | None => " &gt;</text>",
     });
-    text.word("</text>");
 }
 
 /// Writes the bars of a band, and what stands alone there.
@@ -100,26 +97,13 @@ fn paint_strip(
 ) {
     for place in strip.bars.iter() {
         if let Some(bar) = scene.bars.get(*place) {
-            paint_bar(
-                text,
-                words,
-                exchanges,
-                bar,
-                &strip.band,
-                lane_top(top, bar.lane),
-            );
+            paint_bar(text, words, exchanges, bar, &strip.band, top);
         }
     }
     for diamond in scene.diamonds_from(strip.band.first) {
         if diamond.at > strip.band.last {
             break;
         }
-        let top = lane_top(top, diamond.lane);
         paint_diamond(text, words, exchanges, diamond, &strip.band, top);
     }
-}
-
-/// Where a lane begins, below the numbers of its band.
-fn lane_top(top: u64, lane: u32) -> u64 {
-    top.saturating_add(u64::from(lane) * PITCH)
 }

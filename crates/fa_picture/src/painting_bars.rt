@@ -7,16 +7,16 @@ use crate::bars::Bar;
 use crate::escape::write_content;
 use crate::exchanges::Exchanges;
 use crate::fitting::{Letters, write_fitted};
-use crate::labels::shorter;
+use crate::labels::{Detail, objects};
 use crate::layout::{
-    BAR, CODE_LINE, CODE_ROOM, DIGIT_HALF, MARK_HALF, MARK_HEIGHT, MARK_LINES, PADDING, ROUNDING,
-    SIDE, WIDTH, WORD_LINES,
+    BAR, CODE_LINE, CODE_ROOM, DIGIT_HALF, MARK_HALF, MARK_HEIGHT, MARK_LINES, PADDING, PITCH,
+    ROUNDING, SIDE, WIDTH, WORD_LINES,
 };
 use crate::look::Look;
 use crate::mark::Mark;
 use crate::painting_diamonds::paint_code;
 use crate::shapes::{
-    Anchor, Area, Stroke, close_line, close_rectangle, measure, open_group, open_text, rectangle,
+    Anchor, Area, close_line, close_rectangle, measure, open_group, open_text, rectangle,
 };
 use crate::words::Words;
 use fa_show::Text;
@@ -79,7 +79,7 @@ fn width(words: &Text, letter: u64) -> u64 {
     (words.len() as u64).saturating_mul(letter)
 }
 
-/// Writes what a bar has in a band, in a lane that begins there.
+/// Writes what a bar has in a band, of which the first lane begins there.
 pub(crate) fn paint_bar(
     text: &mut Text,
     words: &mut Words,
@@ -91,16 +91,15 @@ pub(crate) fn paint_bar(
     if !band.meets(bar.begins, bar.ends) {
         return;
     }
+    let top = top.saturating_add(u64::from(bar.lane) * PITCH);
     let look = Look::of(bar, band, exchanges.fault);
     let extent = band.extent(bar.begins, bar.ends);
     let inside = Inside::of(&extent, &look, top);
     words.take_bar(exchanges, bar, &look);
-    open_group(text, look.class);
-    write_content(text, words.title_lines());
-    text.word("</title>");
+    open_group(text, look.class, words.title_lines());
     paint_body(text, &look, &extent, top);
-    paint_operation(text, words, bar, &look, inside);
-    paint_objects(text, words, bar, &look, inside);
+    paint_operation(text, words, bar, &look, &inside);
+    paint_objects(text, words, bar, &look, &inside);
     if let Some(mark) = &bar.mark {
         paint_mark(text, bar, mark, band, top);
     }
@@ -127,10 +126,7 @@ fn paint_body(text: &mut Text, look: &Look, extent: &Extent, top: u64) {
     };
     let rounding = if look.is_open { 0 } else { ROUNDING };
     look.open(text, "rect");
-    if look.is_open {
-        text.word(" open");
-    }
-    text.word("\"");
+    text.word(if look.is_open { " open\"" } else { "\"" });
     close_rectangle(text, &area, rounding);
     if look.is_open {
         paint_sides(text, look, extent, top);
@@ -162,72 +158,89 @@ fn paint_sides(text: &mut Text, look: &Look, extent: &Extent, top: u64) {
 fn paint_side(text: &mut Text, look: &Look, from: (u64, u64), to: (u64, u64)) {
     look.open(text, "line");
     text.word("\"");
-    close_line(text, &Stroke { from, to });
+    close_line(text, from, to);
 }
 
 /// Writes the operation, squeezed where it fits so alone. Where not even this one is shown, but the number of a request in a band before
 /// is.
-fn paint_operation(text: &mut Text, words: &mut Words, bar: &Bar<'_>, look: &Look, inside: Inside) {
+fn paint_operation(text: &mut Text, words: &Words, bar: &Bar<'_>, look: &Look, inside: &Inside) {
     let room = inside.room;
-    let squeezes = width(&words.operation, OPERATION_LETTER) > room && room > LEAST_SQUEEZED;
     let is_cut = width(&words.operation, SQUEEZED_LETTER) > room;
-    if is_cut && look.is_begun {
-        words.operation.begin(0);
-        words.operation.number(u64::from(bar.begins));
-    }
+    let is_wide = width(&words.operation, OPERATION_LETTER) > room;
     text.word("<text class=\"op in\"");
     measure(text, "x", inside.left);
     measure(text, "y", inside.first_line);
-    if squeezes && !is_cut {
+    if is_wide && !is_cut && room > LEAST_SQUEEZED {
         measure(text, "textLength", room);
         text.word(" lengthAdjust=\"spacingAndGlyphs\"");
     }
     text.word(">");
-    if is_cut && !look.is_begun {
-        write_fitted(text, words.operation.as_bytes(), room, Letters::Bold);
-    } else {
+    if !is_cut {
         write_content(text, words.operation.as_bytes());
+    } else if look.is_begun {
+        text.number(u64::from(bar.begins));
+    } else {
+        write_fitted(text, words.operation.as_bytes(), room, Letters::Bold);
     }
     text.word("</text>");
 }
 
 /// Writes what a request acts on, and at the right what came of it, where there is room for both; else the error, if it is one.
-fn paint_objects(text: &mut Text, words: &mut Words, bar: &Bar<'_>, look: &Look, inside: Inside) {
-    let room = inside.room;
-    let letter = if look.is_error { ERROR_LETTER } else { LETTER };
-    let beside = room
-        .saturating_sub(width(&words.result, letter))
-        .saturating_sub(BETWEEN);
-    if words.result.len() == 0 || look.goes_on {
-        return paint_fitted(text, "in", words.objects.as_bytes(), inside, room);
-    }
-    if beside > LEAST_BESIDE || words.objects.len() == 0 {
-        paint_result(text, words, look, inside);
-        if width(&words.objects, LETTER) > beside {
-            shorter(&mut words.objects, &bar.request);
+fn paint_objects(text: &mut Text, words: &mut Words, bar: &Bar<'_>, look: &Look, inside: &Inside) {
+    let mut room = inside.room;
+    if words.result.len() > 0 && !look.goes_on {
+        let letter = if look.is_error { ERROR_LETTER } else { LETTER };
+        let beside = room
+            .saturating_sub(width(&words.result, letter))
+            .saturating_sub(BETWEEN);
+        if beside > LEAST_BESIDE || words.objects.len() == 0 {
+            let class = if look.is_error { "err in" } else { "s in" };
+            paint_fitted(
+                text,
+                class,
+                words.result.as_bytes(),
+                inside,
+                room,
+                Anchor::End,
+            );
+            room = beside;
+            if width(&words.objects, LETTER) > room {
+                words.objects.begin(0);
+                objects(&mut words.objects, &bar.request, Detail::Node);
+            }
+        } else if look.is_error {
+            let error = words.result.as_bytes();
+            return paint_fitted(text, "err in", error, inside, room, Anchor::Start);
         }
-        paint_fitted(text, "in", words.objects.as_bytes(), inside, beside);
-    } else if look.is_error {
-        paint_fitted(text, "err in", words.result.as_bytes(), inside, room);
-    } else {
-        paint_fitted(text, "in", words.objects.as_bytes(), inside, room);
     }
+    paint_fitted(
+        text,
+        "in",
+        words.objects.as_bytes(),
+        inside,
+        room,
+        Anchor::Start,
+    );
 }
 
-/// Writes what came of a request, at the right.
-fn paint_result(text: &mut Text, words: &Words, look: &Look, inside: Inside) {
-    let class = if look.is_error { "err in" } else { "s in" };
-    open_text(text, class, inside.right, inside.second_line, Anchor::End);
-    write_fitted(text, words.result.as_bytes(), inside.room, Letters::Small);
-    text.word("</text>");
-}
-
-/// Writes words in the second line, at the left, if there are any.
-fn paint_fitted(text: &mut Text, class: &str, words: &[u8], inside: Inside, room: u64) {
+/// Writes words in the second line, at the right if they end there, else at the left, if there are any.
+fn paint_fitted(
+    text: &mut Text,
+    class: &str,
+    words: &[u8],
+    inside: &Inside,
+    room: u64,
+    anchor: Anchor,
+) {
     if words.is_empty() {
         return;
     }
-    open_text(text, class, inside.left, inside.second_line, Anchor::Start);
+    let x = if let Anchor::End = anchor {
+        inside.right
+    } else {
+        inside.left
+    };
+    open_text(text, class, x, inside.second_line, anchor);
     write_fitted(text, words, room, Letters::Small);
     text.word("</text>");
 }

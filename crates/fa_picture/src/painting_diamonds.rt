@@ -2,11 +2,10 @@
 
 use crate::band::Band;
 use crate::diamonds::Diamond;
-use crate::escape::write_content;
 use crate::exchanges::Exchanges;
 use crate::fault::Fault;
 use crate::fitting::{Letters, write_fitted};
-use crate::layout::{COLUMN, DIAMOND_LINES};
+use crate::layout::{COLUMN, DIAMOND_LINES, PITCH};
 use crate::shapes::{Anchor, length, open_group, open_text};
 use crate::words::Words;
 use fa_show::Text;
@@ -14,7 +13,7 @@ use fa_show::Text;
 /// Half of the width of a diamond.
 const HALF: u64 = 70;
 
-/// Writes a message that stands alone, in a lane that begins there.
+/// Writes a message that stands alone in a band, of which the first lane begins there.
 pub(crate) fn paint_diamond(
     text: &mut Text,
     words: &mut Words,
@@ -26,19 +25,21 @@ pub(crate) fn paint_diamond(
     if diamond.at < band.first {
         return;
     }
+    let top = top.saturating_add(u64::from(diamond.lane) * PITCH);
     let middle = band.left_of(diamond.at).saturating_add(COLUMN / 2);
     let is_at_fault = exchanges.fault.is_at(diamond.at);
-    words.take_diamond(exchanges, diamond);
-    open_group(text, if is_at_fault { "flag" } else { "mark" });
-    write_content(text, words.title_lines());
-    text.word("</title>");
-    paint_shape(text, middle, top.saturating_add(DIAMOND_LINES.0));
-    text.word("</g>");
-    let (class, letters) = if is_at_fault {
-        ("err", Letters::Bold)
+    let (group, class, letters) = if is_at_fault {
+        ("flag", "err", Letters::Bold)
     } else {
-        ("s", Letters::Small)
+        ("mark", "s", Letters::Small)
     };
+    words.take_diamond(exchanges, diamond);
+    open_group(text, group, words.title_lines());
+    text.word("<path d=\"M");
+    length(text, middle.saturating_sub(HALF));
+    text.word(" ");
+    length(text, top.saturating_add(DIAMOND_LINES.0));
+    text.word("l7 -7 7 7 -7 7z\"/></g>");
     open_text(
         text,
         class,
@@ -57,15 +58,6 @@ pub(crate) fn paint_diamond(
             Anchor::Middle,
         );
     }
-}
-
-/// Writes the shape, by its middle.
-fn paint_shape(text: &mut Text, x: u64, y: u64) {
-    text.word("<path d=\"M");
-    length(text, x.saturating_sub(HALF));
-    text.word(" ");
-    length(text, y);
-    text.word("l7 -7 7 7 -7 7z\"/>");
 }
 
 /// Writes the code of what is at fault.

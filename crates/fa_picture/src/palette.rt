@@ -1,9 +1,6 @@
 //! The style of a picture: its letters, and its colours by day and by night. There are no variables in it, which not each renderer of SVG
 //! knows.
 
-use crate::escape::write_markup;
-use fa_show::Text;
-
 /// The letters of a picture, and how what was never answered is drawn.
 const LETTERS: &str =
     ".kp text{font:11px system-ui,-apple-system,\"Segoe UI\",\"Liberation Sans\",\"DejaVu Sans\",sans-serif}.kp .n{font-size:10px;text-anchor:middle}\n.kp .h{font-size:13px;font-weight:600}.kp .op,.kp .err{font-weight:600}.kp .marked{font-size:10px;text-anchor:middle;font-weight:600}.kp .never{stroke-dasharray:4 3}\n";
@@ -32,12 +29,12 @@ const DARK: &str = "\
      .kp .mark{fill:#e6edf3}.kp .marked{fill:#0d1117}\
      .kp rect.open{stroke:none}";
 
-/// Writes the style of a picture, as it is with and without a preference for dark colours.
-pub(crate) fn write_style(text: &mut Text) {
-    write_markup(text, "<style>");
-    write_markup(text, LETTERS);
-    write_markup(text, LIGHT);
-    write_markup(text, "\n@media (prefers-color-scheme:dark){");
-    write_markup(text, DARK);
-    write_markup(text, "}</style>");
-}
+/// The style of a picture, as it is with and without a preference for dark colours.
+pub(crate) static STYLE: [&str; 6] = [
+    "<style>",
+    LETTERS,
+    LIGHT,
+    "\n@media (prefers-color-scheme:dark){",
+    DARK,
+    "}</style>",
+];

@@ -2,40 +2,60 @@
 
 use fa_bodies::split_at_byte;
 
-/// A piece of a line.
+/// How many bytes of a line stand before its text: its label, padded to eight, and a blank.
+const LABEL: usize = 9;
+
+/// A piece of some lines.
 #[derive(Clone, Copy)]
 pub(crate) enum Piece<'t> {
+    /// The label of a line, with which this begins.
+    Label(&'t [u8]),
     /// Words that mean no more than they say. What stands in quotes is of the capture.
     Words(&'t [u8]),
     /// What stands between two backticks.
     Code(&'t [u8]),
     /// The number of a message.
     Message(u32),
+    /// The end of a line.
+    End,
 }
 
-/// The pieces of a line that are left.
+/// The pieces of some lines that are left.
 #[derive(Clone, Copy)]
 pub(crate) struct Pieces<'t> {
+    /// What is left of the text of a line.
     left: &'t [u8],
-    /// Whether none was taken yet.
+    /// The lines behind that one.
+    lines: &'t [u8],
+    /// Whether a line was begun, and not ended.
+    is_within_line: bool,
+    /// Whether no piece of its text was taken yet.
     is_start: bool,
     /// Whether the last one ended within a word.
     is_within_word: bool,
 }
 
 impl<'t> Pieces<'t> {
-    /// The pieces of a line, which is what stands behind its label.
-    pub fn of(line: &'t [u8]) -> Self {
+    /// The pieces of some lines, of which each ends with a line feed. There are at most twice as many as bytes: two of an empty line.
+    pub fn of(lines: &'t [u8]) -> Self {
         Pieces {
-            left: line,
-            is_start: true,
+            left: &[],
+            lines,
+            is_within_line: false,
+            is_start: false,
             is_within_word: false,
         }
     }
 
     /// The next piece, if one is left.
     pub fn next(&mut self) -> Option<Piece<'t>> {
-        let first = *self.left.first()?;
+        if !self.is_within_line {
+            return self.label();
+        }
+        let Some(first) = self.left.first().copied() else {
+            self.is_within_line = false;
+            return Some(Piece::End);
+        };
         let piece = match first {
             b'"' => Piece::Words(self.take(length_between(self.left, first))),
             b'`' => self.code(),
@@ -45,6 +65,24 @@ impl<'t> Pieces<'t> {
         self.is_start = false;
         self.is_within_word = first.is_ascii_alphanumeric() || first == b'_';
         Some(piece)
+    }
+
+    /// Begins the next line, if one is left: its label.
+    fn label(&mut self) -> Option<Piece<'t>> {
+        let Some((line, lines)) = split_at_byte(self.lines, b'\n') else {
+            return None;
+        };
+        self.lines = lines;
+        self.is_within_line = true;
+        self.is_start = true;
+        self.is_within_word = false;
+        match line.split_at_checked(LABEL) {
+            Some((label, text)) => {
+                self.left = text;
+                Some(Piece::Label(label.trim_ascii_end()))
+            }
+            None => Some(Piece::Label(line)),
+        }
     }
 
     /// Takes so many bytes, or all that are left.
@@ -74,14 +112,15 @@ impl<'t> Pieces<'t> {
     /// Takes a number: that of a message, if `>` or `<` stands behind it at the start of a line, or an operation in parentheses.
     fn number(&mut self) -> Piece<'t> {
         let is_start = self.is_start;
-        let digits = self.take(count_digits(self.left));
+        let (count, number) = number_in_front(self.left);
+        let digits = self.take(count);
         let is_message = match self.left {
             [b' ', b'>' | b'<', ..] => is_start,
             [b' ', b'(', b'A'..=b'Z', ..] => true,
             _ => false,
         };
-        match number_of(digits) {
-            Some(number) if is_message => Piece::Message(number),
+        match u32::try_from(number) {
+            Ok(number) if is_message => Piece::Message(number),
             _ => Piece::Words(digits),
         }
     }
@@ -95,16 +134,19 @@ fn length_between(bytes: &[u8], mark: u8) -> usize {
     }
 }
 
-/// How many digits stand at the front.
-pub(crate) fn count_digits(bytes: &[u8]) -> usize {
+/// How many digits stand at the front, and the number that they are: a larger one is as good as the largest.
+pub(crate) fn number_in_front(bytes: &[u8]) -> (usize, u64) {
     let mut count: usize = 0;
+    let mut number: u64 = 0;
     for byte in bytes {
         if !byte.is_ascii_digit() {
             break;
         }
         count = count.saturating_add(1);
+        let digit = u64::from(byte.wrapping_sub(b'0'));
+        number = number.saturating_mul(10).saturating_add(digit);
     }
-    count
+    (count, number)
 }
 
 /// What stands behind so many bytes.
@@ -113,14 +155,4 @@ pub(crate) fn behind(bytes: &[u8], count: usize) -> &[u8] {
         Some((_, behind)) => behind,
         None => &[],
     }
-}
-
-/// The number that digits are, if it is one of 32 bits.
-fn number_of(digits: &[u8]) -> Option<u32> {
-    let mut number: u64 = 0;
-    for digit in digits {
-        let value = u64::from(digit.wrapping_sub(b'0'));
-        number = number.saturating_mul(10).saturating_add(value);
-    }
-    u32::try_from(number).ok()
 }

@@ -3,59 +3,19 @@
 use crate::escape::{write_content, write_markup};
 use crate::pieces::{Piece, Pieces};
 use crate::table::Table;
-use fa_bodies::split_at_byte;
 use fa_show::Text;
 use std::alloc::AllocError;
-
-/// How many bytes of a line stand before its text: its label, padded to eight, and a blank.
-const LABEL: usize = 9;
 
 /// The label of the line that says what to look at: a sentence, where others are of data.
 const LOOK_AT: &[u8] = b"look at";
 
-/// A line of the reasons.
-#[derive(Clone, Copy)]
-struct Reason<'t> {
-    label: &'t [u8],
-    text: &'t [u8],
-}
-
-impl<'t> Reason<'t> {
-    /// The reason that a line gives.
-    fn of(line: &'t [u8]) -> Self {
-        match line.split_at_checked(LABEL) {
-            Some((label, text)) => Reason {
-                label: label.trim_ascii_end(),
-                text,
-            },
-            None => Reason {
-                label: line,
-                text: &[],
-            },
-        }
-    }
-}
-
 /// Notes the messages that the reasons name.
 pub(crate) fn mention(reasons: &[u8], numbers: &mut Vec<u32>) -> Result<(), AllocError> {
-    let mut left = reasons;
-    for _ in 0..reasons.len() {
-        let Some((line, behind)) = split_at_byte(left, b'\n') else {
-            break;
-        };
-        left = behind;
-        mention_in(Reason::of(line).text, numbers)?;
-    }
-    Ok(())
-}
-
-/// Notes the messages that a line names.
-fn mention_in(line: &[u8], numbers: &mut Vec<u32>) -> Result<(), AllocError> {
-    let mut pieces = Pieces::of(line);
-    for _ in 0..line.len() {
+    let mut pieces = Pieces::of(reasons);
+    for _ in 0..reasons.len().saturating_mul(2) {
         match pieces.next() {
             Some(Piece::Message(number)) => numbers.push(number)?,
-            Some(Piece::Words(_) | Piece::Code(_)) => {}
+            Some(_) => {}
             None => break,
         }
     }
@@ -64,47 +24,42 @@ fn mention_in(line: &[u8], numbers: &mut Vec<u32>) -> Result<(), AllocError> {
 
 /// Writes the reasons as a list, with links to the messages that the table has.
 pub(crate) fn write_reasons(text: &mut Text, reasons: &[u8], table: &Table<'_>) {
-    write_markup(text, "<dl>");
-    let mut left = reasons;
-    for _ in 0..reasons.len() {
-        let Some((line, behind)) = split_at_byte(left, b'\n') else {
-            break;
-        };
-        left = behind;
-        write_reason(text, Reason::of(line), table);
+    text.word("<dl>");
+    let mut pieces = Pieces::of(reasons);
+    for _ in 0..reasons.len().saturating_mul(2) {
+        match pieces.next() {
+            Some(piece) => write_piece(text, piece, table),
+            None => break,
+        }
     }
     write_markup(text, "</dl>\n");
 }
 
-/// Writes a reason.
-fn write_reason(text: &mut Text, reason: Reason<'_>, table: &Table<'_>) {
-    write_markup(text, "<dt>");
-    write_content(text, reason.label);
-    write_markup(text, "</dt><dd");
-    if reason.label == LOOK_AT {
-        write_markup(text, " class=\"look\"");
+/// Writes a piece of the reasons.
+fn write_piece(text: &mut Text, piece: Piece<'_>, table: &Table<'_>) {
+    match piece {
+        Piece::Label(label) => write_label(text, label),
+        Piece::Words(words) => write_content(text, words),
+        Piece::Code(code) => {
+            text.word("<code>");
+            write_content(text, code);
+            text.word("</code>");
+        }
+        Piece::Message(number) if table.row(number).is_some() => write_link(text, number),
+        Piece::Message(number) => text.number(u64::from(number)),
+        Piece::End => text.word("</dd>"),
     }
-    write_markup(text, ">");
-    write_linked(text, reason.text, table);
-    write_markup(text, "</dd>");
 }
 
-/// Writes a line, with links to the messages that the table has.
-fn write_linked(text: &mut Text, line: &[u8], table: &Table<'_>) {
-    let mut pieces = Pieces::of(line);
-    for _ in 0..line.len() {
-        match pieces.next() {
-            Some(Piece::Words(words)) => write_content(text, words),
-            Some(Piece::Code(code)) => {
-                write_markup(text, "<code>");
-                write_content(text, code);
-                write_markup(text, "</code>");
-            }
-            Some(Piece::Message(number)) if table.row(number).is_some() => write_link(text, number),
-            Some(Piece::Message(number)) => text.number(u64::from(number)),
-            None => break,
-        }
-    }
+/// Writes the label of a line, and the beginning of its text.
+fn write_label(text: &mut Text, label: &[u8]) {
+    text.word("<dt>");
+    write_content(text, label);
+    text.word(if label == LOOK_AT {
+        "</dt><dd class=\"look\">"
+    } else {
+        "</dt><dd>"
+    });
 }
 
 /// Writes the number of a message as a link to it.

@@ -3,7 +3,7 @@
 use crate::escape::{write_content, write_markup};
 use crate::exchanges::Exchanges;
 use crate::fault::Fault;
-use crate::pieces::{behind, count_digits};
+use crate::pieces::{behind, number_in_front};
 use crate::reasons::write_link;
 use crate::table::{Row, Table};
 use fa_bodies::split_at_byte;
@@ -49,78 +49,66 @@ fn write_row(
     exchanges: &Exchanges,
     row: &Row<'_>,
 ) {
+    let partner = exchanges.partner(row.number);
+    let answered = answered_by(table, row, partner);
     line.begin(0);
-    let answered = answered_by(table, exchanges, row);
     exchanges.line(row.number, row.packet, answered).write(line);
-    open_row(text, exchanges, row);
+    open_row(text, exchanges.fault, row, partner);
     let words = Words::of(line.as_bytes());
     write_content(text, words.way);
-    write_markup(text, "</td><td class=\"n\">");
+    text.word("</td><td class=\"n\">");
     write_content(text, words.unique);
-    write_markup(text, "</td><td class=\"t\">");
+    text.word("</td><td class=\"t\">");
     write_words(text, words.behind, row, answered);
-    write_markup(text, "</td><td class=\"n\">");
+    text.word("</td><td class=\"n\">");
     if let Some(entry) = row.entry {
         text.number(u64::from(entry));
     }
     write_markup(text, "</td></tr>\n");
 }
 
-/// The request that a message answers, behind its number.
+/// The request that a message answers, behind its number, where this one goes with it.
 fn answered_by<'a>(
     table: &Table<'a>,
-    exchanges: &Exchanges,
     row: &Row<'_>,
+    partner: Option<u32>,
 ) -> Option<(u32, Packet<'a>)> {
-    if row.packet.direction == Direction::ToServer {
-        return None;
-    }
-    let asked = exchanges.partner(row.number)?;
-    match table.row(asked) {
-        Some(request) => Some((asked, request.packet)),
-        None => None,
+    match (row.packet.direction, partner) {
+        (Direction::FromServer, Some(asked)) => match table.row(asked) {
+            Some(request) => Some((asked, request.packet)),
+            None => None,
+        },
+        _ => None,
     }
 }
 
 /// Writes the beginning of a row, up to which way the message went.
-fn open_row(text: &mut Text, exchanges: &Exchanges, row: &Row<'_>) {
+fn open_row(text: &mut Text, fault: Fault, row: &Row<'_>, partner: Option<u32>) {
     let number = u64::from(row.number);
-    let partner = exchanges.partner(row.number);
     text.field("<tr id=\"m", number);
     text.field("\" data-n=\"", number);
-    write_markup(text, "\" data-pair=\"");
+    text.word("\" data-pair=\"");
     if let Some(partner) = partner {
         text.number(u64::from(partner));
     }
-    write_markup(text, "\"");
-    let is_at_fault = is_at_fault(exchanges.fault, row, partner);
-    write_class(text, is_at_fault, row.packet.direction);
+    text.word(
+        match (is_at_fault(fault, row, partner), row.packet.direction) {
+            (false, Direction::ToServer) => "\"",
+            (false, Direction::FromServer) => "\" class=\"answer\"",
+            (true, Direction::ToServer) => "\" class=\"bad\"",
+            (true, Direction::FromServer) => "\" class=\"bad answer\"",
+        },
+    );
     text.field("><td class=\"n\">", number);
-    write_markup(text, " ");
+    text.word(" ");
 }
 
 /// Whether a message is at fault, or answers what is.
 fn is_at_fault(fault: Fault, row: &Row<'_>, partner: Option<u32>) -> bool {
-    if fault.is_at(row.number) {
-        return true;
-    }
     match (row.packet.direction, partner) {
-        (Direction::FromServer, Some(asked)) => fault.is_at(asked),
-        _ => false,
+        (Direction::FromServer, Some(asked)) if fault.is_at(asked) => true,
+        _ => fault.is_at(row.number),
     }
-}
-
-/// Writes the classes of a row, if it has any.
-fn write_class(text: &mut Text, is_at_fault: bool, direction: Direction) {
-    let class = match (is_at_fault, direction) {
-        (false, Direction::ToServer) => return,
-        (false, Direction::FromServer) => "answer",
-        (true, Direction::ToServer) => "bad",
-        (true, Direction::FromServer) => "bad answer",
-    };
-    write_markup(text, " class=\"");
-    write_markup(text, class);
-    write_markup(text, "\"");
 }
 
 /// The words of a line.
@@ -137,10 +125,10 @@ struct Words<'t> {
 impl<'t> Words<'t> {
     /// The words of a line: a number, which way the message went, the word `unique` and the unique, and what it says.
     fn of(line: &'t [u8]) -> Self {
-        let line = first_to(line, b'\n');
-        let (_, behind) = split_word(line);
-        let (way, behind) = split_word(behind);
-        let (word, rest) = split_word(behind);
+        let (line, _) = parted_at(line, b'\n');
+        let (_, behind) = parted_at(line, b' ');
+        let (way, behind) = parted_at(behind, b' ');
+        let (word, rest) = parted_at(behind, b' ');
         if word != b"unique".as_slice() {
             return Words {
                 way,
@@ -148,7 +136,7 @@ impl<'t> Words<'t> {
                 behind,
             };
         }
-        let (unique, behind) = split_word(rest);
+        let (unique, behind) = parted_at(rest, b' ');
         Words {
             way,
             unique,
@@ -157,18 +145,10 @@ impl<'t> Words<'t> {
     }
 }
 
-/// The bytes before the first of this value: all, if there is none.
-fn first_to(bytes: &[u8], byte: u8) -> &[u8] {
+/// What stands before the first byte of this value, and behind it: all and nothing, if there is none.
+fn parted_at(bytes: &[u8], byte: u8) -> (&[u8], &[u8]) {
     match split_at_byte(bytes, byte) {
-        Some((front, _)) => front,
-        None => bytes,
-    }
-}
-
-/// The first word, and what stands behind the blank that ends it.
-fn split_word(bytes: &[u8]) -> (&[u8], &[u8]) {
-    match split_at_byte(bytes, b' ') {
-        Some((word, behind)) => (word, behind),
+        Some((front, behind)) => (front, behind),
         None => (bytes, &[]),
     }
 }
@@ -177,7 +157,7 @@ fn split_word(bytes: &[u8]) -> (&[u8], &[u8]) {
 fn write_words(text: &mut Text, words: &[u8], row: &Row<'_>, answered: Option<(u32, Packet<'_>)>) {
     let mut left = words;
     if is_error(&row.packet) {
-        let error = first_to(words, b',');
+        let (error, _) = parted_at(words, b',');
         write_markup(text, "<span class=\"err\">");
         write_content(text, error);
         write_markup(text, "</span>");
@@ -186,42 +166,31 @@ fn write_words(text: &mut Text, words: &[u8], row: &Row<'_>, answered: Option<(u
     let Some((asked, _)) = answered else {
         return write_content(text, left);
     };
-    let Some(place) = place_of_answers(left) else {
+    let Some((said, rest)) = split_behind_answers(left) else {
         return write_content(text, left);
     };
-    let end = place.saturating_add(ANSWERS.len());
-    let rest = behind(left, end);
-    write_content(text, front(left, end));
+    write_content(text, said);
     write_link(text, asked);
-    write_content(text, behind(rest, count_digits(rest)));
+    let (digits, _) = number_in_front(rest);
+    write_content(text, behind(rest, digits));
 }
 
 /// Whether a message is a reply that tells an error.
 fn is_error(packet: &Packet<'_>) -> bool {
-    if packet.direction == Direction::ToServer {
-        return false;
-    }
-    match message_in(packet) {
-        Some(told) => told.unique != 0 && told.error != 0,
-        None => false,
+    match (packet.direction, message_in(packet)) {
+        (Direction::FromServer, Some(told)) => told.unique != 0 && told.error != 0,
+        _ => false,
     }
 }
 
-/// The first bytes, so many of them.
-fn front(bytes: &[u8], count: usize) -> &[u8] {
-    match bytes.split_at_checked(count) {
-        Some((front, _)) => front,
-        None => bytes,
-    }
-}
-
-/// Where it stands in a line which request a message answers: not between quotes, where the capture's own bytes stand.
-fn place_of_answers(words: &[u8]) -> Option<usize> {
+/// What stands in a line before the number of the request that a message answers, and what stands from there on: not between quotes, where
+/// the capture's own bytes stand.
+fn split_behind_answers(words: &[u8]) -> Option<(&[u8], &[u8])> {
     let mut is_quoted = false;
     let mut left = words;
     for place in 0..words.len() {
         if !is_quoted && left.starts_with(ANSWERS) {
-            return Some(place);
+            return words.split_at_checked(place.saturating_add(ANSWERS.len()));
         }
         let Some((first, rest)) = left.split_first() else {
             break;

@@ -8,6 +8,7 @@ use crate::fault::Fault;
 use crate::lanes::Lanes;
 use crate::layout::COLUMNS;
 use crate::mark::Share;
+use crate::numbered::count_before;
 use crate::overlap::first_overlap;
 use crate::taking_effect::moments;
 use crate::window::{View, Window};
@@ -33,7 +34,7 @@ pub(crate) struct Strip {
     pub band: Band,
     /// The places of the bars.
     pub bars: Vec<usize>,
-    /// How many lanes it has.
+    /// How many lanes it has: one at least.
     pub lanes: u32,
 }
 
@@ -77,21 +78,12 @@ impl<'a> Scene<'a> {
             strips: Vec::new(alloc),
         };
         if let Some(window) = scene.window {
-            scene.take(alloc, subject, Choice { window, exchanges })?;
+            let choice = Choice { window, exchanges };
+            scene.take_messages(alloc, &subject.capture, choice)?;
+            scene.take_order(alloc, subject.fault.entries_before(subject.order))?;
+            scene.take_bands(alloc, window)?;
         }
         Ok(scene)
-    }
-
-    /// Takes in what is drawn of a capture.
-    fn take(
-        &mut self,
-        alloc: Global,
-        subject: &Subject<'a, '_>,
-        choice: Choice<'_>,
-    ) -> Result<(), AllocError> {
-        self.take_messages(alloc, &subject.capture, choice)?;
-        self.take_order(alloc, subject.fault.entries_before(subject.order))?;
-        self.take_bands(alloc, choice.window)
     }
 
     /// Takes in the messages of a capture.
@@ -140,13 +132,14 @@ impl<'a> Scene<'a> {
         if ends < window.first {
             return Ok(());
         }
+        let lane = lanes.take(number, ends)?;
         self.bars.push(Bar {
             begins: number,
             ends,
             packet,
             request,
             answer: None,
-            lane: lanes.take(number, ends)?,
+            lane,
             entry: None,
             mark: None,
         })?;
@@ -163,7 +156,10 @@ impl<'a> Scene<'a> {
     ) -> Result<(), AllocError> {
         let Some(asked) = choice.exchanges.ended_by(number) else {
             let answered = match choice.exchanges.partner(number) {
-                Some(asked) => self.request(asked),
+                Some(asked) => match self.bar_mut(asked) {
+                    Some(bar) => Some((asked, bar.packet)),
+                    None => None,
+                },
                 None => None,
             };
             return self.take_alone(choice.window, lanes, number, packet, answered);
@@ -183,35 +179,24 @@ impl<'a> Scene<'a> {
         packet: Packet<'a>,
         answered: Option<(u32, Packet<'a>)>,
     ) -> Result<(), AllocError> {
-        if window.has(number) {
-            self.diamonds.push(Diamond {
-                at: number,
-                packet,
-                answered,
-                lane: lanes.take(number, number)?,
-            })?;
+        if !window.has(number) {
+            return Ok(());
         }
+        let lane = lanes.take(number, number)?;
+        self.diamonds.push(Diamond {
+            at: number,
+            packet,
+            answered,
+            lane,
+        })?;
         Ok(())
-    }
-
-    /// How many bars begin before the message of this number.
-    fn bars_before(&self, number: u32) -> usize {
-        self.bars.partition_point(|bar| bar.begins < number)
     }
 
     /// The bar of the request of this number, if it is drawn.
     fn bar_mut(&mut self, asked: u32) -> Option<&mut Bar<'a>> {
-        let place = self.bars_before(asked);
+        let place = count_before(&self.bars, asked);
         match self.bars.get_mut(place) {
             Some(bar) if bar.begins == asked => Some(bar),
-            _ => None,
-        }
-    }
-
-    /// The message of the request of this number, behind the number, if it is drawn.
-    fn request(&self, asked: u32) -> Option<(u32, Packet<'a>)> {
-        match self.bars.get(self.bars_before(asked)) {
-            Some(bar) if bar.begins == asked => Some((asked, bar.packet)),
             _ => None,
         }
     }
@@ -219,89 +204,71 @@ impl<'a> Scene<'a> {
     /// Takes in the entries of an order.
     fn take_order(&mut self, alloc: Global, order: &[Entry]) -> Result<(), AllocError> {
         let moments = moments(alloc, order)?;
+        let mut share = Share::none();
         let mut number: u32 = 0;
         for (entry, behind) in order.iter().zip(moments.iter()) {
+            share = share.next(&moments, number, *behind);
             if let Some(bar) = self.bar_mut(entry.at) {
-                bar.place(number, *behind, Share::of(&moments, number, *behind));
+                bar.place(number, *behind, share);
             }
             number = number.saturating_add(1);
         }
         Ok(())
     }
 
-    /// Takes in the bands of the window.
+    /// Takes in the bands of the window, with what has a part in them.
     fn take_bands(&mut self, alloc: Global, window: Window) -> Result<(), AllocError> {
-        let last = window.last.saturating_sub(window.first) / COLUMNS;
-        for place in 0..=last {
+        for place in 0..=window.band_of(window.last) {
             let first = window.first.saturating_add(place.saturating_mul(COLUMNS));
             let Some(band) = Band::of(window, first) else {
                 break;
             };
-            let strip = self.strip(alloc, band)?;
-            self.strips.push(strip)?;
+            self.strips.push(Strip {
+                band,
+                bars: Vec::new(alloc),
+                lanes: 1,
+            })?;
+        }
+        for diamond in self.diamonds.iter() {
+            let place = window.band_of(diamond.at);
+            if let Some(strip) = self.strips.get_mut(place as usize) {
+                strip.lanes = strip.lanes.max(diamond.lane.saturating_add(1));
+            }
+        }
+        self.take_parts(window)
+    }
+
+    /// Takes in which bars have a part in which bands.
+    fn take_parts(&mut self, window: Window) -> Result<(), AllocError> {
+        let mut place: usize = 0;
+        for bar in self.bars.iter() {
+            let last = window.band_of(bar.ends.min(window.last));
+            for band in window.band_of(bar.begins)..=last {
+                if let Some(strip) = self.strips.get_mut(band as usize) {
+                    strip.lanes = strip.lanes.max(bar.lane.saturating_add(1));
+                    strip.bars.push(place)?;
+                }
+            }
+            place = place.saturating_add(1);
         }
         Ok(())
     }
 
-    /// A band, behind those that were taken in.
-    fn strip(&self, alloc: Global, band: Band) -> Result<Strip, AllocError> {
-        let mut bars = Vec::new(alloc);
-        let mut begun = 0;
-        if let Some(before) = self.strips.last() {
-            begun = self.bars_before(band.first);
-            for place in before.bars.iter() {
-                if self.goes_on(*place, &band) {
-                    bars.push(*place)?;
-                }
-            }
-        }
-        for place in begun..self.bars_before(band.last.saturating_add(1)) {
-            bars.push(place)?;
-        }
-        let lanes = self.lanes(&bars, &band);
-        Ok(Strip { band, bars, lanes })
-    }
-
-    /// Whether the bar at this place goes on into a band.
-    fn goes_on(&self, place: usize, band: &Band) -> bool {
-        match self.bars.get(place) {
-            Some(bar) => bar.ends >= band.first,
-            None => false,
-        }
-    }
-
-    /// How many lanes a band with these bars has: one at least.
-    fn lanes(&self, bars: &[usize], band: &Band) -> u32 {
-        let mut lanes: u32 = 1;
-        for place in bars {
-            if let Some(bar) = self.bars.get(*place) {
-                lanes = lanes.max(bar.lane.saturating_add(1));
-            }
-        }
-        for diamond in self.diamonds_from(band.first) {
-            if diamond.at > band.last {
-                break;
-            }
-            lanes = lanes.max(diamond.lane.saturating_add(1));
-        }
-        lanes
-    }
-
     /// The messages that stand alone, from one of this number on.
     pub fn diamonds_from(&self, number: u32) -> &[Diamond<'a>] {
-        let place = self.diamonds.partition_point(|diamond| diamond.at < number);
-        let (_, behind) = self.diamonds.split_at(place);
+        let diamonds = self.diamonds.as_slice();
+        let (_, behind) = diamonds.split_at(count_before(diamonds, number));
         behind
     }
 
-    /// Which way the message of this number went, if it is drawn.
+    /// Which way the message of this number went. The number is of the window.
     pub fn direction(&self, number: u32) -> Option<Direction> {
         match self.window {
-            Some(window) if window.first <= number => {
+            Some(window) => {
                 let place = number.saturating_sub(window.first);
                 self.directions.get(place as usize).copied()
             }
-            _ => None,
+            None => None,
         }
     }
 }
@@ -320,9 +287,12 @@ pub fn centre(subject: &Subject<'_, '_>, exchanges: &Exchanges, view: View) -> u
 
 /// The messages that are drawn, if the capture has any.
 fn window_of(subject: &Subject<'_, '_>, exchanges: &Exchanges, view: View) -> Option<Window> {
-    let last = subject.capture.messages.checked_sub(1)?;
-    let around = centre(subject, exchanges, view).min(last);
-    Some(Window::around(around, view.messages, subject.capture.messages))
+    let messages = subject.capture.messages;
+    if messages == 0 {
+        return None;
+    }
+    let around = centre(subject, exchanges, view).min(messages - 1);
+    Some(Window::around(around, view.messages, messages))
 }
 
 /// What a message asks for, if it is read.

@@ -1,6 +1,6 @@
 //! The elements of a picture. Lengths are in tenths of its unit.
 
-use crate::escape::{write_content, write_markup};
+use crate::escape::write_content;
 use fa_show::Text;
 
 /// Writes a length: with a point where it is no whole number of units.
@@ -20,11 +20,12 @@ pub(crate) fn measure(text: &mut Text, name: &str, tenths: u64) {
     text.character(b'"');
 }
 
-/// Writes an attribute that is a class of the style sheet.
-fn class(text: &mut Text, class: &str) {
+/// Writes the beginning of an element of a class, up to this, whose quote is left open.
+pub(crate) fn open(text: &mut Text, element: &str, class: &str) {
+    text.word("<");
+    text.word(element);
     text.word(" class=\"");
     text.word(class);
-    text.character(b'"');
 }
 
 /// Where a rectangle lies.
@@ -50,24 +51,17 @@ pub(crate) fn close_rectangle(text: &mut Text, area: &Area, rounding: u64) {
 
 /// Writes a rectangle of a class.
 pub(crate) fn rectangle(text: &mut Text, name: &str, area: &Area, rounding: u64) {
-    text.word("<rect");
-    class(text, name);
+    open(text, "rect", name);
+    text.character(b'"');
     close_rectangle(text, area, rounding);
 }
 
-/// From where to where a line goes, across or down.
-#[derive(Clone, Copy)]
-pub(crate) struct Stroke {
-    pub from: (u64, u64),
-    pub to: (u64, u64),
-}
-
-/// Writes where a line goes, and its end.
-pub(crate) fn close_line(text: &mut Text, stroke: &Stroke) {
-    measure(text, "x1", stroke.from.0);
-    measure(text, "y1", stroke.from.1);
-    measure(text, "x2", stroke.to.0);
-    measure(text, "y2", stroke.to.1);
+/// Writes from where to where a line goes, across or down, and its end.
+pub(crate) fn close_line(text: &mut Text, from: (u64, u64), to: (u64, u64)) {
+    measure(text, "x1", from.0);
+    measure(text, "y1", from.1);
+    measure(text, "x2", to.0);
+    measure(text, "y2", to.1);
     text.word("/>");
 }
 
@@ -82,8 +76,8 @@ pub(crate) enum Anchor {
 
 /// Writes the beginning of a text of a class.
 pub(crate) fn open_text(text: &mut Text, name: &str, x: u64, y: u64, anchor: Anchor) {
-    text.word("<text");
-    class(text, name);
+    open(text, "text", name);
+    text.character(b'"');
     measure(text, "x", x);
     measure(text, "y", y);
     match anchor {
@@ -94,16 +88,10 @@ pub(crate) fn open_text(text: &mut Text, name: &str, x: u64, y: u64, anchor: Anc
     text.character(b'>');
 }
 
-/// Writes words of a class that are no markup.
-pub(crate) fn words(text: &mut Text, name: &str, x: u64, y: u64, anchor: Anchor, words: &[u8]) {
-    open_text(text, name, x, y, anchor);
-    write_content(text, words);
-    text.word("</text>");
-}
-
-/// Writes a group of a class, with the beginning of its title.
-pub(crate) fn open_group(text: &mut Text, name: &str) {
-    text.word("<g");
-    class(text, name);
-    write_markup(text, "><title>");
+/// Writes the beginning of a group of a class, with its title.
+pub(crate) fn open_group(text: &mut Text, name: &str, title: &[u8]) {
+    open(text, "g", name);
+    text.word("\"><title>");
+    write_content(text, title);
+    text.word("</title>");
 }

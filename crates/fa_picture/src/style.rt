@@ -1,8 +1,5 @@
 //! The style of the page.
 
-use crate::escape::write_markup;
-use fa_show::Text;
-
 /// The colours by day and by night.
 const COLOURS: &str =
     "\n:root{color-scheme:light dark;--bg:#fff;--ink:#1f2328;--soft:#59636e;--rule:#d1d9e0;--pale:#f6f8fa;--good:#1a7f37;--bad:#c81e2b;--open:#9a6700;--link:#0a58ca}\n@media (prefers-color-scheme:dark){:root{--bg:#0d1117;--ink:#e6edf3;--soft:#9198a1;--rule:#30363d;--pale:#151b23;--good:#3fb950;--bad:#f0505a;--open:#d29922;--link:#6aa7f0}}\n";
@@ -15,9 +12,11 @@ const FINDINGS: &str =
 const TABLE: &str =
     "dd.look{font-family:inherit;font-size:15px}svg{display:block;width:100%;height:auto;border:1px solid var(--rule);border-radius:6px}\n.tools{display:flex;gap:12px;align-items:center;flex-wrap:wrap;margin:8px 0}input{flex:1 1 260px;max-width:460px;padding:6px 8px;border:1px solid var(--rule);border-radius:6px;background:var(--pale);color:inherit}\ntable{border-collapse:collapse;width:100%}th{text-align:left;font-size:13px;color:var(--soft);font-weight:600}th,td{padding:3px 10px 3px 0;vertical-align:top;border-bottom:1px solid var(--rule)}\ntd.n{text-align:right;white-space:nowrap;color:var(--soft)}td.t{overflow-wrap:anywhere;width:100%}tr.bad td{background:color-mix(in srgb,var(--bad) 16%,transparent)}\ntr.answer td.t{padding-left:20px}tr:target td{background:color-mix(in srgb,var(--open) 24%,transparent)}tr.gap td{color:var(--soft);text-align:center}a{color:var(--link);text-decoration:none}a:hover{text-decoration:underline}\n.err{color:var(--bad);font-weight:600}[hidden]{display:none}\n";
 
-/// Writes the style of the page.
-pub(crate) fn write_style(text: &mut Text) {
-    write_markup(text, COLOURS);
-    write_markup(text, FINDINGS);
-    write_markup(text, TABLE);
-}
+/// What stands between the title of a page and what it shows: the end of its head, with its style.
+pub(crate) static BEHIND_TITLE: [&str; 5] = [
+    "</title><style>",
+    COLOURS,
+    FINDINGS,
+    TABLE,
+    "</style></head><body><main>\n",
+];

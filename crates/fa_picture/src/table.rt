@@ -1,6 +1,7 @@
 //! Which messages the page has.
 
 use crate::exchanges::Exchanges;
+use crate::numbered::{Numbered, count_before};
 use crate::reasons::mention;
 use crate::scene::{Subject, centre};
 use crate::window::View;
@@ -16,6 +17,12 @@ pub(crate) struct Row<'a> {
     pub packet: Packet<'a>,
     /// The place of its entry in the order, if it stands before what is at fault.
     pub entry: Option<u32>,
+}
+
+impl Numbered for Row<'_> {
+    fn number(&self) -> u32 {
+        self.number
+    }
 }
 
 /// The messages of the table, by rising numbers.
@@ -63,7 +70,7 @@ impl<'a> Table<'a> {
     fn take_order(&mut self, order: &[Entry]) {
         let mut place: u32 = 0;
         for entry in order {
-            let at = self.rows_before(entry.at);
+            let at = count_before(&self.rows, entry.at);
             match self.rows.get_mut(at) {
                 Some(row) if row.number == entry.at => row.entry = Some(place),
                 _ => {}
@@ -74,15 +81,10 @@ impl<'a> Table<'a> {
 
     /// The row of the message of this number, if it is there.
     pub fn row(&self, number: u32) -> Option<&Row<'a>> {
-        match self.rows.get(self.rows_before(number)) {
+        match self.rows.get(count_before(&self.rows, number)) {
             Some(row) if row.number == number => Some(row),
             _ => None,
         }
-    }
-
-    /// How many rows are of messages before the one of this number.
-    fn rows_before(&self, number: u32) -> usize {
-        self.rows.partition_point(|row| row.number < number)
     }
 }
 

@@ -2,6 +2,8 @@
 
 ghost use Rattle.std.specs.Prelude.{◌≤◌, ◌<◌};
 
+use crate::layout::COLUMNS;
+
 /// How many messages a picture has, where nothing else is asked for.
 pub const DEFAULT_MESSAGES: u32 = 48;
 
@@ -55,6 +57,11 @@ impl Window {
             first,
             last: first.saturating_add(most - 1).min(count - 1),
         }
+    }
+
+    /// The place of the band in which a message stands: the first one, if it stands before the window.
+    pub fn band_of(self, number: u32) -> u32 {
+        number.saturating_sub(self.first) / COLUMNS
     }
 
     /// Whether the message of this number is drawn.

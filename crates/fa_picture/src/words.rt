@@ -3,7 +3,7 @@
 use crate::bars::Bar;
 use crate::diamonds::Diamond;
 use crate::exchanges::Exchanges;
-use crate::labels;
+use crate::labels::{self, Detail};
 use crate::look::Look;
 use fa_capture::Direction;
 use fa_show::{Text, message_in, words};
@@ -44,16 +44,18 @@ impl Words {
         self.take_title(exchanges, bar);
         self.operation.begin(0);
         if look.is_begun {
-            self.operation.field("", u64::from(bar.begins));
+            self.operation.number(u64::from(bar.begins));
             self.operation.word(" ");
             words::operation(&mut self.operation, bar.request.opcode);
         } else {
             labels::operation(&mut self.operation, &bar.request);
         }
         self.objects.begin(0);
-        labels::objects(&mut self.objects, &bar.request);
+        labels::objects(&mut self.objects, &bar.request, Detail::Extent);
         self.result.begin(0);
-        labels::result(&mut self.result, &bar.request, bar.answer.as_ref());
+        if let Some(answer) = &bar.answer {
+            labels::result(&mut self.result, &bar.request, answer);
+        }
     }
 
     /// Takes the lines of a request and of its answer, and its place in the order.
