@@ -2,46 +2,41 @@
 
 use crate::rules::DETERMINED;
 use crate::scene::Scene;
-use crate::wording::comma;
+use crate::wording::error_name;
 use fa_ledger::Action;
-use fa_show::{Text, words};
+use fa_show::Text;
 use fa_tree::Kind;
 
 /// Writes the line of the answers that the tree allows the request.
 pub(crate) fn allowed_line(text: &mut Text, scene: &Scene<'_>) {
     text.word("allowed  ");
-    let is_first = !success(text, scene);
-    let is_none = !errors(text, scene, true, is_first);
-    if !(is_first && is_none) {
-        text.word(", or ");
+    let mut before = "";
+    if let Some(success) = success_word(scene) {
+        text.word(success);
+        before = ", ";
     }
-    text.word("any error but ");
-    errors(text, scene, false, true);
+    before = errors(text, scene, true, before);
+    text.word(if before.is_empty() {
+        "any error but "
+    } else {
+        ", or any error but "
+    });
+    errors(text, scene, false, "");
     text.end_line();
-}
-
-/// Writes which success is allowed, if one is; whether one is.
-fn success(text: &mut Text, scene: &Scene<'_>) -> bool {
-    match success_word(scene) {
-        Some(word) => {
-            text.word(word);
-            true
-        }
-        None => false,
-    }
 }
 
 /// Which success is allowed, if one is.
 fn success_word(scene: &Scene<'_>) -> Option<&'static str> {
     if let Some(Action::Lookup { name, .. }) = scene.case.action() {
-        let directory = scene.case.node_in(scene.tree)?;
-        if scene.tree.facts(directory)?.kind != Kind::Directory {
-            return None;
-        }
-        return Some(match scene.tree.find(directory, name) {
-            Some(_) => "success with a node",
-            None => "success with node 0",
-        });
+        return match scene.case.node_in(scene.tree) {
+            Some(directory) if scene.is_of(directory, Kind::Directory) => {
+                Some(match scene.tree.find(directory, name) {
+                    Some(_) => "success with a node",
+                    None => "success with node 0",
+                })
+            }
+            _ => None,
+        };
     }
     if scene.case.place >= scene.calls.list.len() {
         return None;
@@ -52,19 +47,23 @@ fn success_word(scene: &Scene<'_>) -> Option<&'static str> {
     }
 }
 
-/// Writes which of the errors that a tree determines have a cause, or which have none; whether there are some.
-fn errors(text: &mut Text, scene: &Scene<'_>, have_cause: bool, is_first: bool) -> bool {
-    let mut is_next = is_first;
-    let mut are_some = false;
+/// Writes which of the errors that a tree determines have a cause, or which have none, the first behind this: what stands before the next
+/// one.
+fn errors(
+    text: &mut Text,
+    scene: &Scene<'_>,
+    have_cause: bool,
+    first: &'static str,
+) -> &'static str {
+    let mut before = first;
     for error in &DETERMINED {
         if has_cause(scene, *error) == have_cause {
-            comma(text, is_next);
-            text.word(words::error_name(*error).unwrap_or(""));
-            is_next = false;
-            are_some = true;
+            text.word(before);
+            text.word(error_name(*error));
+            before = ", ";
         }
     }
-    are_some
+    before
 }
 
 /// Whether the tree gives a cause for an error of the request.

@@ -3,8 +3,9 @@
 use crate::all_orders::{AllOrders, Search};
 use crate::wording::{self, begin_request};
 use fa_ledger::Calls;
-use fa_refusal::{Beside, Case, Next, Overlaps};
+use fa_refusal::{Beside, Case, Next, Overlaps, Refused};
 use fa_show::Text;
+use fa_tree::Tree;
 use std::alloc::AllocError;
 
 /// Whether another order explains an answer, and all answers before it.
@@ -68,18 +69,21 @@ impl Another {
     }
 }
 
-/// Writes whether another order explains the answer to a request, and which requests were under way at once.
-pub(crate) fn order_line(
+/// Writes whether another order explains the answer to a request that this tree refuses, and which requests were under way at once:
+/// whether one does. Where requests overlap, all orders are searched.
+pub(crate) fn order_line<S: Search>(
     text: &mut Text,
-    calls: &Calls<'_>,
-    asked: u32,
-    overlaps: &Overlaps,
-    another: Another,
-) {
+    refused: &Refused<'_>,
+    search: &mut S,
+    tree: &Tree,
+    case: &Case<'_>,
+) -> Result<Another, AllocError> {
+    let overlaps = Overlaps::of(refused, tree, case)?;
+    let another = Another::of(case, &overlaps, search)?;
     text.word("order    ");
-    match overlaps {
+    match &overlaps {
         Overlaps::Unanswered => {
-            text.field("message ", u64::from(asked));
+            text.field("message ", u64::from(case.call.asked));
             text.word(" was never answered: the order may leave it out, or have it elsewhere");
         }
         Overlaps::Serial { answered } => {
@@ -89,11 +93,14 @@ pub(crate) fn order_line(
             );
         }
         Overlaps::Earlier { first, second } => {
-            earlier_overlap(text, calls, (*first, *second), another);
+            earlier_overlap(text, refused.calls, (*first, *second), another);
         }
-        Overlaps::Beside { first, count } => beside(text, calls, first, *count, another),
+        Overlaps::Beside { first, count } => {
+            beside(text, refused.calls, first, *count, another);
+        }
     }
     text.end_line();
+    Ok(another)
 }
 
 /// Writes what was found out of other orders: whether anything was.

@@ -1,12 +1,12 @@
 //! Attributes that are not those of the file: code 83.
 
+use crate::causes::sets;
 use crate::holding::{facts_and_changes, place, tree_name, tree_node};
 use crate::looks::Looks;
 use crate::rules::{ATTRIBUTES, ENTRY_TYPES, rule_line};
 use crate::scene::Scene;
-use crate::start;
+use crate::start::{self, FromStart};
 use crate::wording::{self, numbered_kind};
-use bitflags::Flags;
 use fa_bodies::{Attributes, FattrFlags, Mode};
 use fa_ledger::Action;
 use fa_refusal::{Case, Expected, ListedType, NamedPlace, OtherAttributes};
@@ -104,19 +104,17 @@ fn looks(
     if are_those_before(other) && !is_link(&scene.case) {
         return Looks::at("attributes from before the request", false);
     }
-    let mut looks = None;
+    let mut looks = Looks::none();
     if !expected.has_links(told) {
-        looks = Looks::behind(looks, of_links(scene, told, expected), false);
+        looks.add(of_links(scene, told, expected), false);
     }
     if !expected.has_size(told) {
-        looks = Looks::behind(looks, of_size(scene, told, expected), false);
+        looks.add(of_size(scene, told, expected), false);
     }
-    let bits = of_bits(scene, expected);
-    match looks {
-        Some(looks) if expected.has_bits(told) => looks,
-        Some(looks) => looks.and(bits, false),
-        None => Looks::at(bits, false),
+    if looks.first.is_empty() || !expected.has_bits(told) {
+        looks.add(of_bits(scene, expected), false);
     }
+    looks
 }
 
 /// The case of a number of links: a request may have taken a name away.
@@ -159,7 +157,7 @@ fn of_size(scene: &Scene<'_>, told: &Attributes, expected: &Expected) -> &'stati
 
 /// The OPEN with O_TRUNC that was to leave a file whole of which size 0 is told, if there is one.
 fn left_whole_by(scene: &Scene<'_>, told: &Attributes, expected: &Expected) -> Option<u32> {
-    if told.size > 0 || expected.size == 0 || sets(scene, FattrFlags::SIZE) {
+    if told.size > 0 || expected.size == 0 || sets(&scene.case, FattrFlags::SIZE) {
         return None;
     }
     scene.history.file(expected.file?)?.left_whole_by
@@ -167,37 +165,34 @@ fn left_whole_by(scene: &Scene<'_>, told: &Attributes, expected: &Expected) -> O
 
 /// Which of the lines of what to look at fit the attributes of a file that the request makes.
 fn looks_of_new(scene: &Scene<'_>, told: &Attributes, expected: &Expected) -> Looks {
-    let bits = of_new_bits(scene, told);
-    if expected.has_links(told) && expected.has_size(told) {
-        return Looks::at(bits, false);
+    let mut looks = Looks::none();
+    if !(expected.has_links(told) && expected.has_size(told)) {
+        looks.add("size or links of a new file", false);
     }
-    Looks {
-        first: "size or links of a new file",
-        second: if expected.has_bits(told) {
-            None
-        } else {
-            Some(bits)
-        },
-        is_from_start: false,
+    if looks.first.is_empty() || !expected.has_bits(told) {
+        looks.add(of_new_bits(scene, told), false);
     }
+    looks
 }
 
 /// The case of the permission bits of a file that the request makes.
 fn of_new_bits(scene: &Scene<'_>, told: &Attributes) -> &'static str {
     match mode_of(scene) {
-        Some(mode) if told.mode.bits() & 0o777 & !mode.bits() != 0 => {
+        Some((mode, _)) if told.mode.bits() & 0o777 & !mode.bits() != 0 => {
             "permission bits that the mode of a new file lacks"
         }
         _ => "permission bits of a new file",
     }
 }
 
-/// The mode with which a request makes a file.
-fn mode_of(scene: &Scene<'_>) -> Option<Mode> {
-    match scene.case.action()? {
-        Action::Create { mode, .. } | Action::Mkdir { mode, .. } | Action::Mknod { mode, .. } => {
-            Some(*mode)
-        }
+/// The mode and the umask with which a request makes a file.
+fn mode_of(scene: &Scene<'_>) -> Option<(Mode, u32)> {
+    match scene.case.action() {
+        Some(
+            Action::Create { mode, umask, .. }
+            | Action::Mkdir { mode, umask, .. }
+            | Action::Mknod { mode, umask, .. },
+        ) => Some((*mode, *umask)),
         _ => None,
     }
 }
@@ -207,15 +202,11 @@ fn is_one_from_start(scene: &Scene<'_>, told: &Attributes, expected: &Expected) 
     let Some(file) = expected.file else {
         return false;
     };
-    (!expected.has_kind(told) && start::has_type(scene, file))
-        || (!expected.has_links(told) && start::has_links(scene, file))
-        || (!expected.has_bits(told)
-            && !sets(scene, FattrFlags::MODE)
-            && start::has_bits(scene, file))
-        || (!expected.has_size(told)
-            && !sets(scene, FattrFlags::SIZE)
-            && !empties(&scene.case)
-            && start::has_size(scene, file))
+    let from_start = FromStart::of(scene, file);
+    (from_start.kind && !expected.has_kind(told))
+        || (from_start.links && !expected.has_links(told))
+        || (from_start.bits && !expected.has_bits(told) && !sets(&scene.case, FattrFlags::MODE))
+        || (from_start.size && !expected.has_size(told) && !sets_size(&scene.case))
 }
 
 /// Writes a line for each attribute that differs.
@@ -281,28 +272,21 @@ fn bits_origin(text: &mut Text, scene: &Scene<'_>, expected: &Expected) {
     let Some(file) = expected.file else {
         return asked_for(text, scene);
     };
-    if sets(scene, FattrFlags::MODE) {
-        return text.word(", as this request sets it");
-    }
     let by = match scene.history.file(file) {
         Some(known) => known.bits_by,
         None => None,
     };
-    since_made(text, scene, file, by);
+    let is_set = sets(&scene.case, FattrFlags::MODE);
+    origin(text, scene, file, is_set, by);
 }
 
 /// Writes which mode and umask a request that makes a file asks for.
 fn asked_for(text: &mut Text, scene: &Scene<'_>) {
-    if let Some(
-        Action::Create { mode, umask, .. }
-        | Action::Mkdir { mode, umask, .. }
-        | Action::Mknod { mode, umask, .. },
-    ) = scene.case.action()
-    {
+    if let Some((mode, umask)) = mode_of(scene) {
         text.word(", as mode ");
         text.octal(mode.bits() & 0o7777, 4);
         text.word(" less umask ");
-        text.octal(*umask, 3);
+        text.octal(umask, 3);
         text.word(" asks");
     }
 }
@@ -312,36 +296,31 @@ fn size_origin(text: &mut Text, scene: &Scene<'_>, expected: &Expected) {
     let Some(file) = expected.file else {
         return text.word(", as it is made");
     };
-    if sets(scene, FattrFlags::SIZE) || empties(&scene.case) {
-        return text.word(", as this request sets it");
-    }
     let by = match scene.history.file(file) {
         Some(known) => known.bytes_by,
         None => None,
     };
-    since_made(text, scene, file, by);
+    origin(text, scene, file, sets_size(&scene.case), by);
 }
 
-/// Whether the request is a SETATTR that sets these.
-fn sets(scene: &Scene<'_>, flags: FattrFlags) -> bool {
-    match scene.case.action() {
-        Some(Action::Setattr { setattr, .. }) => setattr.valid().contains(flags),
-        _ => false,
+/// Whether a request sets a size: a SETATTR, or a CREATE that empties a file that is there.
+fn sets_size(case: &Case<'_>) -> bool {
+    match case.action() {
+        Some(Action::Create { .. }) => case.call.truncates,
+        _ => sets(case, FattrFlags::SIZE),
     }
 }
 
-/// Whether the request is a CREATE that empties a file that is there.
-fn empties(case: &Case<'_>) -> bool {
-    matches!(case.action(), Some(Action::Create { .. })) && case.call.truncates
-}
-
-/// Writes since which request an attribute is so: since that which changed it last, or else since that which made the file.
-fn since_made(text: &mut Text, scene: &Scene<'_>, file: FileId, by: Option<u32>) {
+/// Writes since which request an attribute is so: since this one, if that sets it, since that which changed it last, or else since that
+/// which made the file.
+fn origin(text: &mut Text, scene: &Scene<'_>, file: FileId, is_set: bool, by: Option<u32>) {
+    if is_set {
+        return text.word(", as this request sets it");
+    }
     text.word(", ");
     let asked = match (by, file) {
-        (Some(asked), _) => Some(asked),
         (None, FileId::Made(asked)) => Some(asked),
-        _ => None,
+        _ => by,
     };
     wording::since(text, scene.calls, asked);
 }

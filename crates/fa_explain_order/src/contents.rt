@@ -4,7 +4,8 @@ use crate::holding::node_lines;
 use crate::looks::Looks;
 use crate::rules::{BYTES, DIRECT, TARGETS, rule_line};
 use crate::scene::Scene;
-use crate::{start, wording};
+use crate::start::{self, FromStart};
+use crate::wording;
 use fa_refusal::{Difference, Reading};
 use fa_show::Text;
 use std::alloc::AllocError;
@@ -84,14 +85,13 @@ fn first_line(text: &mut Text, scene: &Scene<'_>, reading: &Reading<'_>, differe
         text.data(&bytes);
     }
     text.word("; ");
-    text.number(difference.count);
-    let (of, differ) = if difference.count == 1 {
-        (" byte of ", " differs")
+    text.count(difference.count as usize, " byte of ", " bytes of ");
+    text.number(reading.common());
+    text.word(if difference.count == 1 {
+        " differs"
     } else {
-        (" bytes of ", " differ")
-    };
-    text.field(of, reading.common());
-    text.word(differ);
+        " differ"
+    });
     text.end_line();
 }
 
@@ -131,7 +131,7 @@ fn looks(scene: &Scene<'_>, reading: &Reading<'_>, differs: bool) -> Looks {
     } else {
         Looks::at(
             of_lengths(scene, reading),
-            start::has_size(scene, reading.file),
+            FromStart::of(scene, reading.file).size,
         )
     }
 }

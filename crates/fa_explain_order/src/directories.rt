@@ -5,7 +5,7 @@ use crate::looks::Looks;
 use crate::rules::{LISTINGS, rule_line};
 use crate::scene::Scene;
 use crate::start;
-use crate::wording::{self, comma, numbered_kind};
+use crate::wording::{self, numbered_kind};
 use fa_refusal::{Listing, Twice};
 use fa_show::Text;
 
@@ -47,8 +47,7 @@ fn listing_line(text: &mut Text, scene: &Scene<'_>, listing: &Listing<'_, '_>) {
         text.word("goes on from ");
         let mut is_first = true;
         for asked in listing.pieces.iter().rev() {
-            comma(text, is_first);
-            text.number(u64::from(*asked));
+            text.field(if is_first { "" } else { ", " }, u64::from(*asked));
             is_first = false;
         }
         text.word(": ");
@@ -75,27 +74,25 @@ fn is_adrift(scene: &Scene<'_>) -> bool {
     }
 }
 
-/// Writes how many more there are of a kind than those that are written, and ends the line.
+/// Writes how many more there are of a kind than those that are written, and ends the line, if there are some.
 fn more(text: &mut Text, written: usize, count: usize) {
     if count > written {
         text.field(", and ", (count - written) as u64);
         text.word(" more");
     }
-    text.end_line();
+    if count > 0 {
+        text.end_line();
+    }
 }
 
 /// Writes the line of the names that are missing.
 fn missing_line(text: &mut Text, scene: &Scene<'_>, listing: &Listing<'_, '_>) {
-    if listing.missing.count == 0 {
-        return;
-    }
-    text.word("missing  ");
-    let mut is_first = true;
+    let mut before = "missing  ";
     for name in &listing.missing.first {
-        comma(text, is_first);
+        text.word(before);
         text.name(name);
         missing_name(text, scene, listing, name);
-        is_first = false;
+        before = ", ";
     }
     more(text, listing.missing.first.len(), listing.missing.count);
 }
@@ -120,16 +117,12 @@ fn missing_name(text: &mut Text, scene: &Scene<'_>, listing: &Listing<'_, '_>, n
 
 /// Writes the line of the names that are listed twice.
 fn twice_line(text: &mut Text, listing: &Listing<'_, '_>) {
-    if listing.twice.count == 0 {
-        return;
-    }
-    text.word("twice    ");
-    let mut is_first = true;
+    let mut before = "twice    ";
     for twice in &listing.twice.first {
-        comma(text, is_first);
+        text.word(before);
         text.name(twice.name);
         listed_by(text, twice);
-        is_first = false;
+        before = ", ";
     }
     more(text, listing.twice.first.len(), listing.twice.count);
 }
@@ -147,13 +140,9 @@ fn listed_by(text: &mut Text, twice: &Twice<'_>) {
 
 /// Writes the line of the names that were never there since the opening.
 fn never_line(text: &mut Text, scene: &Scene<'_>, listing: &Listing<'_, '_>) {
-    if listing.never.count == 0 {
-        return;
-    }
-    text.word("never    ");
-    let mut is_first = true;
+    let mut before = "never    ";
     for name in &listing.never.first {
-        comma(text, is_first);
+        text.word(before);
         text.name(name);
         match taken_by(scene, listing.directory, name) {
             Some(asked) => {
@@ -162,70 +151,61 @@ fn never_line(text: &mut Text, scene: &Scene<'_>, listing: &Listing<'_, '_>) {
             }
             None => text.word(" (was never in it)"),
         }
-        is_first = false;
+        before = ", ";
     }
     more(text, listing.never.first.len(), listing.never.count);
 }
 
 /// Writes the line of the entries with other types.
 fn types_line(text: &mut Text, listing: &Listing<'_, '_>) {
-    if listing.types.count == 0 {
-        return;
-    }
-    text.word("type     ");
-    let mut is_first = true;
+    let mut before = "type     ";
     for other in &listing.types.first {
-        comma(text, is_first);
+        text.word(before);
         text.name(other.name);
         text.word(": answered ");
         numbered_kind(text, other.answered);
         text.word(", expected ");
         numbered_kind(text, other.expected);
-        is_first = false;
+        before = ", ";
     }
     more(text, listing.types.first.len(), listing.types.count);
 }
 
 /// Writes the line of the names that are gone and have nodes.
 fn gone_line(text: &mut Text, scene: &Scene<'_>, listing: &Listing<'_, '_>) {
-    if listing.gone.count == 0 {
-        return;
-    }
-    text.word("gone     ");
-    let mut is_first = true;
+    let mut before = "gone     ";
     for name in &listing.gone.first {
-        comma(text, is_first);
+        text.word(before);
         text.name(name);
         text.word(" has a node here");
         let taken_by = taken_by(scene, listing.directory, name);
         wording::request_if_any(text, scene.calls, ", and was taken away by ", taken_by);
-        is_first = false;
+        before = ", ";
     }
     more(text, listing.gone.first.len(), listing.gone.count);
 }
 
 /// Which of the lines of what to look at fit: those of the first two kinds of names that there are.
 fn looks(scene: &Scene<'_>, listing: &Listing<'_, '_>) -> Looks {
-    let mut looks = None;
+    let mut looks = Looks::none();
     if listing.missing.count > 0 {
         let is_from_start = is_one_from_start(scene, listing, &listing.missing.first);
-        looks = Looks::behind(looks, "a name is missing", is_from_start);
+        looks.add("a name is missing", is_from_start);
     }
     if listing.twice.count > 0 {
-        looks = Looks::behind(looks, of_names_twice(listing), false);
+        looks.add(of_names_twice(listing), false);
     }
     if listing.never.count > 0 {
         let is_from_start = is_one_from_start(scene, listing, &listing.never.first);
-        looks = Looks::behind(looks, of_names_never_there(scene, listing), is_from_start);
+        looks.add(of_names_never_there(scene, listing), is_from_start);
     }
     if listing.types.count > 0 {
-        looks = Looks::behind(
-            looks,
-            "the type of an entry",
-            is_type_from_start(scene, listing),
-        );
+        looks.add("the type of an entry", is_type_from_start(scene, listing));
     }
-    looks.unwrap_or(Looks::at("a node of a name that is gone", false))
+    if looks.first.is_empty() {
+        looks.add("a node of a name that is gone", false);
+    }
+    looks
 }
 
 /// Whether one of these names is there, or not there, from the start on.

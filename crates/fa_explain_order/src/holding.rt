@@ -21,11 +21,11 @@ pub(crate) fn tree_lines(text: &mut Text, scene: &Scene<'_>) {
 /// Writes the lines of the nodes that are told by no name.
 pub(crate) fn node_lines(text: &mut Text, scene: &Scene<'_>) {
     let node = scene.case.call.node;
-    if !is_told_by_names(scene, node) {
+    if !is_told_by_name(scene, scene.case.first_place()) {
         tree_node(text, scene, node);
     }
     match scene.case.call.other {
-        Some(other) if other != node && !is_told_by_names(scene, other) => {
+        Some(other) if other != node && !is_told_by_name(scene, scene.case.second_place()) => {
             tree_node(text, scene, other)
         }
         _ => {}
@@ -38,33 +38,23 @@ fn name_lines(text: &mut Text, scene: &Scene<'_>) {
     name_line(text, scene, scene.case.second_place());
 }
 
-/// Writes the line of a name, if there is one, in a directory that is told by its names.
+/// Writes the line of a name, if there is one, in a directory that is told by it.
 fn name_line(text: &mut Text, scene: &Scene<'_>, place: Option<NamedPlace<'_>>) {
-    if let Some(place) = place {
-        if is_told_by_names(scene, place.node) {
-            tree_name(text, scene, &place);
+    if let Some(named) = &place {
+        if is_told_by_name(scene, place) {
+            tree_name(text, scene, named);
         }
     }
 }
 
-/// Whether a node is that of a directory with a name, in which the request has a name.
-fn is_told_by_names(scene: &Scene<'_>, node: NodeName) -> bool {
-    has_name_in(scene, node)
-        && match scene.tree.file_of(&node) {
-            Some(file) => scene.is_of(file, Kind::Directory) && scene.tree.is_linked(file),
-            None => false,
-        }
-}
-
-/// Whether the request has a name in the directory of a node.
-fn has_name_in(scene: &Scene<'_>, node: NodeName) -> bool {
-    is_in(scene.case.first_place(), node) || is_in(scene.case.second_place(), node)
-}
-
-/// Whether a place is in the directory of a node.
-fn is_in(place: Option<NamedPlace<'_>>, node: NodeName) -> bool {
-    match place {
-        Some(place) => place.node == node,
+/// Whether the directory of a name of the request is told by the line of that name: it is a directory, and has a name itself. Not where
+/// there is no name.
+fn is_told_by_name(scene: &Scene<'_>, place: Option<NamedPlace<'_>>) -> bool {
+    let Some(place) = place else {
+        return false;
+    };
+    match scene.tree.file_of(&place.node) {
+        Some(file) => scene.is_of(file, Kind::Directory) && scene.tree.is_linked(file),
         None => false,
     }
 }
@@ -168,38 +158,22 @@ pub(crate) fn facts(text: &mut Text, scene: &Scene<'_>, file: FileId) {
         return;
     };
     text.word(wording::kind(facts.kind));
-    match facts.kind {
-        Kind::Directory => directory(text, scene, file, &facts),
-        Kind::Symlink => {
-            target(text, scene, file, &facts);
-            links(text, &facts);
-        }
-        kind => {
-            bits(text, &facts);
-            if kind == Kind::Regular {
-                text.field(" size ", facts.size);
-            }
-            links(text, &facts);
-        }
+    if facts.kind != Kind::Symlink {
+        text.word(" ");
+        text.octal(facts.bits, 4);
     }
-}
-
-/// Writes the permission bits of a file.
-fn bits(text: &mut Text, facts: &FileFacts) {
-    text.word(" ");
-    text.octal(facts.bits, 4);
-}
-
-/// Writes how many names a file has.
-fn links(text: &mut Text, facts: &FileFacts) {
-    text.field(" nlink ", facts.names as u64);
-}
-
-/// Writes the permission bits of a directory, and how many names are in it.
-fn directory(text: &mut Text, scene: &Scene<'_>, file: FileId, facts: &FileFacts) {
-    bits(text, facts);
-    text.word(" with ");
-    text.count(scene.tree.count_names_in(file), " name", " names");
+    match facts.kind {
+        Kind::Directory => {
+            text.word(" with ");
+            text.count(scene.tree.count_names_in(file), " name", " names");
+        }
+        Kind::Symlink => target(text, scene, file, &facts),
+        Kind::Regular => text.field(" size ", facts.size),
+        _ => {}
+    }
+    if facts.kind != Kind::Directory {
+        text.field(" nlink ", facts.names as u64);
+    }
 }
 
 /// Writes the target of a symbolic link.

@@ -12,6 +12,7 @@ mod another;
 mod answers;
 mod attributes;
 mod bindings;
+mod causes;
 mod contents;
 mod directories;
 mod emptiness;

@@ -3,7 +3,7 @@
 /// Which of the lines of what to look at fit: one or two by their cases, and whether that of the first tree does.
 #[derive(Clone, Copy)]
 pub(crate) struct Looks {
-    /// The case of the first line,
+    /// The case of the first line, empty of one without a case,
     pub first: &'static str,
     /// and of a second one.
     pub second: Option<&'static str>,
@@ -12,6 +12,11 @@ pub(crate) struct Looks {
 }
 
 impl Looks {
+    /// No line yet: one has to be added.
+    pub fn none() -> Self {
+        Looks::at("", false)
+    }
+
     /// One line, and that of the first tree where what differs is so from the start.
     pub fn at(case: &'static str, is_from_start: bool) -> Self {
         Looks {
@@ -21,20 +26,13 @@ impl Looks {
         }
     }
 
-    /// These, if there are any, and one line more.
-    pub fn behind(looks: Option<Looks>, case: &'static str, is_from_start: bool) -> Option<Looks> {
-        Some(match looks {
-            Some(looks) => looks.and(case, is_from_start),
-            None => Looks::at(case, is_from_start),
-        })
-    }
-
-    /// These and one line more, where there was one alone.
-    pub fn and(self, case: &'static str, is_from_start: bool) -> Self {
-        Looks {
-            first: self.first,
-            second: self.second.or(Some(case)),
-            is_from_start: self.is_from_start || is_from_start,
+    /// One line more, where there was one alone or none.
+    pub fn add(&mut self, case: &'static str, is_from_start: bool) {
+        if self.first.is_empty() {
+            self.first = case;
+        } else if self.second.is_none() {
+            self.second = Some(case);
         }
+        self.is_from_start |= is_from_start;
     }
 }

@@ -11,13 +11,13 @@ use fa_show::{Text, request_in, words};
 
 /// Writes why an entry names no tree request.
 pub(crate) fn no_tree_request(text: &mut Text, capture: &Capture<'_>, refused: &Refused<'_>) {
-    let Refused { calls, at, .. } = *refused;
+    let at = refused.at;
     let Some(packet) = capture.packets().nth(at as usize) else {
         text.word("because  the capture has ");
-        text.count(calls.messages as usize, " message", " messages");
+        text.count(refused.calls.messages as usize, " message", " messages");
         text.word(", counted from 0");
         text.end_line();
-        return next_to(text, capture, calls, at);
+        return next_to(text, capture, refused.calls, at);
     };
     text.word("message  ");
     cite_any(text, capture, at, packet.direction);
@@ -32,7 +32,7 @@ pub(crate) fn no_tree_request(text: &mut Text, capture: &Capture<'_>, refused: &
         }
     }
     text.end_line();
-    next_to(text, capture, calls, at);
+    next_to(text, capture, refused.calls, at);
 }
 
 /// Writes the rest of a line: a message of either direction, with what it answers.
@@ -66,16 +66,10 @@ fn tree_request_at(calls: &Calls<'_>, at: u32) -> Option<u32> {
 
 /// Writes which entry names a request already.
 pub(crate) fn placed_twice(text: &mut Text, capture: &Capture<'_>, refused: &Refused<'_>) {
-    let Refused {
-        calls,
-        placed,
-        at,
-        ..
-    } = *refused;
-    request_line(text, capture, at);
+    request_line(text, capture, refused.at);
     text.word("because  ");
-    if let Some(case) = Case::of(calls, at) {
-        if let Some(entry) = placed.entry(case.place) {
+    if let Some(case) = Case::of(refused.calls, refused.at) {
+        if let Some(entry) = refused.placed.entry(case.place) {
             text.field("entry ", u64::from(entry));
             text.word(" names it already");
         }
@@ -85,14 +79,9 @@ pub(crate) fn placed_twice(text: &mut Text, capture: &Capture<'_>, refused: &Ref
 
 /// Writes which request was answered before that of an entry was sent, and is not placed yet.
 pub(crate) fn earlier_not_placed(text: &mut Text, capture: &Capture<'_>, refused: &Refused<'_>) {
-    let Refused {
-        calls,
-        placed,
-        at,
-        ..
-    } = *refused;
+    let at = refused.at;
     request_line(text, capture, at);
-    let Some((missing, answered)) = placed.first_left(calls) else {
+    let Some((missing, answered)) = refused.placed.first_left(refused.calls) else {
         return;
     };
     let asked = missing.call.asked;
@@ -122,10 +111,9 @@ pub(crate) fn entry_of(entries: &[Entry], asked: u32) -> Option<u32> {
 
 /// Writes why an entry may not carry the count that it carries, or has to carry one.
 pub(crate) fn choice_not_allowed(text: &mut Text, capture: &Capture<'_>, refused: &Refused<'_>) {
-    let Refused { calls, at, .. } = *refused;
-    request_line(text, capture, at);
+    request_line(text, capture, refused.at);
     text.word("because  ");
-    if let Some(case) = Case::of(calls, at) {
+    if let Some(case) = Case::of(refused.calls, refused.at) {
         choice(text, &case, refused.wrote());
     }
     text.end_line();

@@ -3,14 +3,14 @@
 use crate::another::answered_by;
 use crate::answers::{exchange, printed};
 use crate::looks::Looks;
-use crate::rules::{is_never, never_look_line};
+use crate::rules::{never_answered, never_look_line};
 use crate::stepping::{NEVER_RIGHT, because, look_at_answer, look_at_start};
 use crate::wording;
 use fa_bodies::split_at_byte;
 use fa_capture::{Capture, codes};
-use fa_ledger::{Calls, Outcome};
+use fa_ledger::Calls;
 use fa_order::Entry;
-use fa_refusal::{Case, Finding, Placed, Reached, Refused};
+use fa_refusal::{Case, Placed, Refused};
 use fa_show::Text;
 use fa_tree::Tree;
 use std::alloc::{AllocError, Global};
@@ -103,8 +103,8 @@ pub struct NoOrderReasons {
 ///
 /// # Cost
 ///
-/// For each order that of [`order_reasons`](crate::order_reasons) on it, and for each two of them each line of one that tells what differs
-/// is compared with all of the other. Memory for two copies of the tree, 32 KiB, and for each order the lines that tell.
+/// For each order that of [`order_reasons`](crate::order_reasons) on it, and for each two of them the lines of one that tell what differs
+/// are compared with those of the other. Memory for two copies of the tree, 32 KiB, and the lines that tell, once where they are the same.
 pub fn no_order_reasons(
     alloc: Global,
     capture: &Capture<'_>,
@@ -133,11 +133,18 @@ fn no_order_lines(
 ) -> Result<Option<usize>, AllocError> {
     exchange(alloc, text, capture, case)?;
     let mut reasons = Reasons {
+        alloc,
         calls,
+        first,
         coming,
+        asked: case.call.asked,
         list: Vec::new(alloc),
+        trees: 0,
+        from_start: None,
     };
-    reasons.tell(alloc, text, first, case)
+    reasons.take()?;
+    reasons.tell(text, case);
+    Ok(reasons.first_order())
 }
 
 /// What is known where a search gave up at a message, and what to do: the lines behind the line of a verdict that says so.
@@ -215,131 +222,70 @@ fn trees_line(text: &mut Text, coming: &Coming<'_>) {
     text.end_line();
 }
 
-/// Why a tree refuses the answer.
+/// Why trees refuse the answer, on which the same differs.
 #[derive(Drop)]
 struct Reason {
-    /// The number of the order that leads to the tree.
+    /// The number of the order that leads to the first of them,
     order: usize,
+    /// and how many there are.
+    trees: usize,
     code: u16,
     /// Which of the lines of what to look at fit.
     looks: Looks,
     /// The line of the rule that the answer breaks, empty where there is none,
     rule: Vec<u8>,
-    /// those that say what differs on the tree,
-    differing: Vec<Vec<u8>>,
-    /// and the one that says until when the answer was right, empty where there is none.
+    /// those that say what differs,
+    differing: Vec<u8>,
+    /// and the one that says until when the answer was right, empty where there is none or not the same on all. A line feed ends each.
     earlier: Vec<u8>,
 }
 
 impl Reason {
-    /// Why the tree to which an order leads refuses the answer that it leaves out.
-    fn of(
-        alloc: Global,
-        calls: &Calls<'_>,
-        first: &Tree,
-        entries: &[Entry],
-        order: usize,
-        asked: u32,
-    ) -> Result<Option<Self>, AllocError> {
-        let placed = Placed::by(alloc, calls, entries)?;
-        let refused = Refused {
-            alloc,
-            calls,
-            first,
-            entries,
-            before: entries,
-            placed: &placed,
-            entry: u32::try_from(entries.len()).unwrap_or(u32::MAX),
-            at: asked,
-            code: codes::ANSWERED_LEFT_OUT,
-        };
-        let mut tree = first.copy()?;
-        let reason = Reason::along(&refused, &mut tree, order);
-        // It has many tables: they are proved to go in one place.
-        drop(tree);
-        reason
-    }
-
-    /// The same with a tree that is lent, which becomes the one to which the order leads.
-    fn along(
-        refused: &Refused<'_>,
-        tree: &mut Tree,
-        order: usize,
-    ) -> Result<Option<Self>, AllocError> {
-        match refused.reach(tree)? {
-            Some(reached) => Reason::behind(refused, tree, order, &reached),
-            None => Ok(None),
-        }
-    }
-
-    /// The same with the tree to which the order leads.
-    fn behind<'a>(
-        refused: &Refused<'a>,
-        tree: &Tree,
-        order: usize,
-        reached: &Reached<'a>,
-    ) -> Result<Option<Self>, AllocError> {
-        let Some(code) = reached.code else {
-            return Ok(None);
-        };
-        let Some(finding) = Finding::of(refused, tree, &reached.case, code)? else {
-            return Ok(None);
-        };
-        Reason::by(refused, tree, order, &reached.case, &finding)
-    }
-
-    /// The same by what was found.
-    fn by(
-        refused: &Refused<'_>,
-        tree: &Tree,
-        order: usize,
-        case: &Case<'_>,
-        finding: &Finding<'_, '_>,
-    ) -> Result<Option<Self>, AllocError> {
-        let mut text = Text::new(refused.alloc, ROOM_OF_A_TREE, false)?;
-        let looks = because(&mut text, refused, tree, case, finding)?;
-        let mut reason = Reason {
-            order,
-            code: finding.code(),
-            looks,
-            rule: Vec::new(refused.alloc),
-            differing: Vec::new(refused.alloc),
-            earlier: Vec::new(refused.alloc),
-        };
-        reason.take(refused.alloc, text.as_bytes())?;
-        Ok(Some(reason))
-    }
-
     /// Takes in the lines of it.
-    fn take(&mut self, alloc: Global, text: &[u8]) -> Result<(), AllocError> {
+    fn take(&mut self, text: &[u8]) -> Result<(), AllocError> {
         let telling = telling(self.code, text);
         for line in text.split(is_line_feed) {
-            self.take_line(alloc, telling, line)?;
+            self.take_line(telling, line)?;
         }
         Ok(())
     }
 
     /// Takes in a line: where its label is one of these, it says what differs.
-    fn take_line(
-        &mut self,
-        alloc: Global,
-        telling: &[&[u8]],
-        line: &[u8],
-    ) -> Result<(), AllocError> {
-        if has_one(line, telling) {
-            self.differing.push(Vec::from_slice(alloc, line)?)?;
-        } else if line.starts_with(RULE) && self.rule.is_empty() {
-            self.rule.extend_from_slice(line)?;
-        } else if line.starts_with(EARLIER) && self.earlier.is_empty() {
-            self.earlier.extend_from_slice(line)?;
-        }
+    fn take_line(&mut self, telling: &[&[u8]], line: &[u8]) -> Result<(), AllocError> {
+        let lines = if has_one(line, telling) {
+            &mut self.differing
+        } else if line.starts_with(RULE) {
+            &mut self.rule
+        } else if line.starts_with(EARLIER) {
+            &mut self.earlier
+        } else {
+            return Ok(());
+        };
+        lines.extend_from_slice(line)?;
+        lines.push(b'\n')?;
         Ok(())
     }
 
-    /// Writes what differs on the tree, all but the first behind a label of its own.
+    /// Whether the same differs on another tree.
+    fn is_same(&self, other: &Reason) -> bool {
+        self.code == other.code && self.differing.as_slice() == other.differing.as_slice()
+    }
+
+    /// Takes in another tree on which the same differs.
+    fn join(&mut self, other: &Reason) {
+        self.trees = self.trees.saturating_add(1);
+        if self.earlier.as_slice() != other.earlier.as_slice() {
+            self.earlier.clear();
+        }
+    }
+
+    /// Writes what differs on the trees, all but the first behind a label of its own.
     fn tell(&self, text: &mut Text, number: usize) {
         let mut is_first = true;
-        for line in &self.differing {
+        for line in self.differing.split(is_line_feed) {
+            if line.is_empty() {
+                continue;
+            }
             if !is_first {
                 text.end_line();
                 tree_label(text, number);
@@ -357,31 +303,6 @@ impl Reason {
             text.word(" ");
         }
         printed(text, behind_label(line));
-    }
-
-    /// Whether one of the lines that say what differs is this one.
-    fn has_line(&self, line: &[u8]) -> bool {
-        for other in &self.differing {
-            if other.as_slice() == line {
-                return true;
-            }
-        }
-        false
-    }
-
-    /// Whether all that is said to differ on the tree is said of another one too.
-    fn is_told_by(&self, other: &Reason) -> bool {
-        for line in &self.differing {
-            if !other.has_line(line) {
-                return false;
-            }
-        }
-        true
-    }
-
-    /// Whether the same differs on another tree.
-    fn is_same(&self, other: &Reason) -> bool {
-        self.code == other.code && self.is_told_by(other) && other.is_told_by(self)
     }
 }
 
@@ -438,93 +359,161 @@ fn behind_label(line: &[u8]) -> &[u8] {
 /// Why the trees that were alive refuse the answer.
 #[derive(Drop)]
 struct Reasons<'a> {
+    alloc: Global,
     calls: &'a Calls<'a>,
+    first: &'a Tree,
     coming: &'a Coming<'a>,
+    /// The request that was answered so.
+    asked: u32,
+    /// By their codes, those with the same one as the orders come.
     list: Vec<Reason>,
+    /// On how many trees it is known what differs.
+    trees: usize,
+    /// The code of the first tree on which that is so from the start.
+    from_start: Option<u16>,
 }
 
 impl Reasons<'_> {
-    /// Takes in why each tree to which an order leads refuses the answer to a request, and writes it: the place of the order that leads to
-    /// the tree of which is told first, if there is one.
-    fn tell(
+    /// Takes in why each tree to which an order leads refuses the answer.
+    fn take(&mut self) -> Result<(), AllocError> {
+        let coming = self.coming;
+        let mut text = Text::new(self.alloc, ROOM_OF_A_TREE, false)?;
+        for (number, order) in coming.orders.iter().enumerate() {
+            text.begin(0);
+            self.take_order(&mut text, number, order)?;
+        }
+        Ok(())
+    }
+
+    /// Takes in why the tree to which an order leads refuses the answer that it leaves out.
+    fn take_order(
         &mut self,
-        alloc: Global,
         text: &mut Text,
-        first: &Tree,
-        case: &Case<'_>,
-    ) -> Result<Option<usize>, AllocError> {
-        self.take(alloc, first, case.call.asked)?;
+        number: usize,
+        entries: &[Entry],
+    ) -> Result<(), AllocError> {
+        let placed = Placed::by(self.alloc, self.calls, entries)?;
+        let refused = Refused {
+            alloc: self.alloc,
+            calls: self.calls,
+            first: self.first,
+            entries,
+            before: entries,
+            placed: &placed,
+            entry: u32::try_from(entries.len()).unwrap_or(u32::MAX),
+            at: self.asked,
+            code: codes::ANSWERED_LEFT_OUT,
+        };
+        let mut tree = self.first.copy()?;
+        let taken = self.take_tree(text, &refused, &mut tree, number);
+        // It has many tables: they are proved to go in one place.
+        drop(tree);
+        taken
+    }
+
+    /// The same with a tree that is lent, which becomes the one to which the order leads.
+    fn take_tree(
+        &mut self,
+        text: &mut Text,
+        refused: &Refused<'_>,
+        tree: &mut Tree,
+        number: usize,
+    ) -> Result<(), AllocError> {
+        let Some(reached) = refused.reach(tree)? else {
+            return Ok(());
+        };
+        let Some(code) = reached.code else {
+            return Ok(());
+        };
+        match because(text, refused, tree, &reached.case, code)? {
+            Some(looks) => self.add(text, number, code, looks),
+            None => Ok(()),
+        }
+    }
+
+    /// Takes in the lines of a tree: with those of another one on which the same differs, if there is one.
+    fn add(
+        &mut self,
+        text: &Text,
+        number: usize,
+        code: u16,
+        looks: Looks,
+    ) -> Result<(), AllocError> {
+        self.trees = self.trees.saturating_add(1);
+        if looks.is_from_start && self.from_start.is_none() {
+            self.from_start = Some(code);
+        }
+        let mut reason = Reason {
+            order: number,
+            trees: 1,
+            code,
+            looks,
+            rule: Vec::new(self.alloc),
+            differing: Vec::new(self.alloc),
+            earlier: Vec::new(self.alloc),
+        };
+        reason.take(text.as_bytes())?;
+        if !self.join_same(&reason) {
+            let place = self.place_of(code);
+            self.list.insert(place.min(self.list.len()), reason)?;
+        }
+        Ok(())
+    }
+
+    /// Takes in a tree with another one on which the same differs: whether there is one.
+    fn join_same(&mut self, reason: &Reason) -> bool {
+        for other in self.list.iter_mut() {
+            if other.is_same(reason) {
+                other.join(reason);
+                return true;
+            }
+        }
+        false
+    }
+
+    /// How many have no higher code.
+    fn place_of(&self, code: u16) -> usize {
+        let mut place: usize = 0;
+        for reason in &self.list {
+            if reason.code <= code {
+                place = place.saturating_add(1);
+            }
+        }
+        place
+    }
+
+    /// Writes why the trees refuse the answer to a request.
+    fn tell(&self, text: &mut Text, case: &Case<'_>) {
         self.rule_lines(text);
         beside_line(text, self.calls, case, self.coming.at);
         trees_line(text, self.coming);
         self.tree_lines(text);
         self.earlier_line(text);
-        self.look_at(text, case);
-        Ok(match self.least() {
-            Some(least) => Some(least.order),
+        if !self.list.is_empty() {
+            self.look_at(text, case);
+        }
+    }
+
+    /// The place of the order that leads to the tree of which is told first, if there is one.
+    fn first_order(&self) -> Option<usize> {
+        match self.list.first() {
+            Some(first) => Some(first.order),
             None => None,
-        })
-    }
-
-    /// Takes in why each tree to which an order leads refuses the answer to a request.
-    fn take(&mut self, alloc: Global, first: &Tree, asked: u32) -> Result<(), AllocError> {
-        let coming = self.coming;
-        for (number, order) in coming.orders.iter().enumerate() {
-            if let Some(reason) = Reason::of(alloc, self.calls, first, order, number, asked)? {
-                self.list.push(reason)?;
-            }
         }
-        Ok(())
-    }
-
-    /// The first of those with the least code.
-    fn least(&self) -> Option<&Reason> {
-        let mut least: Option<&Reason> = None;
-        for reason in &self.list {
-            match least {
-                Some(other) if other.code <= reason.code => {}
-                _ => least = Some(reason),
-            }
-        }
-        least
-    }
-
-    /// The first with this code.
-    fn with_code(&self, code: u16) -> Option<&Reason> {
-        for reason in &self.list {
-            if reason.code == code {
-                return Some(reason);
-            }
-        }
-        None
-    }
-
-    /// The first of those that are so from the start.
-    fn from_start(&self) -> Option<&Reason> {
-        for reason in &self.list {
-            if reason.looks.is_from_start {
-                return Some(reason);
-            }
-        }
-        None
     }
 
     /// Writes the rules that the answer breaks: one for each code with which trees refuse it.
     fn rule_lines(&self, text: &mut Text) {
-        for code in codes::SUCCESS_NOT_ALLOWED..=codes::LISTING {
-            match self.with_code(code) {
-                Some(reason) if !reason.rule.is_empty() => self.rule_line(text, reason),
-                _ => {}
+        let mut before: u16 = 0;
+        for reason in &self.list {
+            if reason.code != before && !reason.rule.is_empty() {
+                text.word("rule     ");
+                self.begin_code(text, reason.code);
+                printed(text, behind_label(&reason.rule));
+                text.end_line();
             }
+            before = reason.code;
         }
-    }
-
-    /// Writes the rule that the answer breaks on a tree.
-    fn rule_line(&self, text: &mut Text, reason: &Reason) {
-        text.word("rule     ");
-        self.begin_code(text, reason.code);
-        printed(text, behind_label(&reason.rule));
-        text.end_line();
     }
 
     /// Whether all trees refuse the answer with this code.
@@ -547,10 +536,7 @@ impl Reasons<'_> {
 
     /// Writes what to look at.
     fn look_at(&self, text: &mut Text, case: &Case<'_>) {
-        if self.list.is_empty() {
-            return;
-        }
-        match error_never_answered(case) {
+        match never_answered(case) {
             Some(error) => never_look_line(text, case, error),
             None => self.look_at_each(text, case),
         }
@@ -559,53 +545,37 @@ impl Reasons<'_> {
     /// Writes whether the tree text may be wrong, and what to look at for each code with which trees refuse the answer, by the first of
     /// them. The trees with the last code come first: there most of the answer holds.
     fn look_at_each(&self, text: &mut Text, case: &Case<'_>) {
-        if let Some(reason) = self.from_start() {
-            look_at_start(text, reason.code, case, "");
+        if let Some(code) = self.from_start {
+            look_at_start(text, code, case, "");
         }
         for behind in 0..=codes::LISTING - codes::SUCCESS_NOT_ALLOWED {
-            let code = codes::LISTING - behind;
-            if let Some(reason) = self.with_code(code) {
-                look_at_answer(text, code, &reason.looks, case, self.on_tree(code));
-            }
+            self.look_at_first(text, case, codes::LISTING - behind);
         }
     }
 
-    /// Which tree is the first that refuses the answer with this code, in words, where others do with another code.
-    fn on_tree(&self, code: u16) -> &'static str {
-        if self.is_only(code) {
-            return "";
-        }
-        match ON_TREE.get(self.told_below(code)) {
-            Some(words) => *words,
-            None => "",
-        }
-    }
-
-    /// How many lines of trees come before those with this code.
-    fn told_below(&self, code: u16) -> usize {
-        let mut told: usize = 0;
+    /// Writes what to look at for a code, by the first tree that refuses the answer with it, if there is one: which that is, where others
+    /// do with another code.
+    fn look_at_first(&self, text: &mut Text, case: &Case<'_>, code: u16) {
         for (place, reason) in self.list.iter().enumerate() {
-            if reason.code < code && !self.is_told_before(place, reason) {
-                told = told.saturating_add(1);
+            if reason.code == code {
+                let words = if self.is_only(code) {
+                    ""
+                } else {
+                    on_tree(place)
+                };
+                return look_at_answer(text, code, &reason.looks, case, words);
             }
         }
-        told
     }
 
     /// Writes what differs on each tree, those on which the same does in one line, by their codes.
     fn tree_lines(&self, text: &mut Text) {
-        let mut told: usize = 0;
-        for code in codes::SUCCESS_NOT_ALLOWED..=codes::LISTING {
-            for (place, reason) in self.list.iter().enumerate() {
-                if reason.code != code || self.is_told_before(place, reason) {
-                    continue;
-                }
-                told = told.saturating_add(1);
-                if told <= MOST_REASONS {
-                    self.tree_line(text, reason, told);
-                }
+        for (place, reason) in self.list.iter().enumerate() {
+            if place < MOST_REASONS {
+                self.tree_line(text, reason, place.saturating_add(1));
             }
         }
+        let told = self.list.len();
         if told > MOST_REASONS {
             text.field("trees    and ", (told - MOST_REASONS) as u64);
             text.word(" more reasons");
@@ -613,29 +583,7 @@ impl Reasons<'_> {
         }
     }
 
-    /// Whether the same differs on a tree before this place.
-    fn is_told_before(&self, place: usize, reason: &Reason) -> bool {
-        let (before, _) = self.list.split_at(place.min(self.list.len()));
-        for other in before {
-            if other.is_same(reason) {
-                return true;
-            }
-        }
-        false
-    }
-
-    /// On how many trees the same differs as on this one, which is one of them.
-    fn count_same(&self, reason: &Reason) -> usize {
-        let mut same: usize = 0;
-        for other in &self.list {
-            if other.is_same(reason) {
-                same = same.saturating_add(1);
-            }
-        }
-        same
-    }
-
-    /// Writes what differs on a tree.
+    /// Writes what differs on trees.
     fn tree_line(&self, text: &mut Text, reason: &Reason, number: usize) {
         tree_label(text, number);
         if let Some(order) = self.coming.orders.get(reason.order) {
@@ -643,14 +591,13 @@ impl Reasons<'_> {
         }
         self.begin_code(text, reason.code);
         reason.tell(text, number);
-        let same = self.count_same(reason);
-        if same > 1 {
-            text.field("; and ", (same - 1) as u64);
-            text.word(if same == 2 {
-                " more tree with the same"
-            } else {
-                " more trees with the same"
-            });
+        if reason.trees > 1 {
+            text.word("; and ");
+            text.count(
+                reason.trees - 1,
+                " more tree with the same",
+                " more trees with the same",
+            );
         }
         text.end_line();
     }
@@ -662,8 +609,11 @@ impl Reasons<'_> {
             return;
         };
         let line = first.earlier.as_slice();
-        let are_all = self.list.len() == self.coming.trees;
-        if are_all && !line.is_empty() && line != NEVER_RIGHT.as_bytes() && self.all_tell(line) {
+        if self.trees == self.coming.trees
+            && !line.is_empty()
+            && !line.starts_with(NEVER_RIGHT.as_bytes())
+            && self.all_tell(line)
+        {
             printed(text, line);
             text.end_line();
         }
@@ -680,15 +630,11 @@ impl Reasons<'_> {
     }
 }
 
-/// The error that was answered to a request, if it is one that is never answered to its operation.
-fn error_never_answered(case: &Case<'_>) -> Option<i32> {
-    match case.operation.ended() {
-        Outcome::Fails(error) => if is_never(case, error) {
-            Some(error)
-        } else {
-            None
-        },
-        _ => None,
+/// The tree at this place in words, in front of what to look at: none behind the eighth.
+fn on_tree(place: usize) -> &'static str {
+    match ON_TREE.get(place) {
+        Some(words) => *words,
+        None => "",
     }
 }
 

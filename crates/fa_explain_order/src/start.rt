@@ -1,9 +1,7 @@
 //! What a tree holds from the start on, and no answer told: there the tree text may be wrong.
 
+use crate::causes::About;
 use crate::scene::Scene;
-use fa_bodies::RenameFlags;
-use fa_bodies::errno::{EISDIR, ENOENT, ENOTDIR};
-use fa_ledger::{Action, Operation};
 use fa_refusal::{NamedPlace, Part, Subject, Unmet};
 use fa_tree::FileId;
 
@@ -26,22 +24,36 @@ pub(crate) fn has_type(scene: &Scene<'_>, file: FileId) -> bool {
     file != FileId::Root && has_file(scene, file)
 }
 
-/// The same of the number of its names.
-pub(crate) fn has_links(scene: &Scene<'_>, file: FileId) -> bool {
-    has_file(scene, file)
-        && match scene.history.file(file) {
-            Some(known) => known.links_by.is_none(),
-            None => true,
-        }
+/// Which attributes of a file are so from the start, and no answer told them.
+#[derive(Clone, Copy)]
+pub(crate) struct FromStart {
+    /// Its type,
+    pub kind: bool,
+    /// how many names it has,
+    pub links: bool,
+    /// its permission bits,
+    pub bits: bool,
+    /// and its size.
+    pub size: bool,
 }
 
-/// The same of its permission bits.
-pub(crate) fn has_bits(scene: &Scene<'_>, file: FileId) -> bool {
-    has_file(scene, file)
-        && match scene.history.file(file) {
-            Some(known) => known.bits_by.is_none(),
-            None => true,
+impl FromStart {
+    /// Those of a file.
+    pub fn of(scene: &Scene<'_>, file: FileId) -> Self {
+        let is_so = has_file(scene, file);
+        let mut from_start = FromStart {
+            kind: is_so && file != FileId::Root,
+            links: is_so,
+            bits: is_so,
+            size: is_so,
+        };
+        if let Some(known) = scene.history.file(file) {
+            from_start.links &= known.links_by.is_none();
+            from_start.bits &= known.bits_by.is_none();
+            from_start.size &= known.bytes_by.is_none();
         }
+        from_start
+    }
 }
 
 /// Whether a request set the permission bits of a file since it was made.
@@ -50,15 +62,6 @@ pub(crate) fn has_bits_set(scene: &Scene<'_>, file: FileId) -> bool {
         Some(known) => known.bits_by.is_some(),
         None => false,
     }
-}
-
-/// The same of its size.
-pub(crate) fn has_size(scene: &Scene<'_>, file: FileId) -> bool {
-    has_file(scene, file)
-        && match scene.history.file(file) {
-            Some(known) => known.bytes_by.is_none(),
-            None => true,
-        }
 }
 
 /// Whether a file has the byte that was asked for from the start, and no answer told it.
@@ -103,77 +106,25 @@ fn has_named_type(scene: &Scene<'_>, place: Option<NamedPlace<'_>>) -> bool {
         }
 }
 
-/// Whether an error has no cause by what is so from the start.
-pub(crate) fn denies_error(scene: &Scene<'_>, error: i32) -> bool {
-    match &scene.case.operation {
-        Operation::List(_) => error == ENOTDIR && denies_node(scene),
-        Operation::Act(action) => match error {
-            ENOENT => denies_absence(scene, action),
-            ENOTDIR => denies_no_directory(scene, action),
-            EISDIR => denies_directory(scene, action),
-            _ => denies_presence(scene, action),
-        },
+/// Whether what a cause is about is so from the start.
+pub(crate) fn is_from_start(scene: &Scene<'_>, about: About) -> bool {
+    let first = scene.case.first_place();
+    let second = scene.case.second_place();
+    match about {
+        About::Name | About::Content => has_place(scene, first),
+        About::NewName | About::NewContent => has_place(scene, second),
+        About::EitherName => has_place(scene, first) || has_place(scene, second),
+        About::NamedTypes => has_named_type(scene, first) || has_named_type(scene, second),
+        About::NodeType => has_node_type(scene),
+        About::File | About::Directory => false,
     }
 }
 
 /// Whether the type of the node is so from the start.
-fn denies_node(scene: &Scene<'_>) -> bool {
+fn has_node_type(scene: &Scene<'_>) -> bool {
     match scene.case.node_in(scene.tree) {
         Some(file) => has_type(scene, file),
         None => false,
-    }
-}
-
-/// The same of ENOENT: that the names are there.
-fn denies_absence(scene: &Scene<'_>, action: &Action<'_>) -> bool {
-    let is_first = has_place(scene, scene.case.first_place());
-    match action {
-        Action::Rename2 {
-            flags: RenameFlags::Exchange,
-            ..
-        } => is_first || has_place(scene, scene.case.second_place()),
-        Action::Lookup { .. }
-        | Action::Unlink { .. }
-        | Action::Rmdir { .. }
-        | Action::Rename { .. }
-        | Action::Rename2 { .. } => is_first,
-        _ => false,
-    }
-}
-
-/// The same of ENOTDIR: the types of names, or that of the node.
-fn denies_no_directory(scene: &Scene<'_>, action: &Action<'_>) -> bool {
-    match action {
-        Action::Rmdir { .. } => has_named_type(scene, scene.case.first_place()),
-        Action::Rename { .. } | Action::Rename2 { .. } => denies_types(scene),
-        _ => denies_node(scene),
-    }
-}
-
-/// The same of EISDIR.
-fn denies_directory(scene: &Scene<'_>, action: &Action<'_>) -> bool {
-    match action {
-        Action::Unlink { .. } | Action::Create { .. } => {
-            has_named_type(scene, scene.case.first_place())
-        }
-        Action::Rename { .. } | Action::Rename2 { .. } => denies_types(scene),
-        _ => denies_node(scene),
-    }
-}
-
-/// Whether the type of a name of a RENAME is so from the start.
-fn denies_types(scene: &Scene<'_>) -> bool {
-    has_named_type(scene, scene.case.first_place())
-        || has_named_type(scene, scene.case.second_place())
-}
-
-/// The same of EEXIST and ENOTEMPTY: that a name is not there.
-fn denies_presence(scene: &Scene<'_>, action: &Action<'_>) -> bool {
-    match action {
-        Action::Rename { .. } | Action::Rename2 { .. } => {
-            has_place(scene, scene.case.second_place())
-        }
-        _ => has_place(scene, scene.case.first_place()),
     }
 }
 

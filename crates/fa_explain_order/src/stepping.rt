@@ -4,18 +4,19 @@ use crate::all_orders::Search;
 use crate::allowed::allowed_line;
 use crate::another::{Another, answered_by, asked_by, order_line};
 use crate::answers::exchange;
+use crate::causes::About;
 use crate::holding::tree_lines;
 use crate::looks::Looks;
 use crate::misplaced::entry_of;
-use crate::rules::{error_line, is_never, never_lines};
+use crate::rules::{error_line, never_answered, never_lines};
 use crate::scene::{Memory, Scene};
-use crate::{attributes, bindings, contents, directories, emptiness, start, unmet, wording};
+use crate::wording::{self, error_name};
+use crate::{attributes, bindings, contents, directories, emptiness, start, unmet};
 use fa_bodies::errno::ENOENT;
 use fa_capture::{Capture, codes};
 use fa_explain::advice_of;
-use fa_ledger::Action;
-use fa_refusal::{Case, Earlier, Finding, Overlaps, Past, Reached, Refused};
-use fa_show::{Text, words};
+use fa_refusal::{Case, Earlier, Finding, Past, Reached, Refused};
+use fa_show::Text;
 use fa_tree::Tree;
 use std::alloc::AllocError;
 
@@ -42,29 +43,29 @@ fn explain_along<S: Search>(
     search: &mut S,
     tree: &mut Tree,
 ) -> Result<bool, AllocError> {
-    match refused.reach(tree)? {
-        Some(reached) => explain_reached(text, capture, refused, search, tree, &reached),
-        None => Ok(false),
-    }
-}
-
-/// Writes why this tree, to which the entries before one lead, refuses its step, or that of the request that is left out.
-fn explain_reached<'a, S: Search>(
-    text: &mut Text,
-    capture: &Capture<'_>,
-    refused: &Refused<'a>,
-    search: &mut S,
-    tree: &Tree,
-    reached: &Reached<'a>,
-) -> Result<bool, AllocError> {
-    exchange(refused.alloc, text, capture, &reached.case)?;
+    let Some(reached) = refused.reach(tree)? else {
+        return Ok(false);
+    };
+    let case = &reached.case;
+    exchange(refused.alloc, text, capture, case)?;
     if refused.code == codes::ANSWERED_LEFT_OUT {
-        next_line(text, refused, reached);
+        next_line(text, refused, &reached);
     }
-    match reached.code {
-        Some(code) => explain_at(text, refused, search, tree, &reached.case, code),
-        None => Ok(false),
+    let Some(code) = reached.code else {
+        return Ok(false);
+    };
+    let Some(looks) = because(text, refused, tree, case, code)? else {
+        return Ok(false);
+    };
+    if code == codes::ERROR_WITHOUT_CAUSE {
+        if let Some(error) = never_answered(case) {
+            never_lines(text, case, error);
+            return Ok(true);
+        }
     }
+    let another = order_line(text, refused, search, tree, case)?;
+    look_at_lines(text, refused, code, &looks, case, another);
+    Ok(another.is_without_order())
 }
 
 /// Writes which code a request has that is left out, were it the next entry.
@@ -99,46 +100,23 @@ fn next_line(text: &mut Text, refused: &Refused<'_>, reached: &Reached<'_>) {
     }
 }
 
-/// Writes why this tree refuses the step of a request with this code, and what was so before.
-fn explain_at<'a, S: Search>(
+/// Writes which rule an answer breaks that this tree refuses with a code, what the tree holds and when the answer was right: which of the
+/// lines of what to look at fit. None, and nothing is written, where it does not refuse it so.
+pub(crate) fn because<'a>(
     text: &mut Text,
     refused: &Refused<'a>,
-    search: &mut S,
     tree: &Tree,
     case: &Case<'a>,
     code: u16,
-) -> Result<bool, AllocError> {
+) -> Result<Option<Looks>, AllocError> {
     match Finding::of(refused, tree, case, code)? {
-        Some(finding) => explain_finding(text, refused, search, tree, case, &finding),
-        None => Ok(false),
+        Some(finding) => Ok(Some(because_of(text, refused, tree, case, &finding)?)),
+        None => Ok(None),
     }
 }
 
-/// Writes why this tree refuses the step of a request, where that was found, and what was so before.
-fn explain_finding<S: Search>(
-    text: &mut Text,
-    refused: &Refused<'_>,
-    search: &mut S,
-    tree: &Tree,
-    case: &Case<'_>,
-    finding: &Finding<'_, '_>,
-) -> Result<bool, AllocError> {
-    let looks = because(text, refused, tree, case, finding)?;
-    if let Finding::WithoutCause(error) = finding {
-        if is_never(case, *error) {
-            never_lines(text, case, *error);
-            return Ok(true);
-        }
-    }
-    let overlaps = Overlaps::of(refused, tree, case)?;
-    let another = Another::of(case, &overlaps, search)?;
-    order_line(text, refused.calls, case.call.asked, &overlaps, another);
-    look_at_lines(text, refused, finding.code(), &looks, case, another);
-    Ok(another.is_without_order())
-}
-
-/// Writes which rule an answer breaks, what the tree holds and when the answer was right: which of the lines of what to look at fit.
-pub(crate) fn because(
+/// The same by what was found.
+fn because_of(
     text: &mut Text,
     refused: &Refused<'_>,
     tree: &Tree,
@@ -146,18 +124,6 @@ pub(crate) fn because(
     finding: &Finding<'_, '_>,
 ) -> Result<Looks, AllocError> {
     let past = Past::of(refused, tree, case, finding)?;
-    because_of(text, refused, tree, case, finding, &past)
-}
-
-/// The same with what came before.
-fn because_of(
-    text: &mut Text,
-    refused: &Refused<'_>,
-    tree: &Tree,
-    case: &Case<'_>,
-    finding: &Finding<'_, '_>,
-    past: &Past,
-) -> Result<Looks, AllocError> {
     let memory = Memory::new(refused.alloc);
     let scene = Scene {
         memory: &memory,
@@ -189,37 +155,25 @@ fn why(text: &mut Text, scene: &Scene<'_>, finding: &Finding<'_, '_>) -> Looks {
 
 /// Writes that an error has no cause: which of the lines of what to look at fit.
 fn without_cause(text: &mut Text, scene: &Scene<'_>, error: i32) -> Looks {
-    error_line(text, &scene.case, error);
+    let about = error_line(text, &scene.case, error);
     tree_lines(text, scene);
     allowed_line(text, scene);
-    Looks::at(case_of(scene, error), start::denies_error(scene, error))
+    match about {
+        Some(about) => looks_of(scene, error, about),
+        None => Looks::at(error_name(error), false),
+    }
 }
 
-/// The case of an error that has no cause.
-fn case_of(scene: &Scene<'_>, error: i32) -> &'static str {
-    if let Some(case) = emptiness::of(scene, error) {
-        return case;
-    }
-    if error == ENOENT {
-        return of_absence(scene);
-    }
-    words::error_name(error).unwrap_or("")
-}
-
-/// The case of an ENOENT that has no cause.
-fn of_absence(scene: &Scene<'_>) -> &'static str {
-    match scene.case.action() {
-        Some(
-            Action::Symlink { .. }
-            | Action::Mknod { .. }
-            | Action::Mkdir { .. }
-            | Action::Create { .. }
-            | Action::Link { .. },
-        ) => "ENOENT to a request that makes a name",
-        _ if scene.case.first_place().is_none() => "ENOENT to a request without a name",
-        _ if start::denies_error(scene, ENOENT) => "ENOENT of a name that no request changed",
-        _ => "ENOENT",
-    }
+/// Which of the lines of what to look at fit an error that has no cause, by what that would be about.
+fn looks_of(scene: &Scene<'_>, error: i32, about: About) -> Looks {
+    let is_from_start = start::is_from_start(scene, about);
+    let case = match about {
+        About::Directory => "ENOENT to a request that makes a name",
+        About::File => "ENOENT to a request without a name",
+        _ if error == ENOENT && is_from_start => "ENOENT of a name that no request changed",
+        _ => emptiness::of(scene, error, about).unwrap_or(error_name(error)),
+    };
+    Looks::at(case, is_from_start)
 }
 
 /// The line of an answer that was right at no moment of an order.

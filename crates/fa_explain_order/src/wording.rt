@@ -67,6 +67,11 @@ pub(crate) fn kind(kind: Kind) -> &'static str {
     }
 }
 
+/// The name of an error, empty where it has none.
+pub(crate) fn error_name(error: i32) -> &'static str {
+    words::error_name(error).unwrap_or("")
+}
+
 /// Writes the type of files of this number in `struct fuse_dirent`, by its word where it has one.
 pub(crate) fn numbered_kind(text: &mut Text, number: u32) {
     let word = match number {
@@ -80,9 +85,4 @@ pub(crate) fn numbered_kind(text: &mut Text, number: u32) {
         _ => return text.number(u64::from(number)),
     };
     text.word(word);
-}
-
-/// Writes what parts the items of an enumeration, before each but the first.
-pub(crate) fn comma(text: &mut Text, is_first: bool) {
-    text.word(if is_first { "" } else { ", " });
 }
